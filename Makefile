@@ -1,0 +1,51 @@
+# make run                    the main job: shows what the library does so far
+# make test                   the gate, which .ci/run calls: every crate proved from nothing, then the comparison with the Rust
+# make compare N=.. SEED=..   the comparison alone, N inputs a subject
+# make bench                  times beside the Rust's
+# make sample                 writes the stored answers anew, from the Rust alone
+#
+# The published sources of the Rust stay in $(SHARED). Where they are not there, what needs them says so and does nothing.
+SHARED ?= ../shared
+N ?= 200000
+SEED ?= 1
+COUNT := 1024
+SAMPLE := crates/answers/stdin
+
+STATICLIB := target/staticlib/libcapi.a
+DRIVER := target/reference/release/driver
+
+.PHONY: run test reference compare bench sample $(STATICLIB)
+
+run:
+	@rt check show_grid
+	@target/bin/show_grid
+
+test:
+	@tools/test
+
+ifeq ($(wildcard $(SHARED)/docs/src),)
+
+reference compare bench sample:
+	@echo "$@: skipped, no $(SHARED)/docs/src"
+
+else
+
+reference: $(STATICLIB)
+	reference/prepare.sh $(SHARED) target/reference-src
+	BUCHAWZER_LIB_DIR=$(CURDIR)/target/staticlib CARGO_TARGET_DIR=$(CURDIR)/target/reference \
+		cargo build --release --offline --locked --manifest-path reference/Cargo.toml
+
+compare: reference
+	$(DRIVER) compare $(N) $(SEED)
+
+bench: reference
+	$(DRIVER) bench
+
+sample: reference
+	$(DRIVER) sample $(COUNT) $(SEED) > $(SAMPLE)
+
+# rt knows by itself whether the library is up to date.
+$(STATICLIB):
+	rt staticlib capi
+
+endif

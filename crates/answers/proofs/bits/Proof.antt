@@ -1,0 +1,20 @@
+-- Only a NaN differs from itself.
+use borrow.Author.Needs.{needs}
+use mathlib.Core.Path.{sym, subst, _∙_}
+use mathlib.Core.Bool.{Bool, not}
+use lib.Dec.{T}
+use Rattle.basics.specs.Floats.{nan-is}
+use Rattle.answers.proofs.bits.Statement.{statement}
+use Rattle.answers.proofs.bits.Tie as tie
+
+returns : tie.Need-returns
+returns c = search needs
+
+float-to-bits-result : tie.Need-float-to-bits-result
+float-to-bits-result c = subst (λ (b : Bool). T (not b)) (sym (sym (nan-is (c .before .args .x)) ∙ c .if1 .left)) tt
+
+returns-2 : tie.Need-returns-2
+returns-2 c = search needs
+
+pub bits-spec : {M : Type 1} → statement M
+bits-spec = tie.close (tie.spec returns float-to-bits-result returns-2)

@@ -1,0 +1,4 @@
+pub mod Lists
+pub mod Floats
+pub mod Round
+pub mod RoundLaws

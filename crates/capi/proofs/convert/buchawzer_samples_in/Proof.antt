@@ -1,0 +1,24 @@
+-- The conversion itself where the numbers are within their limits, and the marker elsewhere.
+use borrow.Author.Needs.{needs}
+use borrow.Author.Tests.{not-true, not-false}
+use mathlib.Core.Path.{sym, _∙_}
+use lib.Ieee.{ofBits, neg}
+use Rattle.capi.specs.Grid.{samples-args}
+use Rattle.capi.proofs.convert.buchawzer_samples_in.Statement.{statement}
+use Rattle.capi.proofs.convert.buchawzer_samples_in.Tie as tie
+
+samples-args-requires : tie.Need-samples-args-requires
+samples-args-requires c κs = search needs
+
+returns : tie.Need-returns
+unfolding ofBits neg
+returns c = rw (← c .before .samples-args .ensures, not-true (c .before .samples-args .result) (c .if1 .taken))
+
+samples-in-requires : tie.Need-samples-in-requires
+samples-in-requires c κs = samples-args _ _ (sym (c .before .samples-args .ensures) ∙ not-false (c .before .samples-args .result) (c .if1 .left))
+
+returns-2 : tie.Need-returns-2
+returns-2 c = rw (← c .before .before .samples-args .ensures, not-false (c .before .before .samples-args .result) (c .before .if1 .left)) (c .samples-in .ensures)
+
+pub buchawzer-samples-in-spec : {M : Type 1} → statement M
+buchawzer-samples-in-spec = tie.close (tie.spec samples-args-requires returns samples-in-requires returns-2)

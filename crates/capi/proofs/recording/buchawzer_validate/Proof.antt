@@ -1,0 +1,21 @@
+-- The chain of the tests over the recording as it was handed over, and its number.
+use borrow.Author.Needs.{needs}
+use mathlib.Core.Path.{ap, _∙_}
+use Rattle.grid.specs.Validate.{refusalOf}
+use Rattle.capi.proofs.recording.buchawzer_validate.Statement.{statement}
+use Rattle.capi.proofs.recording.buchawzer_validate.Tie as tie
+
+domain-requires : tie.Need-domain-requires
+domain-requires c κs = search needs
+
+validate-requires : tie.Need-validate-requires
+validate-requires c κs = search needs
+
+refusal-requires : tie.Need-refusal-requires
+refusal-requires c κs = search needs
+
+returns : tie.Need-returns
+returns c = rw (← c .before .before .domain .ensures) (c .refusal .ensures ∙ ap refusalOf (c .before .validate .ensures))
+
+pub buchawzer-validate-spec : {M : Type 1} → statement M
+buchawzer-validate-spec = tie.close (tie.spec domain-requires validate-requires refusal-requires returns)

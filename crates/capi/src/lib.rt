@@ -1,0 +1,3 @@
+// What C and Rust programs call. No function asks anything of its caller but what its types say.
+pub mod convert;
+pub mod recording;

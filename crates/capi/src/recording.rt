@@ -1,0 +1,42 @@
+// The tests of a recording's input.
+use grid::validate::Domain;
+use grid::validate::Recording;
+ghost use mathlib.Core.Path.{_≡_};
+ghost use Rattle.grid.specs.Validate.{validityOf, refusalOf};
+ghost use Rattle.capi.specs.Grid.{domainOf};
+
+fn domain(decibels: bool) -> Domain
+    ensures { λ r. ⌜ r ≡ domainOf decibels ⌝ }
+{
+    if decibels {
+        Domain::Decibels
+    } else {
+        Domain::Scores
+    }
+}
+
+// Document 01's number for the first of the tests 1 to 6 that the recording fails, or 0.
+#[no_mangle]
+pub extern "C" fn buchawzer_validate(
+    sample_rate: u32,
+    channels: u16,
+    frame_rate: u32,
+    hop: u32,
+    len: u64,
+    decibels: bool,
+    values: &[f32],
+    flags: &[u8],
+    levels: &[f64],
+) -> u32
+    ensures { λ r. ⌜ r ≡ refusalOf (validityOf (record { «sample_rate» = «sample_rate»; channels = channels; «frame_rate» = «frame_rate»; hop = hop; len = len; domain = domainOf decibels }) (now (values .entry)) (now (flags .entry)) (now (levels .entry))) ⌝ }
+{
+    let r = Recording {
+        sample_rate,
+        channels,
+        frame_rate,
+        hop,
+        len,
+        domain: domain(decibels),
+    };
+    grid::validate::refusal(r.validate(values, flags, levels))
+}

@@ -1,0 +1,103 @@
+-- Boundaries rise strictly up to the frame count in an accepted recording: each frame holds a sample at least, and the last one starts before the length.
+use mathlib.Core.Path.{_≡_, refl, sym, ap, subst, _∙_}
+use mathlib.Core.Logic.{_⊎_, inl, inr}
+use mathlib.Core.Bool.{Bool, true, false, not, _&&_, cond}
+use Prim.Native.Nat.{ℕ, zero, suc, _+_, _-_, _*_, _/_, _≤_, _<_}
+use native.Mathlib.Nat.{le-refl, le-trans, le-of-lt, lt-trans, eq-or-lt-of-le, add-le-add, le-of-eq, not-le-of-lt, suc-mul, div-mul-le-self, le-div-iff-mul-le, zero-mul, zero-div}
+use native.Mathlib.Numerals.{add-one}
+use native.Mathlib.Omega.{arith}
+use lib.Dec.{T, ltb, eqb, ltb→lt, eqb→eq}
+use lib.Ieee.Fits.{and-l, and-r}
+use borrow.Author.Tests.{lt-ltb, le-ltb, eq-eqb, ne-eqb}
+use Rattle.laws.specs.Tests.{lt-or-le}
+use Rattle.grid.specs.declared.boundary.FrameGrid.{FrameGrid}
+use Rattle.grid.specs.Boundary.{Bounded, startOf, boundaryOf, covers}
+
+-- what tests 1, 3, 4 and 6 leave of a grid: its numbers are bounded, each frame spans a sample at least, and the frames cover the length
+pub record Accepted (g : FrameGrid) : Type 0 where
+  pub bounded : Bounded g
+  pub spans : g .«frame_rate» ≤ g .hop * g .«sample_rate»
+  pub covered : T (covers g)
+
+-- ---- starts
+
+step : (k h f : ℕ) → 0 < f → f ≤ h → k * h / f < suc k * h / f
+step k h f F l = le-div-iff-mul-le F .1 (rw (suc-mul (k * h / f) f, suc-mul k h) (add-le-add (div-mul-le-self (k * h) f) l))
+
+pub start-rises : (g : FrameGrid) → Accepted g → (k : ℕ) → startOf g k < startOf g (k + 1)
+unfolding startOf
+start-rises g a k = rw add-one (step k (g .hop * g .«sample_rate») (g .«frame_rate») (a .bounded .divisor) (a .spans))
+
+-- ---- boundaries
+
+-- of a covered length that is not empty the last frame starts before the end
+last-first : (n start len next : ℕ) → 0 < n → T (cond (eqb len 0) (eqb n 0) (ltb 0 n && ltb start len && ltb len next)) → start < len
+last-first n start len next h = go (eqb len 0)
+  where
+    go : (b : Bool) → T (cond b (eqb n 0) (ltb 0 n && ltb start len && ltb len next)) → start < len
+    go true t = absurd (not-le-of-lt h (le-of-eq (eqb→eq n 0 t)))
+    go false t = ltb→lt start len (and-r (ltb 0 n) (ltb start len) (and-l (ltb 0 n && ltb start len) (ltb len next) t))
+
+pub last-start : (g : FrameGrid) → Accepted g → 0 < g .frames → startOf g (g .frames - 1) < g .len
+unfolding covers
+last-start g a h = last-first (g .frames) (startOf g (g .frames - 1)) (g .len) (startOf g (g .frames + 1)) h (a .covered)
+
+pub boundary-inner : (g : FrameGrid) (k : ℕ) → k < g .frames → boundaryOf g k ≡ startOf g k
+unfolding boundaryOf
+boundary-inner g k h = rw (lt-ltb k (g .frames) h)
+
+pub boundary-last : (g : FrameGrid) (k : ℕ) → g .frames ≤ k → boundaryOf g k ≡ g .len
+unfolding boundaryOf
+boundary-last g k h = rw (le-ltb k (g .frames) h)
+
+pub boundary-zero : (g : FrameGrid) → 0 < g .frames → boundaryOf g 0 ≡ 0
+unfolding startOf
+boundary-zero g h = boundary-inner g 0 h ∙ rw (zero-mul, zero-div)
+
+-- document 01: "in an accepted recording each boundary up to the frame count is above the one before"
+pub boundary-rises : (g : FrameGrid) → Accepted g → (k : ℕ) → k < g .frames → boundaryOf g k < boundaryOf g (k + 1)
+boundary-rises g a k h = elim (eq-or-lt-of-le (next k (g .frames) h)) [
+  | inl e ↦
+      rw (boundary-inner g k h, boundary-last g (k + 1) (le-of-eq (sym e)))
+      (subst (λ (j : ℕ). startOf g j < g .len) (before-last k (g .frames) e) (last-start g a (some k (g .frames) h)))
+  | inr l ↦ rw (boundary-inner g k h, boundary-inner g (k + 1) l) (start-rises g a k)
+]
+  where
+    next : (j n : ℕ) → j < n → j + 1 ≤ n
+    next j n l = omega arith
+
+    some : (j n : ℕ) → j < n → 0 < n
+    some j n l = omega arith
+
+    before-last : (j n : ℕ) → j + 1 ≡ n → n - 1 ≡ j
+    before-last j n e = omega arith
+
+-- a later boundary is above an earlier one, up to the frame count
+pub boundary-above : (g : FrameGrid) → Accepted g → (j k : ℕ) → j < k → k ≤ g .frames → boundaryOf g j < boundaryOf g k
+boundary-above g a j k h l =
+    subst (λ (m : ℕ). boundaryOf g j < boundaryOf g m) (there j k h) (climb (k - (j + 1)) (subst (λ (m : ℕ). m ≤ g .frames) (sym (there j k h)) l))
+  where
+    there : (i m : ℕ) → i < m → i + suc (m - (i + 1)) ≡ m
+    there i m d = omega arith
+
+    less : (i d n : ℕ) → i + suc (suc d) ≤ n → i + suc d < n
+    less i d n e = omega arith
+
+    further : (i d : ℕ) → i + suc d + 1 ≡ i + suc (suc d)
+    further i d = omega arith
+
+    climb : (d : ℕ) → j + suc d ≤ g .frames → boundaryOf g j < boundaryOf g (j + suc d)
+    climb zero e = boundary-rises g a j (less-one j (g .frames) e)
+      where
+        less-one : (i n : ℕ) → i + 1 ≤ n → i < n
+        less-one i n m = omega arith
+    climb (suc d) e =
+        let f = less j d (g .frames) e in
+        lt-trans (climb d (le-of-lt f)) (subst (λ (m : ℕ). boundaryOf g (j + suc d) < boundaryOf g m) (further j d) (boundary-rises g a (j + suc d) f))
+
+-- no boundary is above the length
+pub boundary-le-len : (g : FrameGrid) → Accepted g → (k : ℕ) → boundaryOf g k ≤ g .len
+boundary-le-len g a k = elim (lt-or-le k (g .frames)) [
+  | inl h ↦ le-of-lt (subst (λ (m : ℕ). boundaryOf g k < m) (boundary-last g (g .frames) (le-refl (g .frames))) (boundary-above g a k (g .frames) h (le-refl (g .frames))))
+  | inr h ↦ le-of-eq (boundary-last g k h)
+]

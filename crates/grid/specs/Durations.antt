@@ -1,0 +1,55 @@
+-- Durations in nanoseconds as frames, samples, or seconds. Each is over the exact product of naturals.
+use Prim.Native.Nat.{ℕ, _+_, _-_, _*_, _/_, _%_, _≤_, _<_}
+use lib.IntN.{pos}
+use lib.Ieee.{Float, binary64, add, div, ofInt}
+use Rattle.grid.specs.Limits.{maxRate, maxFrameRate, maxHop, maxDuration, nanosPerSec}
+
+-- what a conversion to frames needs to fit in 64 bits: test 3 has passed, and the duration is within refusal 7's limit
+pub record InFrames (frameRate hop ns : ℕ) : Type 0 where
+  pub rate : frameRate ≤ maxFrameRate
+  pub step : 0 < hop
+  pub most : hop ≤ maxHop
+  pub time : ns ≤ maxDuration
+
+-- the same for a conversion to samples, after test 1
+pub record InSamples (sampleRate ns : ℕ) : Type 0 where
+  pub rate : sampleRate ≤ maxRate
+  pub time : ns ≤ maxDuration
+
+-- a duration counted in frames is the fraction ns × frame rate / (hop × 10^9)
+abbrev pub framesNum : ℕ → ℕ → ℕ
+framesNum frameRate ns = ns * frameRate
+
+abbrev pub framesDen : ℕ → ℕ
+framesDen hop = hop * nanosPerSec
+
+-- in whole frames, rounded half up
+unfoldable pub framesIn : ℕ → ℕ → ℕ → ℕ
+framesIn frameRate hop ns = (framesNum frameRate ns + framesDen hop / 2) / framesDen hop
+
+-- in whole frames, rounded up
+unfoldable pub framesCeil : ℕ → ℕ → ℕ → ℕ
+framesCeil frameRate hop ns = (framesNum frameRate ns + (framesDen hop - 1)) / framesDen hop
+
+-- in whole frames, rounded down
+unfoldable pub framesFloor : ℕ → ℕ → ℕ → ℕ
+framesFloor frameRate hop ns = framesNum frameRate ns / framesDen hop
+
+-- in whole samples, rounded down
+unfoldable pub samplesFloor : ℕ → ℕ → ℕ
+samplesFloor rate ns = ns * rate / nanosPerSec
+
+abbrev float : ℕ → Float
+float n = ofInt binary64 (pos n)
+
+-- in samples as a float: the whole product rounded to the nearest f64 (ties to even), then divided by 10^9
+unfoldable pub samplesIn : ℕ → ℕ → Float
+samplesIn rate ns = div binary64 (float (ns * rate)) (float nanosPerSec)
+
+-- in seconds, as `as_secs_f64` does it: whole seconds plus (remaining nanoseconds / 10^9)
+unfoldable pub secondsOf : ℕ → Float
+secondsOf ns = add binary64 (float (ns / nanosPerSec)) (div binary64 (float (ns % nanosPerSec)) (float nanosPerSec))
+
+-- one frame in seconds: hop / frame rate
+unfoldable pub frameSecs : ℕ → ℕ → Float
+frameSecs frameRate hop = div binary64 (float hop) (float frameRate)

@@ -1,0 +1,29 @@
+-- Document 01's limits on a recording, each with its name. A change request that moves one moves it here.
+use Prim.Native.Nat.{ℕ, _^_}
+
+-- refusal 1: the highest sample rate
+abbrev pub maxRate : ℕ
+maxRate = 192000
+
+-- refusal 3: the highest frame rate, and the longest hop
+abbrev pub maxFrameRate : ℕ
+maxFrameRate = 192000
+
+abbrev pub maxHop : ℕ
+maxHop = 1048576
+
+-- refusal 4: the most frames
+abbrev pub maxFrames : ℕ
+maxFrames = 1048576
+
+-- refusal 6: the greatest length in samples, 2^40
+abbrev pub maxLen : ℕ
+maxLen = 1099511627776
+
+-- refusal 7: the longest duration, 24 hours, in nanoseconds
+abbrev pub maxDuration : ℕ
+maxDuration = 86400000000000
+
+-- how many nanoseconds a second has
+abbrev pub nanosPerSec : ℕ
+nanosPerSec = 1000000000

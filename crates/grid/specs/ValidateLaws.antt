@@ -1,0 +1,138 @@
+-- The chain of the tests: which answer each end gives, and what an accepted recording has passed.
+use mathlib.Core.Path.{_≡_, refl, sym, ap, subst, _∙_}
+use mathlib.Core.Bool.{Bool, true, false, _&&_, cond}
+use mathlib.Core.List.{List}
+use Prim.Native.Nat.{ℕ, _*_, _≤_, _<_}
+use lib.Dec.{T, ltb, leb, eqb, ltb→lt, leb→le}
+use lib.Ieee.{Float}
+use lib.Ieee.Fits.{and-l, and-r}
+use lib.ListN.{length}
+use Rattle.laws.specs.Tests.{holds, both}
+use Rattle.grid.specs.Limits.{maxRate, maxFrameRate, maxHop, maxFrames, maxLen}
+use Rattle.grid.specs.Boundary.{Bounded, covers}
+use Rattle.grid.specs.BoundaryLaws.{Accepted}
+use Rattle.grid.specs.Validate.{isWithin, rateOk, channelsOk, framesOk, levelCount, listsOk, valuesOk, lengthOk, gridOf, orElse, validityOf, refusalOf}
+use Rattle.grid.specs.declared.boundary.FrameGrid.{FrameGrid}
+use Rattle.grid.specs.declared.validate.Domain.{Domain}
+use Rattle.grid.specs.declared.validate.Recording.{Recording}
+use Rattle.grid.specs.declared.validate.Validity.{Validity}
+use Rattle.grid.specs.declared.validate.Validity.the-variants.{Valid, BadSampleRate, NoChannels, BadFrames, BadLists, BadValue, NotCovered}
+
+-- what an accepted recording has passed: the six tests
+pub record Passed (r : Recording) (values : List Float) (flags : List ℕ) (levels : List Float) : Type 0 where
+  pub rate : rateOk (r .«sample_rate») ≡ true
+  pub channels : channelsOk (r .channels) ≡ true
+  pub frames : framesOk (r .«sample_rate») (r .«frame_rate») (r .hop) ≡ true
+  pub lists : listsOk (r .domain) (length values) (length flags) (length levels) ≡ true
+  pub within : valuesOk (r .domain) values flags levels ≡ true
+  pub length : lengthOk (gridOf r (length values)) ≡ true
+
+-- ---- what a test that passed says of the numbers
+
+pub within-most : (x most : ℕ) → isWithin x most ≡ true → x ≤ most
+unfolding isWithin
+within-most x most e = leb→le x most (and-r (ltb 0 x) (leb x most) (holds e))
+
+pub within-pos : (x most : ℕ) → isWithin x most ≡ true → 0 < x
+unfolding isWithin
+within-pos x most e = ltb→lt 0 x (and-l (ltb 0 x) (leb x most) (holds e))
+
+-- test 3, taken apart
+pub frames-parts : (rate frameRate hop : ℕ) → framesOk rate frameRate hop ≡ true
+    → (isWithin frameRate maxFrameRate ≡ true) × (isWithin hop maxHop ≡ true) × (frameRate ≤ hop * rate)
+unfolding framesOk
+frames-parts rate frameRate hop e =
+    let p = both (isWithin frameRate maxFrameRate && isWithin hop maxHop) (leb frameRate (hop * rate)) e in
+    let q = both (isWithin frameRate maxFrameRate) (isWithin hop maxHop) (p .0) in
+    (q .0, q .1, leb→le frameRate (hop * rate) (holds (p .1)))
+
+-- a chain that accepts has passed its first test, and its rest accepts: no refusal has the number 0
+step : (b : Bool) (refusal : Validity) {rest : Validity} → T (ltb 0 (refusalOf refusal)) → orElse b refusal rest ≡ Valid → (b ≡ true) × (rest ≡ Valid)
+step true refusal n e = (refl, e)
+step false refusal n e = absurd (subst (λ (v : Validity). T (ltb 0 (refusalOf v))) e n)
+
+-- test 4, taken apart
+pub lists-parts : (domain : Domain) (frames flags levels : ℕ) → listsOk domain frames flags levels ≡ true
+    → (leb frames maxFrames ≡ true) × (eqb flags frames ≡ true) × (eqb levels (levelCount domain frames) ≡ true)
+unfolding listsOk
+lists-parts domain frames flags levels e =
+    let p = both (leb frames maxFrames && eqb flags frames) (eqb levels (levelCount domain frames)) e in
+    let q = both (leb frames maxFrames) (eqb flags frames) (p .0) in
+    (q .0, q .1, p .1)
+
+-- test 6, taken apart
+pub length-parts : (g : FrameGrid) → lengthOk g ≡ true → (leb (g .len) maxLen ≡ true) × (covers g ≡ true)
+unfolding lengthOk
+length-parts g e = both (leb (g .len) maxLen) (covers g) e
+
+module _ (r : Recording) (values : List Float) (flags : List ℕ) (levels : List Float) where
+  -- tests 1, 3 and 4 bound the grid's numbers
+  pub passed-bounded : rateOk (r .«sample_rate») ≡ true → framesOk (r .«sample_rate») (r .«frame_rate») (r .hop) ≡ true
+      → listsOk (r .domain) (length values) (length flags) (length levels) ≡ true → Bounded (gridOf r (length values))
+  passed-bounded a b c =
+      let p = frames-parts (r .«sample_rate») (r .«frame_rate») (r .hop) b in
+      record {
+        rate = within-most (r .«sample_rate») maxRate a;
+        divisor = within-pos (r .«frame_rate») maxFrameRate (p .0);
+        hop = within-most (r .hop) maxHop (p .1);
+        frames = leb→le (length values) maxFrames (holds (lists-parts (r .domain) (length values) (length flags) (length levels) c .0));
+      }
+
+  -- an accepted recording has an accepted grid: its boundaries rise
+  pub passed-accepted : Passed r values flags levels → Accepted (gridOf r (length values))
+  passed-accepted p =
+      record {
+        bounded = passed-bounded (p .rate) (p .frames) (p .lists);
+        spans = frames-parts (r .«sample_rate») (r .«frame_rate») (r .hop) (p .frames) .2;
+        covered = holds (length-parts (gridOf r (length values)) (p .length) .1);
+      }
+
+  -- its length is within the limit
+  pub passed-length : Passed r values flags levels → r .len ≤ maxLen
+  passed-length p = leb→le (r .len) maxLen (holds (length-parts (gridOf r (length values)) (p .length) .0))
+
+  -- ---- the seven ends of the chain, each under what has passed before it
+
+  pub fails-rate : rateOk (r .«sample_rate») ≡ false → BadSampleRate ≡ validityOf r values flags levels
+  unfolding validityOf
+  fails-rate n = rw n
+
+  module _ (a : rateOk (r .«sample_rate») ≡ true) where
+    pub fails-channels : channelsOk (r .channels) ≡ false → NoChannels ≡ validityOf r values flags levels
+    unfolding validityOf
+    fails-channels n = rw (a, n)
+
+    module _ (b : channelsOk (r .channels) ≡ true) where
+      pub fails-frames : framesOk (r .«sample_rate») (r .«frame_rate») (r .hop) ≡ false → BadFrames ≡ validityOf r values flags levels
+      unfolding validityOf
+      fails-frames n = rw (a, b, n)
+
+      module _ (c : framesOk (r .«sample_rate») (r .«frame_rate») (r .hop) ≡ true) where
+        pub fails-lists : listsOk (r .domain) (length values) (length flags) (length levels) ≡ false → BadLists ≡ validityOf r values flags levels
+        unfolding validityOf
+        fails-lists n = rw (a, b, c, n)
+
+        module _ (d : listsOk (r .domain) (length values) (length flags) (length levels) ≡ true) where
+          pub fails-values : valuesOk (r .domain) values flags levels ≡ false → BadValue ≡ validityOf r values flags levels
+          unfolding validityOf
+          fails-values n = rw (a, b, c, d, n)
+
+          pub fails-length : valuesOk (r .domain) values flags levels ≡ true → lengthOk (gridOf r (length values)) ≡ false → NotCovered ≡ validityOf r values flags levels
+          unfolding validityOf
+          fails-length e n = rw (a, b, c, d, e, n)
+
+  pub passes : Passed r values flags levels → Valid ≡ validityOf r values flags levels
+  unfolding validityOf
+  passes p = rw (p .rate, p .channels, p .frames, p .lists, p .within, p .length)
+
+  -- only a recording that has passed all six is accepted
+  pub passed : validityOf r values flags levels ≡ Valid → Passed r values flags levels
+  unfolding validityOf
+  passed e =
+      let p = step (rateOk (r .«sample_rate»)) BadSampleRate tt e in
+      let q = step (channelsOk (r .channels)) NoChannels tt (p .1) in
+      let s = step (framesOk (r .«sample_rate») (r .«frame_rate») (r .hop)) BadFrames tt (q .1) in
+      let t = step (listsOk (r .domain) (length values) (length flags) (length levels)) BadLists tt (s .1) in
+      let u = step (valuesOk (r .domain) values flags levels) BadValue tt (t .1) in
+      let v = step (lengthOk (gridOf r (length values))) NotCovered tt (u .1) in
+      record { rate = p .0; channels = q .0; frames = s .0; lists = t .0; within = u .0; length = v .0 }

@@ -1,0 +1,74 @@
+// Durations in nanoseconds as frames, samples or seconds.
+ghost use mathlib.Core.Path.{_≡_};
+ghost use Prim.Native.Nat.{_*_, _≤_};
+ghost use Rattle.grid.specs.Limits.{maxRate, maxDuration};
+ghost use Rattle.grid.specs.Durations.{InFrames, InSamples, framesIn, framesCeil, framesFloor, samplesFloor, samplesIn, secondsOf, frameSecs};
+
+pub const NANOS_PER_SEC: u64 = 1_000_000_000;
+// 24 hours.
+pub const MAX_DURATION: u64 = 86_400_000_000_000;
+
+// The exact product of a duration and a rate: 24 hours times the highest rate fits in 64 bits.
+fn product(nanos: u64, rate: u32) -> u64
+    requires { ⌜ nanos ≤ maxDuration ⌝ }
+    requires { ⌜ rate ≤ maxRate ⌝ }
+    ensures { λ r. ⌜ r ≡ nanos * rate ⌝ }
+{
+    nanos * (rate as u64)
+}
+
+// A duration in whole frames, rounded half up.
+pub fn frames_in(frame_rate: u32, hop: u32, nanos: u64) -> u64
+    requires { ⌜ InFrames «frame_rate» hop nanos ⌝ }
+    ensures { λ r. ⌜ r ≡ framesIn «frame_rate» hop nanos ⌝ }
+{
+    let den = (hop as u64) * NANOS_PER_SEC;
+    (product(nanos, frame_rate) + den / 2) / den
+}
+
+// A duration in whole frames, rounded up.
+pub fn frames_ceil(frame_rate: u32, hop: u32, nanos: u64) -> u64
+    requires { ⌜ InFrames «frame_rate» hop nanos ⌝ }
+    ensures { λ r. ⌜ r ≡ framesCeil «frame_rate» hop nanos ⌝ }
+{
+    let den = (hop as u64) * NANOS_PER_SEC;
+    (product(nanos, frame_rate) + (den - 1)) / den
+}
+
+// A duration in whole frames, rounded down.
+pub fn frames_floor(frame_rate: u32, hop: u32, nanos: u64) -> u64
+    requires { ⌜ InFrames «frame_rate» hop nanos ⌝ }
+    ensures { λ r. ⌜ r ≡ framesFloor «frame_rate» hop nanos ⌝ }
+{
+    product(nanos, frame_rate) / ((hop as u64) * NANOS_PER_SEC)
+}
+
+// A duration in whole samples, rounded down.
+pub fn samples_floor(sample_rate: u32, nanos: u64) -> u64
+    requires { ⌜ InSamples «sample_rate» nanos ⌝ }
+    ensures { λ r. ⌜ r ≡ samplesFloor «sample_rate» nanos ⌝ }
+{
+    product(nanos, sample_rate) / NANOS_PER_SEC
+}
+
+// A duration in samples as a float: the whole product is rounded, and then divided.
+pub fn samples_in(sample_rate: u32, nanos: u64) -> f64
+    requires { ⌜ InSamples «sample_rate» nanos ⌝ }
+    ensures { λ r. ⌜ r ≡ samplesIn «sample_rate» nanos ⌝ }
+{
+    std::num::nearest_u64_to_f64(product(nanos, sample_rate)) / (NANOS_PER_SEC as f64)
+}
+
+// A duration in seconds, as Rust's `Duration::as_secs_f64`.
+pub fn as_secs_f64(nanos: u64) -> f64
+    ensures { λ r. ⌜ r ≡ secondsOf nanos ⌝ }
+{
+    ((nanos / NANOS_PER_SEC) as f64) + ((nanos % NANOS_PER_SEC) as f64) / (NANOS_PER_SEC as f64)
+}
+
+// One frame in seconds.
+pub fn frame_secs(frame_rate: u32, hop: u32) -> f64
+    ensures { λ r. ⌜ r ≡ frameSecs «frame_rate» hop ⌝ }
+{
+    (hop as f64) / (frame_rate as f64)
+}

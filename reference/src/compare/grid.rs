@@ -1,0 +1,130 @@
+//! The frame grid: boundaries and conversions.
+
+use std::iter;
+
+use super::Subject;
+use crate::conversions::{CONVERSIONS, Conversion, Words};
+use crate::domain::{HOPS, Kind, MOST_FRAMES, MOST_SAMPLES, RATES};
+use crate::ours;
+use crate::recording::{self, Recording};
+use crate::rng::Rng;
+use crate::tally::Tally;
+
+/// Boundaries asked of one recording, since making it takes far longer than one of them.
+const ASKED: u64 = 64;
+
+pub fn subjects() -> impl Iterator<Item = Subject> {
+    let first: Subject = Box::new(boundary);
+    let others = CONVERSIONS.iter().map(|c| {
+        let subject: Subject = Box::new(|n, rng| conversion(c, n, rng));
+        subject
+    });
+    iter::once(first).chain(others)
+}
+
+fn conversion(c: &Conversion, n: u64, rng: &mut Rng) -> bool {
+    let mut tally = Tally::new(c.name);
+    for _ in 0..n {
+        let words = (c.make)(rng);
+        let expected = if (c.inside)(&words) {
+            (c.rust)(&words)
+        } else {
+            c.kind.marker()
+        };
+        take(&mut tally, c.kind, &words, (c.ours)(&words), expected);
+    }
+    tally.report()
+}
+
+fn take(tally: &mut Tally, kind: Kind, words: &Words, ours: u64, expected: u64) {
+    let weight = words
+        .iter()
+        .map(|w| u64::from(64 - w.leading_zeros()))
+        .sum();
+    tally.take(ours == expected, weight, || {
+        let (ours, expected) = (kind.show(ours), kind.show(expected));
+        format!("{words:?}: ours {ours}, expected {expected}")
+    });
+}
+
+fn boundary(n: u64, rng: &mut Rng) -> bool {
+    let mut tally = Tally::new("boundary");
+    while tally.inputs() < n {
+        let asked = ASKED.min(n - tally.inputs());
+        match rng.below(8) {
+            0 => on_any_grid(&mut tally, rng, asked),
+            1 => on_no_grid(&mut tally, rng, asked),
+            _ => on_accepted(&mut tally, rng, asked),
+        }
+    }
+    tally.report()
+}
+
+/// On a recording that the Rust accepts, against its `position`.
+fn on_accepted(tally: &mut Tally, rng: &mut Rng, asked: u64) {
+    let large = rng.one_in(16);
+    let frames = recording::frames(rng, large);
+    let made = Recording::accepted(rng, frames);
+    let analysis = made.analysis();
+    for _ in 0..asked {
+        let k = recording::any_boundary(rng, made.frames);
+        ask(tally, &made, k, analysis.hook_position(k as usize));
+    }
+}
+
+/// On any grid inside the limits, covered or not, against the formula.
+fn on_any_grid(tally: &mut Tally, rng: &mut Rng, asked: u64) {
+    for _ in 0..asked {
+        let made = any_grid(rng);
+        let k = recording::any_boundary(rng, made.frames);
+        let expected = if k < made.frames {
+            made.start(k) as u64
+        } else {
+            made.len
+        };
+        ask(tally, &made, k, expected);
+    }
+}
+
+/// With one number outside its limits, against the marker.
+fn on_no_grid(tally: &mut Tally, rng: &mut Rng, asked: u64) {
+    for _ in 0..asked {
+        let mut made = any_grid(rng);
+        match rng.below(5) {
+            0 => made.sample_rate = outside(rng, *RATES.end()),
+            1 => made.frame_rate = outside(rng, *RATES.end()),
+            2 => made.hop = outside(rng, *HOPS.end()),
+            3 => made.len = rng.choose(&[MOST_SAMPLES + 1, u64::MAX]),
+            _ => made.frames = rng.choose(&[MOST_FRAMES + 1, u64::MAX]),
+        }
+        let k = recording::any_boundary(rng, made.frames);
+        ask(tally, &made, k, Kind::Whole.marker());
+    }
+}
+
+fn outside(rng: &mut Rng, most: u64) -> u32 {
+    rng.choose(&[0, most as u32 + 1, u32::MAX])
+}
+
+fn any_grid(rng: &mut Rng) -> Recording {
+    let large = rng.one_in(2);
+    let limits = [0, 1, MOST_SAMPLES];
+    Recording {
+        sample_rate: recording::rate(rng),
+        frame_rate: recording::rate(rng),
+        hop: recording::hop(rng),
+        frames: recording::frames(rng, large),
+        len: if rng.one_in(4) {
+            rng.near(&limits, MOST_SAMPLES)
+        } else {
+            rng.magnitude(MOST_SAMPLES)
+        },
+    }
+}
+
+fn ask(tally: &mut Tally, r: &Recording, k: u64, expected: u64) {
+    let ours = ours::boundary(r.sample_rate, r.frame_rate, r.hop, r.len, r.frames, k);
+    let (rate, frame_rate) = (r.sample_rate.into(), r.frame_rate.into());
+    let words = [rate, frame_rate, r.hop.into(), r.len, r.frames, k];
+    take(tally, Kind::Whole, &words, ours, expected);
+}

@@ -1,0 +1,39 @@
+//! The limits of document 01, and what a function of the port answers outside them.
+
+use std::ops::RangeInclusive;
+
+/// Sample rates and frame rates, in Hz.
+pub const RATES: RangeInclusive<u64> = 1..=192_000;
+/// Samples from one frame to the next, at the frame rate.
+pub const HOPS: RangeInclusive<u64> = 1..=1_048_576;
+/// Most frames of a recording.
+pub const MOST_FRAMES: u64 = 1_048_576;
+/// Greatest length in samples.
+pub const MOST_SAMPLES: u64 = 1 << 40;
+/// Longest duration in nanoseconds: 24 hours.
+pub const MOST_NANOS: u64 = 86_400_000_000_000;
+
+/// What a conversion answers with. Both kinds travel as one word, so that floats are compared by
+/// their bits.
+#[derive(Clone, Copy)]
+pub enum Kind {
+    Whole,
+    Real,
+}
+
+impl Kind {
+    /// The answer outside the domain.
+    pub fn marker(self) -> u64 {
+        match self {
+            Kind::Whole => u64::MAX,
+            Kind::Real => (-1.0f64).to_bits(),
+        }
+    }
+
+    pub fn show(self, answer: u64) -> String {
+        match self {
+            Kind::Whole => answer.to_string(),
+            Kind::Real => format!("{:?} ({answer:#018x})", f64::from_bits(answer)),
+        }
+    }
+}

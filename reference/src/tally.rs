@@ -1,0 +1,57 @@
+//! Counts the inputs and differences of one subject, and keeps the smallest inputs that differ.
+
+/// How many differing inputs are shown.
+const SHOWN: usize = 3;
+
+pub struct Tally {
+    name: &'static str,
+    inputs: u64,
+    differences: u64,
+    /// The smallest so far, by their weight.
+    smallest: Vec<(u64, String)>,
+}
+
+impl Tally {
+    pub fn new(name: &'static str) -> Self {
+        Self {
+            name,
+            inputs: 0,
+            differences: 0,
+            smallest: Vec::new(),
+        }
+    }
+
+    /// Takes one input in. `show` gives the input and both answers, and is asked only where they
+    /// differ and the input is among the smallest.
+    pub fn take(&mut self, equal: bool, weight: u64, show: impl FnOnce() -> String) {
+        self.inputs += 1;
+        if equal {
+            return;
+        }
+        self.differences += 1;
+        let at = self.smallest.partition_point(|(w, _)| *w < weight);
+        if at == SHOWN {
+            return;
+        }
+        let shown = show();
+        // The smallest inputs are the likeliest to come twice.
+        if self.smallest.iter().all(|(_, other)| *other != shown) {
+            self.smallest.insert(at, (weight, shown));
+            self.smallest.truncate(SHOWN);
+        }
+    }
+
+    pub fn inputs(&self) -> u64 {
+        self.inputs
+    }
+
+    /// Prints the subject's line; true where nothing differed.
+    pub fn report(self) -> bool {
+        let (name, n, d) = (self.name, self.inputs, self.differences);
+        println!("compare {name}: {n} inputs, {d} differences");
+        for (_, shown) in &self.smallest {
+            eprintln!("  {name}: {shown}");
+        }
+        d == 0
+    }
+}
