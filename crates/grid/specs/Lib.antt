@@ -5,3 +5,4 @@ pub mod Durations
 pub mod Values
 pub mod Validate
 pub mod ValidateLaws
+pub mod ValuesLaws
