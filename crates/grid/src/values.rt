@@ -4,7 +4,7 @@ ghost use Rattle.basics.specs.Lists.{allOf};
 ghost use Rattle.grid.specs.Values.{isScore, isFinite, isFlag, isUnflagged};
 
 // Whether x is a score: within 0 to 1.
-fn is_score(x: f32) -> bool
+pub fn is_score(x: f32) -> bool
     ensures { λ r. ⌜ r ≡ isScore x ⌝ }
 {
     0.0 <= x && x <= 1.0
@@ -23,7 +23,7 @@ pub fn are_scores(values: &[f32]) -> bool
 }
 
 // Whether x is finite.
-fn is_finite_f32(x: f32) -> bool
+pub fn is_finite_f32(x: f32) -> bool
     ensures { λ r. ⌜ r ≡ isFinite x ⌝ }
 {
     -1.0 / 0.0 < x && x < 1.0 / 0.0
@@ -42,7 +42,7 @@ pub fn are_finite_f32(values: &[f32]) -> bool
 }
 
 // Whether x is finite.
-fn is_finite_f64(x: f64) -> bool
+pub fn is_finite_f64(x: f64) -> bool
     ensures { λ r. ⌜ r ≡ isFinite x ⌝ }
 {
     -1.0 / 0.0 < x && x < 1.0 / 0.0
