@@ -1,15 +1,24 @@
 # make run                    the main job: shows what the library does so far
 # make test                   the gate, which .ci/run calls: every crate proved from nothing, then the comparison with the Rust
-# make compare N=.. SEED=..   the comparison alone, N inputs a subject
-# make bench                  times beside the Rust's
-# make sample                 writes the stored answers anew, from the Rust alone
+# make compare N=.. SEED=..   the comparison alone, N inputs a subject; SUBJECTS=silences,path names some of them,
+#                             LARGE=.. sets the number of the largest inputs
+# make bench                  times beside the Rust's; PARTS=path names some of them
+# make sample                 writes the stored answers anew, from the Rust alone; PART=path SAMPLE=.. another part's
 #
+# FEATURES names the parts that the library has beyond the frame grid: silences, path.
 # The published sources of the Rust stay in $(SHARED). Where they are not there, what needs them says so and does nothing.
 SHARED ?= ../shared
 N ?= 200000
 SEED ?= 1
-COUNT := 1024
-SAMPLE := crates/answers/stdin
+SUBJECTS ?= all
+LARGE ?=
+PARTS ?= all
+FEATURES ?= silences
+PART ?= grid
+COUNT ?= 1024
+ifeq ($(PART),grid)
+SAMPLE ?= crates/answers/stdin
+endif
 
 STATICLIB := target/staticlib/libcapi.a
 DRIVER := target/reference/release/driver
@@ -33,16 +42,17 @@ else
 reference: $(STATICLIB)
 	reference/prepare.sh $(SHARED) target/reference-src
 	BUCHAWZER_LIB_DIR=$(CURDIR)/target/staticlib CARGO_TARGET_DIR=$(CURDIR)/target/reference \
-		cargo build --release --offline --locked --manifest-path reference/Cargo.toml
+		cargo build --release --offline --locked --manifest-path reference/Cargo.toml --features "$(FEATURES)"
 
 compare: reference
-	$(DRIVER) compare $(N) $(SEED)
+	$(DRIVER) compare $(N) $(SEED) $(SUBJECTS) $(LARGE)
 
 bench: reference
-	$(DRIVER) bench
+	$(DRIVER) bench $(PARTS)
 
 sample: reference
-	$(DRIVER) sample $(COUNT) $(SEED) > $(SAMPLE)
+	$(if $(SAMPLE),,$(error SAMPLE: the file for PART=$(PART)))
+	$(DRIVER) sample $(PART) $(COUNT) $(SEED) > $(SAMPLE)
 
 # rt knows by itself whether the library is up to date.
 $(STATICLIB):

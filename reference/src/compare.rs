@@ -1,21 +1,82 @@
 //! The comparison: one file for each part of document 01, one line for each subject.
 
+#[cfg(any(feature = "silences", feature = "path"))]
+mod aims;
 mod grid;
+#[cfg(any(feature = "silences", feature = "path"))]
+mod lists;
+#[cfg(feature = "path")]
+mod path;
+#[cfg(feature = "silences")]
+mod silences;
 mod validate;
 
 use crate::rng::Rng;
+use crate::tally::Tally;
 
-/// Compares `n` inputs of every subject; true where nothing differs.
-pub fn run(n: u64, seed: u64) -> bool {
-    println!("seed {seed}");
-    // Every subject starts from the seed, so that one more subject changes no other's inputs.
-    let subjects = grid::subjects().chain(validate::subjects());
-    let mut equal = true;
-    for subject in subjects {
-        equal &= subject(n, &mut Rng::new(seed));
-    }
-    equal
+/// A run of so many inputs or more is a full one.
+const FULL: u64 = 200_000;
+
+/// How much is compared.
+#[derive(Clone, Copy)]
+pub struct Amount {
+    /// Inputs of each subject.
+    pub inputs: u64,
+    /// Inputs of each subject of large inputs, where a number is asked for.
+    pub large: Option<u64>,
 }
 
-/// Compares so many inputs and prints the subject's line; true where nothing differs.
-type Subject = Box<dyn Fn(u64, &mut Rng) -> bool>;
+impl Amount {
+    /// How many large inputs: the number asked for, or what suits a full or a short run.
+    #[cfg_attr(not(any(feature = "silences", feature = "path")), allow(dead_code))]
+    fn large(&self, full: u64, short: u64) -> u64 {
+        let usual = if self.inputs >= FULL { full } else { short };
+        self.large.unwrap_or(usual)
+    }
+}
+
+/// What both sides are asked, under the name that its line carries.
+struct Subject {
+    name: &'static str,
+    ask: Box<Ask>,
+}
+
+type Ask = dyn Fn(Amount, &mut Rng, &mut Tally);
+
+impl Subject {
+    fn new(name: &'static str, ask: impl Fn(Amount, &mut Rng, &mut Tally) + 'static) -> Self {
+        let ask = Box::new(ask);
+        Self { name, ask }
+    }
+}
+
+/// Compares the named subjects, or all where none is named; true where nothing differs.
+pub fn run(amount: Amount, seed: u64, names: &[String]) -> Result<bool, String> {
+    let subjects = subjects();
+    for name in names {
+        if subjects.iter().all(|s| s.name != name) {
+            return Err(format!("{name}: no such subject in this build"));
+        }
+    }
+    println!("seed {seed}");
+    let mut equal = true;
+    for subject in &subjects {
+        if names.is_empty() || names.iter().any(|n| n == subject.name) {
+            let mut tally = Tally::new(subject.name);
+            // Every subject starts from the seed, so that one more changes no other's inputs.
+            (subject.ask)(amount, &mut Rng::new(seed), &mut tally);
+            equal &= tally.report();
+        }
+    }
+    Ok(equal)
+}
+
+fn subjects() -> Vec<Subject> {
+    #[allow(unused_mut, reason = "a build without features adds none")]
+    let mut all: Vec<Subject> = grid::subjects().chain(validate::subjects()).collect();
+    #[cfg(feature = "silences")]
+    all.extend(silences::subjects());
+    #[cfg(feature = "path")]
+    all.extend(path::subjects());
+    all
+}

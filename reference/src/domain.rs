@@ -12,6 +12,14 @@ pub const MOST_FRAMES: u64 = 1_048_576;
 pub const MOST_SAMPLES: u64 = 1 << 40;
 /// Longest duration in nanoseconds: 24 hours.
 pub const MOST_NANOS: u64 = 86_400_000_000_000;
+/// Most candidates of a path.
+#[cfg(feature = "path")]
+pub const MOST_CANDIDATES: usize = 1_048_577;
+/// Most pieces that can be asked for.
+pub const MOST_COUNT: u64 = 1_048_576;
+/// Least and greatest target length of a path; the greatest is that of the minimum too.
+pub const LEAST_TARGET: f64 = 1.0 / (1u64 << 40) as f64;
+pub const MOST_TARGET: f64 = (1u64 << 60) as f64;
 
 /// What a conversion answers with. Both kinds travel as one word, so that floats are compared by
 /// their bits.

@@ -2,41 +2,71 @@
 //! inputs, and writes the Rust's answers down for tests that run without it.
 
 mod bench;
+mod case;
 mod compare;
 mod conversions;
 mod domain;
 mod ours;
+// The stored sample alone needs less of it.
+#[cfg_attr(not(feature = "path"), allow(dead_code))]
+mod path_job;
 mod recording;
 mod rng;
 mod sample;
+mod silence_job;
 mod tally;
 
 use std::process::ExitCode;
 
-const USAGE: &str = "usage: driver compare N SEED | driver sample COUNT SEED | driver bench";
+use compare::Amount;
+
+/// Subjects and parts are names with commas between them, or `all`.
+const USAGE: &str = "usage: driver compare N SEED [SUBJECTS [LARGE]]
+       driver sample grid|silences|path COUNT SEED
+       driver bench [PARTS]";
 
 fn main() -> ExitCode {
     let words: Vec<String> = std::env::args().skip(1).collect();
-    let number = |i: usize| words.get(i).and_then(|w| w.parse::<u64>().ok());
-    match (words.first().map(String::as_str), number(1), number(2)) {
-        (Some("compare"), Some(n), Some(seed)) => exit(compare::run(n, seed)),
-        (Some("sample"), Some(count), Some(seed)) => match sample::write(count, seed) {
-            Ok(()) => exit(true),
-            Err(error) => fail(&error.to_string()),
-        },
-        (Some("bench"), None, None) => {
-            bench::run();
-            exit(true)
+    let words: Vec<&str> = words.iter().map(String::as_str).collect();
+    match run(&words) {
+        Ok(equal) => ExitCode::from(u8::from(!equal)),
+        Err(why) => {
+            eprintln!("{why}");
+            ExitCode::from(2)
         }
-        _ => fail(USAGE),
     }
 }
 
-fn exit(equal: bool) -> ExitCode {
-    ExitCode::from(u8::from(!equal))
+/// False where a comparison found a difference.
+fn run(words: &[&str]) -> Result<bool, String> {
+    match words {
+        ["compare", n, seed, rest @ ..] if rest.len() <= 2 => {
+            let amount = Amount {
+                inputs: number(n)?,
+                large: rest.get(1).map(|large| number(large)).transpose()?,
+            };
+            compare::run(amount, number(seed)?, &names(rest.first()))
+        }
+        ["sample", part, count, seed] => {
+            sample::write(part, number(count)?, number(seed)?)?;
+            Ok(true)
+        }
+        ["bench", rest @ ..] if rest.len() <= 1 => {
+            bench::run(&names(rest.first()))?;
+            Ok(true)
+        }
+        _ => Err(USAGE.to_string()),
+    }
 }
 
-fn fail(why: &str) -> ExitCode {
-    eprintln!("{why}");
-    ExitCode::from(2)
+fn number(word: &str) -> Result<u64, String> {
+    word.parse().map_err(|_| USAGE.to_string())
+}
+
+/// None stands for all.
+fn names(word: Option<&&str>) -> Vec<String> {
+    match word {
+        None | Some(&"all") => Vec::new(),
+        Some(list) => list.split(',').map(String::from).collect(),
+    }
 }

@@ -1,5 +1,10 @@
 //! The port's C functions. Those that take numbers alone are safe as they stand.
 
+#[cfg(feature = "path")]
+pub mod path;
+#[cfg(feature = "silences")]
+pub mod silences;
+
 unsafe extern "C" {
     #[link_name = "buchawzer_boundary"]
     pub safe fn boundary(
@@ -73,4 +78,12 @@ pub fn validate(r: &Lent<'_>) -> u32 {
             r.levels.len(),
         )
     }
+}
+
+/// The work lists of an operation, as they are lent to the port.
+#[cfg(any(feature = "silences", feature = "path"))]
+pub struct Work<'a> {
+    pub u32s: &'a mut [u32],
+    pub u64s: &'a mut [u64],
+    pub f64s: &'a mut [f64],
 }

@@ -59,14 +59,31 @@ impl Recording {
     /// A recording of `frames` frames that is accepted, its length often at an edge of what they
     /// cover. `frames` may be one above the limit: then that alone is wrong with it.
     pub fn accepted(rng: &mut Rng, frames: u64) -> Self {
-        let mut made = Self::grid(rng, frames);
+        Self::grid(rng, frames).covering(rng)
+    }
+
+    /// The same on a grid as detectors have it, where a second is many frames.
+    pub fn usual(rng: &mut Rng, frames: u64) -> Self {
+        let mut made = Self {
+            sample_rate: rng.choose(&USUAL_RATES) as u32,
+            frame_rate: rng.choose(&[10, 100, 1_000, 16_000]),
+            hop: rng.choose(&[1, 10, 160, 512]),
+            frames,
+            len: 0,
+        };
+        made.fit();
+        made.covering(rng)
+    }
+
+    /// With a length that the frames cover, and shorter frames if there is none.
+    fn covering(mut self, rng: &mut Rng) -> Self {
         // So many frames of this hop may be too long; shorter frames always fit.
-        while frames > 0 && made.start(frames - 1) >= u128::from(MOST_SAMPLES) {
-            made.hop /= 2;
-            made.fit();
+        while self.frames > 0 && self.start(self.frames - 1) >= u128::from(MOST_SAMPLES) {
+            self.hop /= 2;
+            self.fit();
         }
-        made.len = made.covered_len(rng);
-        made
+        self.len = self.covered_len(rng);
+        self
     }
 
     /// A length one below, at or one above the greatest, and frames that cover all three.

@@ -1,88 +1,57 @@
-//! The stored sample: inputs and the Rust's answers, for tests that run without the Rust.
-//!
-//! A record is eight little-endian words: the subject, six arguments, the answer. Subject 0 is
-//! `boundary`, 1 to 7 are the conversions in their order, 8 is coverage (0 accepted, else 6).
+//! The stored samples: inputs and the Rust's answers, for tests that run without the Rust. One
+//! file for each part, with the layout of its records at its head.
 
-use std::io::{self, BufWriter, Write};
+mod grid;
+mod path;
+mod silences;
 
-use silence_split::analyze::Analysis;
-use silence_split::errors::ConfigError;
+use std::io::{self, Write};
 
-use crate::conversions::{CONVERSIONS, Conversion, Words};
-use crate::domain::MOST_SAMPLES;
-use crate::recording::{self, Recording};
 use crate::rng::Rng;
 
-const BOUNDARY: u64 = 0;
-const COVERAGE: u64 = CONVERSIONS.len() as u64 + 1;
-const SUBJECTS: u64 = COVERAGE + 1;
+/// A sample is at most so long.
+const MOST_BYTES: usize = 64 * 1024;
 
-/// One recording in so many may have frames up to the limit, and one a length up to it.
-const LARGE: u64 = 64;
-const LONG: u64 = 16;
-
-/// Writes `count` records to standard output, the subjects in turn.
-pub fn write(count: u64, seed: u64) -> io::Result<()> {
-    let mut rng = Rng::new(seed);
-    let mut out = BufWriter::new(io::stdout().lock());
-    for i in 0..count {
-        let subject = i % SUBJECTS;
-        let (words, answer) = match subject {
-            BOUNDARY => boundary(&mut rng),
-            COVERAGE => coverage(&mut rng),
-            _ => conversion(&CONVERSIONS[subject as usize - 1], &mut rng),
-        };
-        for word in [&[subject], &words[..], &[answer]].concat() {
-            out.write_all(&word.to_le_bytes())?;
-        }
-    }
-    out.flush()
-}
-
-fn conversion(c: &Conversion, rng: &mut Rng) -> (Words, u64) {
-    loop {
-        let words = (c.make)(rng);
-        if (c.inside)(&words) {
-            return (words, (c.rust)(&words));
-        }
-    }
-}
-
-fn accepted(rng: &mut Rng) -> Recording {
-    if rng.one_in(LONG) {
-        let mut made = Recording::at_greatest_len(rng);
-        made.len = made.len.min(MOST_SAMPLES);
-        return made;
-    }
-    let large = rng.one_in(LARGE);
-    let frames = recording::frames(rng, large);
-    Recording::accepted(rng, frames)
-}
-
-fn words(r: &Recording, last: u64) -> Words {
-    let (rate, frame_rate) = (r.sample_rate.into(), r.frame_rate.into());
-    [rate, frame_rate, r.hop.into(), r.len, r.frames, last]
-}
-
-fn boundary(rng: &mut Rng) -> (Words, u64) {
-    let made = accepted(rng);
-    let k = recording::any_boundary(rng, made.frames);
-    let answer = made.analysis().hook_position(k as usize);
-    (words(&made, k), answer)
-}
-
-fn coverage(rng: &mut Rng) -> (Words, u64) {
-    let mut made = accepted(rng);
-    // Often as made, so that accepted lengths away from the edges come too.
-    if !rng.one_in(4) {
-        made.len = recording::edge_len(rng, &made).min(MOST_SAMPLES);
-    }
-    let scores = vec![0.0; made.frames as usize];
-    let tested = Analysis::from_scores(made.layout(), made.len, made.score_frames(), scores);
-    let answer = match tested {
-        Ok(_) => 0,
-        Err(ConfigError::FrameCountMismatch) => 6,
-        Err(other) => panic!("{other:?} on an accepted grid"),
+/// Writes `count` records to standard output, fewer where one more would be too many bytes.
+pub fn write(part: &str, count: u64, seed: u64) -> Result<(), String> {
+    let record = match part {
+        "grid" => grid::record,
+        "silences" => silences::record,
+        "path" => path::record,
+        _ => return Err(format!("{part}: no such sample")),
     };
-    (words(&made, 0), answer)
+    let mut rng = Rng::new(seed);
+    let mut bytes = Bytes(Vec::new());
+    for i in 0..count {
+        let whole = bytes.0.len();
+        record(&mut bytes, &mut rng, i);
+        if bytes.0.len() > MOST_BYTES {
+            bytes.0.truncate(whole);
+            eprintln!("{part}: {i} of {count} records");
+            break;
+        }
+    }
+    let mut out = io::stdout().lock();
+    out.write_all(&bytes.0).map_err(|error| error.to_string())
+}
+
+/// Little-endian fields, one after the other without padding.
+struct Bytes(Vec<u8>);
+
+impl Bytes {
+    fn u32(&mut self, x: u32) {
+        self.0.extend(x.to_le_bytes());
+    }
+
+    fn u64(&mut self, x: u64) {
+        self.0.extend(x.to_le_bytes());
+    }
+
+    fn f32(&mut self, x: f32) {
+        self.u32(x.to_bits());
+    }
+
+    fn f64(&mut self, x: f64) {
+        self.u64(x.to_bits());
+    }
 }

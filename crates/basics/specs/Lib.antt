@@ -1,4 +1,6 @@
 pub mod Lists
+pub mod Elements
+pub mod Front
 pub mod Floats
 pub mod Round
 pub mod RoundLaws

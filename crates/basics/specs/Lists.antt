@@ -8,7 +8,6 @@ use native.Mathlib.Omega.{arith}
 use native.Mathlib.Numerals.{add-one}
 use lib.ListN.{length, getD, drop, set, replicate, length-set, drop-of-length-le}
 use lib.Seq.{drop-cons, drop-length}
-use Rattle.laws.specs.Tests.{both}
 
 -- ---- a list filled with one value
 
@@ -64,9 +63,3 @@ module _ {A : Type 0} (p : A → Bool) where
   pub testing-done : (xs : List A) (end i : ℕ) → end ≤ i → Testing p xs end i → true ≡ allOf p xs
   unfolding allOf
   testing-done xs end i l (a, b, c) = sym (ap (allOf p) (drop-of-length-le xs {i = i} (omega arith))) ∙ c
-
--- a weaker test passes where a stronger one does
-pub all-implies : {A : Type 0} {p q : A → Bool} → ((x : A) → p x ≡ true → q x ≡ true) → (xs : List A) → allOf p xs ≡ true → allOf q xs ≡ true
-unfolding allOf
-all-implies h [] e = refl
-all-implies {p = p} h (x ∷ xs) e = let s = both (p x) (allOf p xs) e in rw (h x (s .0), all-implies h xs (s .1))

@@ -1,3 +1,4 @@
 // What C and Rust programs call. No function asks anything of its caller but what its types say.
 pub mod convert;
 pub mod recording;
+pub mod silence_list;

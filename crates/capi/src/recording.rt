@@ -5,7 +5,7 @@ ghost use mathlib.Core.Path.{_≡_};
 ghost use Rattle.grid.specs.Validate.{validityOf, refusalOf};
 ghost use Rattle.capi.specs.Grid.{domainOf};
 
-fn domain(decibels: bool) -> Domain
+pub fn domain(decibels: bool) -> Domain
     ensures { λ r. ⌜ r ≡ domainOf decibels ⌝ }
 {
     if decibels {

@@ -1,35 +1,42 @@
--- What test 5 leaves of an accepted recording's values: all are finite, so none is a NaN.
-use mathlib.Core.Path.{_≡_, refl, sym, subst}
+-- What refusal 5's ranges leave of a value: a finite one is a number, and a score is finite.
+use mathlib.Core.Path.{_≡_, refl, sym, ap, _∙_}
 use mathlib.Core.Bool.{Bool, true, false, not, _&&_}
 use mathlib.Core.List.{List}
 use Prim.Native.Nat.{ℕ}
 use lib.Dec.{T}
-use lib.IntN.{pos}
-use lib.Ieee.{Float, nan, inf, fin, le, lt, eq, isNan}
+use lib.Ieee.{Float, nan, inf, fin, le, lt, isNan}
+use lib.Ieee.Scale.{finite}
 use Rattle.laws.specs.Tests.{holds, both}
-use Rattle.basics.specs.Lists.{allOf, all-implies}
-use Rattle.grid.specs.Values.{isScore, isFinite, isFlag, isUnflagged}
-use Rattle.grid.specs.Validate.{valuesOk}
+use Rattle.laws.specs.Nonneg.{finite-number}
+use Rattle.basics.specs.Lists.{allOf}
+use Rattle.basics.specs.Elements.{all-weaker}
 use Rattle.grid.specs.declared.validate.Domain.{Domain}
 use Rattle.grid.specs.declared.validate.Domain.the-variants.{Decibels, Scores}
+use Rattle.grid.specs.Values.{isScore, isFinite, isFlag, isUnflagged}
+use Rattle.grid.specs.Validate.{valuesOk}
+
+-- `isFinite` is the float laws' `finite`
+pub value-finite : (x : Float) → isFinite x ≡ true → T (finite x)
+unfolding isFinite lt
+value-finite nan h = holds h
+value-finite (inf true) h = holds h
+value-finite (inf false) h = holds h
+value-finite (fin s m e) h = tt
+
+-- a finite value is a number
+pub value-number : (x : Float) → isFinite x ≡ true → T (not (isNan x))
+value-number x h = finite-number x (value-finite x h)
 
 -- a score is finite
 pub score-finite : (x : Float) → isScore x ≡ true → isFinite x ≡ true
-unfolding isScore isFinite le lt eq
-score-finite nan e = absurd (holds e)
-score-finite (inf true) e = absurd (holds e)
-score-finite (inf false) e = absurd (holds e)
-score-finite (fin s m k) e = refl
-
--- what is finite is a number
-pub finite-number : (x : Float) → isFinite x ≡ true → T (not (isNan x))
-unfolding isFinite lt isNan
-finite-number nan e = absurd (holds e)
-finite-number (inf s) e = tt
-finite-number (fin s m k) e = tt
+unfolding isScore isFinite lt le
+score-finite nan h = h
+score-finite (inf true) h = h
+score-finite (inf false) h = h
+score-finite (fin s m e) h = refl
 
 -- the values of an accepted recording are finite
 pub values-finite : (domain : Domain) (values : List Float) (flags : List ℕ) (levels : List Float) → valuesOk domain values flags levels ≡ true → allOf isFinite values ≡ true
 unfolding valuesOk
-values-finite Decibels values flags levels e = both (allOf isFinite values) (allOf isFlag flags) (both (allOf isFinite values && allOf isFlag flags) (allOf isFinite levels) e .0) .0
-values-finite Scores values flags levels e = all-implies score-finite values (both (allOf isScore values) (allOf isUnflagged flags) e .0)
+values-finite Decibels values flags levels h = both (allOf isFinite values) (allOf isFlag flags) (both (allOf isFinite values && allOf isFlag flags) (allOf isFinite levels) h .0) .0
+values-finite Scores values flags levels h = all-weaker isScore isFinite score-finite values (both (allOf isScore values) (allOf isUnflagged flags) h .0)

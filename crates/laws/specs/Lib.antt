@@ -38,6 +38,9 @@ pub mod Sums
 --   float-sub-within      it is no larger than a value of the format that bounds both, for values of the domain
 --   float-sub-finite      it is finite, for values of the domain that the format holds
 pub mod Differences
+-- Numbers: results that are no NaN
+--   float-add-finite, float-sub-finite-number   a number and a finite value have a number as sum and difference
+pub mod Numbers
 -- Products: of values of the domain
 --   float-mul-number      a product of finite values is a number
 --   float-mul-mono        it grows with each factor, where neither product is NaN

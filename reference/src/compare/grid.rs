@@ -2,7 +2,7 @@
 
 use std::iter;
 
-use super::Subject;
+use super::{Amount, Subject};
 use crate::conversions::{CONVERSIONS, Conversion, Words};
 use crate::domain::{HOPS, Kind, MOST_FRAMES, MOST_SAMPLES, RATES};
 use crate::ours;
@@ -14,16 +14,16 @@ use crate::tally::Tally;
 const ASKED: u64 = 64;
 
 pub fn subjects() -> impl Iterator<Item = Subject> {
-    let first: Subject = Box::new(boundary);
+    let first = Subject::new("boundary", boundary);
     let others = CONVERSIONS.iter().map(|c| {
-        let subject: Subject = Box::new(|n, rng| conversion(c, n, rng));
-        subject
+        Subject::new(c.name, |amount, rng, tally| {
+            conversion(c, amount.inputs, rng, tally);
+        })
     });
     iter::once(first).chain(others)
 }
 
-fn conversion(c: &Conversion, n: u64, rng: &mut Rng) -> bool {
-    let mut tally = Tally::new(c.name);
+fn conversion(c: &Conversion, n: u64, rng: &mut Rng, tally: &mut Tally) {
     for _ in 0..n {
         let words = (c.make)(rng);
         let expected = if (c.inside)(&words) {
@@ -31,9 +31,8 @@ fn conversion(c: &Conversion, n: u64, rng: &mut Rng) -> bool {
         } else {
             c.kind.marker()
         };
-        take(&mut tally, c.kind, &words, (c.ours)(&words), expected);
+        take(tally, c.kind, &words, (c.ours)(&words), expected);
     }
-    tally.report()
 }
 
 fn take(tally: &mut Tally, kind: Kind, words: &Words, ours: u64, expected: u64) {
@@ -47,17 +46,15 @@ fn take(tally: &mut Tally, kind: Kind, words: &Words, ours: u64, expected: u64) 
     });
 }
 
-fn boundary(n: u64, rng: &mut Rng) -> bool {
-    let mut tally = Tally::new("boundary");
-    while tally.inputs() < n {
-        let asked = ASKED.min(n - tally.inputs());
+fn boundary(amount: Amount, rng: &mut Rng, tally: &mut Tally) {
+    while tally.inputs() < amount.inputs {
+        let asked = ASKED.min(amount.inputs - tally.inputs());
         match rng.below(8) {
-            0 => on_any_grid(&mut tally, rng, asked),
-            1 => on_no_grid(&mut tally, rng, asked),
-            _ => on_accepted(&mut tally, rng, asked),
+            0 => on_any_grid(tally, rng, asked),
+            1 => on_no_grid(tally, rng, asked),
+            _ => on_accepted(tally, rng, asked),
         }
     }
-    tally.report()
 }
 
 /// On a recording that the Rust accepts, against its `position`.

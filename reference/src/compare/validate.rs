@@ -1,13 +1,14 @@
 //! The recording's tests: which recordings are covered, and which refusal comes first.
 
-mod case;
-mod changes;
+pub(super) mod changes;
+pub(super) mod expected;
 
 use std::iter;
 
-use case::{Case, expected};
+use expected::expected;
 
 use super::Subject;
+use crate::case::Case;
 use crate::domain::MOST_FRAMES;
 use crate::ours;
 use crate::recording::{self, Recording};
@@ -18,21 +19,20 @@ use crate::tally::Tally;
 const LARGE: u64 = 10_000;
 
 pub fn subjects() -> impl Iterator<Item = Subject> {
-    let coverage: Subject = Box::new(|n, rng| {
+    let coverage = Subject::new("coverage", |amount, rng, tally| {
         let trials = [601, 799, 600, 800].map(Case::trial);
-        each("coverage", n, &trials, |i| edge_of_coverage(rng, i))
+        each(amount.inputs, tally, &trials, |i| edge_of_coverage(rng, i));
     });
-    let refusals: Subject = Box::new(|n, rng| {
+    let refusals = Subject::new("refusals", |amount, rng, tally| {
         let mut trial = Case::trial(700);
         trial.sample_rate = 192_001;
-        each("refusals", n, &[trial], |i| changed(rng, i))
+        each(amount.inputs, tally, &[trial], |i| changed(rng, i));
     });
     iter::once(coverage).chain(iter::once(refusals))
 }
 
 /// Compares document 01's trial cuts first, then what `make` gives for each index.
-fn each(name: &'static str, n: u64, trials: &[Case], mut make: impl FnMut(u64) -> Case) -> bool {
-    let mut tally = Tally::new(name);
+fn each(n: u64, tally: &mut Tally, trials: &[Case], mut make: impl FnMut(u64) -> Case) {
     for i in 0..n {
         let case = trials.get(i as usize).cloned().unwrap_or_else(|| make(i));
         let (ours, expected) = (ours::validate(&case.lent()), expected(&case));
@@ -40,7 +40,6 @@ fn each(name: &'static str, n: u64, trials: &[Case], mut make: impl FnMut(u64) -
             format!("{}: ours {ours}, expected {expected}", case.show())
         });
     }
-    tally.report()
 }
 
 /// Scores whose length is one below, at or one above an edge of what the frames cover.

@@ -1,6 +1,6 @@
 //! Changes that bring a recording to a refusal, one function for each number.
 
-use super::case::Case;
+use crate::case::Case;
 use crate::domain::{HOPS, MOST_SAMPLES, RATES};
 use crate::recording::{self, Recording};
 use crate::rng::Rng;
@@ -85,23 +85,4 @@ fn length(case: &mut Case, rng: &mut Rng) {
         len: case.len,
     };
     case.len = recording::edge_len(rng, &made);
-}
-
-/// A value of an accepted recording, often at the edge of what is accepted.
-pub fn good_value(rng: &mut Rng, decibels: bool) -> f32 {
-    let part = rng.below(1 << 24) as f32 / (1 << 24) as f32;
-    match (rng.below(4), decibels) {
-        (0, false) => rng.choose(&[0.0, -0.0, 1.0, 1.0 - f32::EPSILON, f32::MIN_POSITIVE]),
-        (0, true) => rng.choose(&[0.0, -0.0, f32::MAX, f32::MIN, -f32::from_bits(1)]),
-        (_, false) => part,
-        (_, true) => -120.0 * part,
-    }
-}
-
-/// A smoothed level of an accepted recording.
-pub fn good_level(rng: &mut Rng) -> f64 {
-    match rng.below(4) {
-        0 => rng.choose(&[0.0, -0.0, f64::MAX, f64::MIN, f64::from_bits(1)]),
-        _ => -120.0 * (rng.below(1 << 32) as f64 / (1u64 << 32) as f64),
-    }
 }

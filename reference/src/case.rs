@@ -1,11 +1,9 @@
-//! One recording to be tested, and the refusal that document 01 gives it.
+//! A recording with all that is lent with it, accepted or not.
 
 use silence_split::analyze::{Analysis, ScoreFrames};
 use silence_split::errors::ConfigError;
 use silence_split::sample::Layout;
 
-use super::changes;
-use crate::domain::{HOPS, MOST_FRAMES, MOST_SAMPLES, RATES};
 use crate::ours::Lent;
 use crate::recording::Recording;
 use crate::rng::Rng;
@@ -59,11 +57,11 @@ impl Case {
         case.decibels = rng.one_in(2);
         let decibels = case.decibels;
         for value in &mut case.values {
-            *value = changes::good_value(rng, decibels);
+            *value = good_value(rng, decibels);
         }
         if decibels {
             let frames = case.values.len();
-            case.levels = (0..frames).map(|_| changes::good_level(rng)).collect();
+            case.levels = (0..frames).map(|_| good_level(rng)).collect();
             for flag in &mut case.flags {
                 *flag = rng.below(2) as u8;
             }
@@ -82,6 +80,25 @@ impl Case {
             values: &self.values,
             flags: &self.flags,
             levels: &self.levels,
+        }
+    }
+
+    /// The Rust's recording, or its refusal.
+    pub fn analysis(&self) -> Result<Analysis, ConfigError> {
+        let layout = Layout {
+            sample_rate: self.sample_rate,
+            channels: self.channels,
+        };
+        let frames = ScoreFrames {
+            sample_rate: self.frame_rate,
+            hop: self.hop,
+        };
+        let values = self.values.clone();
+        let marks = self.flags.iter().map(|f| *f != 0).collect();
+        if self.decibels {
+            Analysis::from_decibels(layout, self.len, frames, values, marks)
+        } else {
+            Analysis::from_marked_scores(layout, self.len, frames, values, marks)
         }
     }
 
@@ -104,60 +121,21 @@ impl Case {
     }
 }
 
-/// Document 01's number, or 0. Its order is the order of its numbers, and the Rust tests in that
-/// order too, so the least number that either finds is the first that applies.
-pub fn expected(case: &Case) -> u32 {
-    let found = [only_document_01(case), rust(case)];
-    found.into_iter().filter(|n| *n != 0).min().unwrap_or(0)
-}
-
-/// The conditions that the Rust does not have: upper limits, lent levels, flags as bytes. It has a
-/// count of marks too, but calls a wrong one a mismatch of frames, after the values.
-fn only_document_01(case: &Case) -> u32 {
-    let frames = case.values.len();
-    let levels = if case.decibels { frames } else { 0 };
-    if u64::from(case.sample_rate) > *RATES.end() {
-        1
-    } else if u64::from(case.frame_rate) > *RATES.end() || u64::from(case.hop) > *HOPS.end() {
-        3
-    } else if frames as u64 > MOST_FRAMES
-        || case.flags.len() != frames
-        || case.levels.len() != levels
-    {
-        4
-    } else if case.levels.iter().any(|l| !l.is_finite()) || case.flags.iter().any(|f| *f > 1) {
-        5
-    } else if case.len > MOST_SAMPLES {
-        6
-    } else {
-        0
+/// A value of an accepted recording, often at the edge of what is accepted.
+pub fn good_value(rng: &mut Rng, decibels: bool) -> f32 {
+    let part = rng.below(1 << 24) as f32 / (1 << 24) as f32;
+    match (rng.below(4), decibels) {
+        (0, false) => rng.choose(&[0.0, -0.0, 1.0, 1.0 - f32::EPSILON, f32::MIN_POSITIVE]),
+        (0, true) => rng.choose(&[0.0, -0.0, f32::MAX, f32::MIN, -f32::from_bits(1)]),
+        (_, false) => part,
+        (_, true) => -120.0 * part,
     }
 }
 
-/// The Rust's error as document 01 numbers it.
-fn rust(case: &Case) -> u32 {
-    let layout = Layout {
-        sample_rate: case.sample_rate,
-        channels: case.channels,
-    };
-    let frames = ScoreFrames {
-        sample_rate: case.frame_rate,
-        hop: case.hop,
-    };
-    let values = case.values.clone();
-    let marks = case.flags.iter().map(|f| *f != 0).collect();
-    let answer = if case.decibels {
-        Analysis::from_decibels(layout, case.len, frames, values, marks)
-    } else {
-        Analysis::from_marked_scores(layout, case.len, frames, values, marks)
-    };
-    match answer {
-        Ok(_) => 0,
-        Err(ConfigError::ZeroSampleRate) => 1,
-        Err(ConfigError::ZeroChannels) => 2,
-        Err(ConfigError::InvalidScoreFrames) => 3,
-        Err(ConfigError::InvalidValue) => 5,
-        Err(ConfigError::FrameCountMismatch) => 6,
-        Err(other) => panic!("{other:?} is no answer of `validate`"),
+/// A smoothed level of an accepted recording.
+pub fn good_level(rng: &mut Rng) -> f64 {
+    match rng.below(4) {
+        0 => rng.choose(&[0.0, -0.0, f64::MAX, f64::MIN, f64::from_bits(1)]),
+        _ => -120.0 * (rng.below(1 << 32) as f64 / (1u64 << 32) as f64),
     }
 }

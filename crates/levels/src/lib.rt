@@ -1,0 +1,54 @@
+// The levels of a recording: percentiles 10 and 99 of the frames with signal, and the thresholds of sound.
+// Contracts cite specs/Levels; laws about its definitions stand in specs/LevelsLaws.
+pub mod keys;
+pub mod percentile;
+pub mod select;
+pub mod threshold;
+
+use grid::validate::Domain;
+use threshold::Levels;
+use threshold::Threshold;
+ghost use mathlib.Core.Path.{_≡_};
+ghost use mathlib.Core.Bool.{true};
+ghost use mathlib.Core.List.{map};
+ghost use lib.ListN.{length};
+ghost use Prim.Native.Nat.{_≤_};
+ghost use Rattle.basics.specs.Lists.{allOf};
+ghost use Rattle.grid.specs.Limits.{maxFrames};
+ghost use Rattle.grid.specs.Values.{isFinite};
+ghost use Rattle.levels.specs.Keys.{valueOf, isKey, collected};
+ghost use Rattle.levels.specs.Levels.{levelsOver, levelsOf};
+
+// The levels of the values whose keys are given.
+fn over_keys(domain: Domain, threshold: Threshold, keys: &[u32]) -> Levels
+    requires { ⌜ length (now keys) ≤ maxFrames ⌝ }
+    requires { ⌜ allOf isKey (now keys) ≡ true ⌝ }
+    ensures { λ r. ⌜ r ≡ levelsOver domain threshold (map valueOf (now (keys .entry))) ⌝ }
+{
+    if keys.len() == 0 {
+        return threshold::no_signal();
+    }
+    let first = select::first_digits(keys);
+    let floor = percentile::percentile(keys, first, 10);
+    let reference = percentile::percentile(keys, first, 99);
+    threshold::resolve(domain, threshold, floor, reference)
+}
+
+// The floor, the reference and the thresholds of a recording. The keys of the frames with signal are left in front of `keys`.
+pub fn levels(
+    domain: Domain,
+    threshold: Threshold,
+    values: &[f32],
+    flags: &[u8],
+    keys: &mut [u32],
+) -> Levels
+    requires { ⌜ length (now values) ≤ maxFrames ⌝ }
+    requires { ⌜ length (now flags) ≡ length (now values) ⌝ }
+    requires { ⌜ length (now values) ≤ length (now keys) ⌝ }
+    requires { ⌜ allOf isFinite (now values) ≡ true ⌝ }
+    ensures result { λ r. ⌜ r ≡ levelsOf domain threshold (now (values .entry)) (now (flags .entry)) ⌝ }
+    ensures list { λ _. ⌜ now (keys .exit) ≡ collected (now (values .entry)) (now (flags .entry)) (now (keys .entry)) ⌝ }
+{
+    let count = keys::collect(values, flags, keys);
+    over_keys(domain, threshold, &keys[..count])
+}

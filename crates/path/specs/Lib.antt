@@ -1,0 +1,59 @@
+-- What a path is, which one is best, and that the path found is the one.
+-- Least: the lowest candidate whose score is least
+--   foundScore, foundIndex, orBetter, lowestLeast, LowestLeast
+pub mod Least
+--   least-none, least-front, least-past, least-skip   from a range to a longer one; least-nothing   nothing is found only where none passes
+--   Walking, walking-start, walking-next, walking-stop, walking-done   a loop that walks back
+--   least-same            it looks at nothing outside its range
+--   Answers, least-answers   it is the lowest and the least
+pub mod LeastLaws
+-- Paths: document 01's piece rule, paths, scores, best and the tie rule
+--   isWithin, mayStart, Allowed, AllowedByCount   pieces
+--   Run, Path, lastOf, PathByLength, PathWith, piecesOf, PathByCount   paths
+--   withCutAt, step, scoreFrom, pathScore   scores
+--   BestByLength, BestByCount, OwnBest   best
+--   arrival, Chosen, TieRule   ties
+pub mod Paths
+--   cut-at-inner, cut-at-last, cut-at-over, cut-at-nonneg, cut-at-keeps   the cut at a candidate
+--   path-more, path-score-more   one more piece
+pub mod PathsLaws
+-- Table: the best scores by length, the parents, and the path that they give
+--   scoreAt, Scored, predecessorOf, nextScore, tableOf, bestScore, bestOver, bestCost, parentOf
+--   wayBack, wayTo, Falling, bestPath
+pub mod Table
+--   within-yes, within-is, within-none   pieces within the limit; start-next   the candidate just before
+--   predecessor-within, predecessor-nearest, predecessor-found, predecessor-fallback, predecessor-nothing, predecessor-same
+pub mod PredecessorLaws
+--   best-first, best-next   each best score by those before it
+--   least-settled         what is found where some candidate passes
+--   best-nonneg, best-step, best-least, best-few, parent-chosen, parent-below   in the domain
+pub mod TableLaws
+--   way-first, way-step, way-length, way-some, way-few, way-same
+pub mod WayLaws
+--   Counting, Writing and their laws: the two loops that walk back
+pub mod WalkLaws
+--   way-path, path-weaken, run-rises   rules of paths
+--   best-chosen, best-allowed, best-attained, best-below   the table is the best of all paths
+pub mod BestLaws
+--   lowest-unique, path-unique, tie-unique   the tie rule leaves one path; chosen-same   by whatever own best scores; path-nonneg
+pub mod TieLaws
+-- ByCount: the same with an exact number of pieces
+--   bestWith, parentWith, wayWith, bestPathByCount, bestScoreByCount, OwnBestByCount
+--   ChosenByCount, TieRun, TiePath, TieRuleByCount
+pub mod ByCount
+--   Reached, with-nonneg, with-step, with-least, parent-reached, parent-allowed, parent-tie   one row by the row before
+--   with-allowed, with-attained, with-below, with-tie   the table is the best of all paths
+pub mod CountLaws
+-- CountTheorems: own-best-by-count, count-allowed, count-score, count-best, count-is-best, count-tie
+pub mod CountTheorems
+-- Solved: what the functions need and leave
+--   Room, Ready, Filled, parentAt, Parents, Solution
+pub mod Solved
+--   ready-scored, ready-found, ready-score, ready-parent, ready-below   one candidate
+--   room-set, filled-start, filled-room, filled-ready, filled-next, filled-over   one after another
+--   filled-score, filled-parents, filled-path, filled-few   the whole table
+pub mod SolvedLaws
+-- Theorems: own-best, solve-allowed, solve-score, solve-best, solve-is-best, solve-tie, solve-only
+pub mod Theorems
+-- Trials: document 01's starred trials of the path, by computation
+pub mod Trials

@@ -1,0 +1,106 @@
+-- What the domain gives: ends and lengths are in order and within bounds, scores compare as a total preorder, and one more piece or cut keeps their order.
+use mathlib.Core.Path.{_≡_, ap}
+use mathlib.Core.Logic.{_⊎_, inl, inr}
+use mathlib.Core.Bool.{not}
+use mathlib.Core.List.{List}
+use Prim.Native.Nat.{ℕ, zero, suc, _≤_, _<_}
+use native.Mathlib.Nat.{le-trans, le-of-eq, le-of-suc-le-suc}
+use native.Mathlib.Omega.{arith}
+use lib.Dec.{T, lit≤}
+use lib.Ieee.{Float, binary64}
+use lib.ListN.{length, getD}
+use Rattle.laws.specs.Tests.{lt-or-le}
+use Rattle.laws.specs.Nonneg.{nonneg, nonneg-number}
+use Rattle.laws.specs.Sums.{float-add-nonneg}
+use Rattle.laws.specs.Lengths.{length-whole, length-cost-nonneg}
+use Rattle.laws.specs.Scores.{score-refl, score-total, score-trans, score-lt-is, score-lt-le, score-piece, score-cut}
+use Rattle.pieces.specs.Limits.{maxEnd}
+use Rattle.pieces.specs.Pieces.{pieceLength, lengthCostOf, overOf, withPiece, withCut, atMost, lessThan}
+use Rattle.pieces.specs.Domain.{Candidates, Preferred}
+use Rattle.pieces.specs.declared.lengths.Lengths.{Lengths}
+use Rattle.pieces.specs.declared.score.Score.{Score}
+
+-- ---- ends and lengths
+
+module _ {left right : List ℕ} (ok : Candidates left right) where
+  -- right ends are in order
+  pub rights-rise : (i j : ℕ) → i ≤ j → j < length left → getD right i 0 ≤ getD right j 0
+  rights-rise i zero h k = let e : i ≡ zero = omega arith in le-of-eq (ap (λ (n : ℕ). getD right n 0) e)
+  rights-rise i (suc j) h k = elim (lt-or-le i (suc j)) [
+    | inl l ↦ le-trans (rights-rise i j (le-of-suc-le-suc l) (omega arith)) (le-trans (ok .apart j k) (ok .inside (suc j) k))
+    | inr g ↦ let e : i ≡ suc j = omega arith in le-of-eq (ap (λ (n : ℕ). getD right n 0) e)
+  ]
+
+  -- the right end of a candidate is not above the left end of a later one
+  pub ends-rise : (i j : ℕ) → i < j → j < length left → getD right i 0 ≤ getD left j 0
+  ends-rise i zero h k = absurd (omega arith)
+  ends-rise i (suc j) h k = le-trans (rights-rise i j (le-of-suc-le-suc h) (omega arith)) (ok .apart j k)
+
+  -- a left end is within the bound
+  pub left-bounded : (j : ℕ) → j < length left → getD left j 0 ≤ maxEnd
+  left-bounded j h = le-trans (ok .inside j h) (ok .bounded j h)
+
+  -- so is a piece's length
+  pub piece-bounded : (i j : ℕ) → j < length left → pieceLength left right i j ≤ maxEnd
+  unfolding pieceLength
+  piece-bounded i j h = omega (arith, left-bounded j h)
+
+  -- a piece that starts further back is no shorter
+  pub piece-longer : (i k j : ℕ) → i ≤ k → k < length left → pieceLength left right k j ≤ pieceLength left right i j
+  unfolding pieceLength
+  piece-longer i k j h l = omega (arith, rights-rise i k h l)
+
+-- ---- scores in order: a score whose cost is not negative is a number's
+
+-- at most itself
+pub at-most-refl : (a : Score) → T (nonneg (a .cost)) → T (atMost a a)
+at-most-refl a p = score-refl (a .over) (a .cost) (nonneg-number (a .cost) p)
+
+-- at most chains
+pub at-most-trans : (a b c : Score) → T (atMost a b) → T (atMost b c) → T (atMost a c)
+at-most-trans a b c h k = score-trans (a .over) (a .cost) (b .over) (b .cost) (c .over) (c .cost) h k
+
+-- of two, one is at most the other
+pub at-most-total : (a b : Score) → T (nonneg (a .cost)) → T (nonneg (b .cost)) → T (atMost a b) ⊎ T (atMost b a)
+at-most-total a b p q =
+    score-total (a .over) (a .cost) (b .over) (b .cost) (nonneg-number (a .cost) p) (nonneg-number (b .cost) q)
+
+-- better is not at least
+pub less-than-is : (a b : Score) → T (nonneg (a .cost)) → T (nonneg (b .cost)) → lessThan a b ≡ not (atMost b a)
+less-than-is a b p q =
+    score-lt-is (a .over) (a .cost) (b .over) (b .cost) (nonneg-number (a .cost) p) (nonneg-number (b .cost) q)
+
+-- better is at most
+pub less-at-most : (a b : Score) → T (lessThan a b) → T (atMost a b)
+less-at-most a b h = score-lt-le (a .over) (a .cost) (b .over) (b .cost) h
+
+-- ---- one more piece
+
+module _ {l : Lengths} (ok : Preferred l) where
+  -- a length's cost is not negative
+  pub length-nonneg : (len : ℕ) → len ≤ maxEnd → T (nonneg (lengthCostOf l len))
+  unfolding lengthCostOf
+  length-nonneg len h = length-cost-nonneg (ok .preferences) (length-whole binary64 len (le-trans h (lit≤ tt)))
+
+  -- nor is the cost after one more piece
+  pub piece-nonneg : (s : Score) (len : ℕ) → len ≤ maxEnd → T (nonneg (s .cost)) → T (nonneg (withPiece l s len .cost))
+  unfolding withPiece
+  piece-nonneg s len h p = float-add-nonneg binary64 (s .cost) (lengthCostOf l len) p (length-nonneg len h)
+
+  -- the same piece keeps the order
+  pub piece-keeps : (s t : Score) (len : ℕ) → len ≤ maxEnd → T (nonneg (s .cost)) → T (atMost s t) → T (atMost (withPiece l s len) (withPiece l t len))
+  unfolding withPiece
+  piece-keeps s t len h p k =
+      score-piece binary64 (s .over) (s .cost) (t .over) (t .cost) (overOf (l .limit) len) (lengthCostOf l len) p (length-nonneg len h) k
+
+-- ---- one more cut
+
+-- the cost after it is not negative
+pub cut-nonneg : (s : Score) (cut : Float) → T (nonneg (s .cost)) → T (nonneg cut) → T (nonneg (withCut s cut .cost))
+unfolding withCut
+cut-nonneg s cut p q = float-add-nonneg binary64 (s .cost) cut p q
+
+-- the same cut keeps the order
+pub cut-keeps : (s t : Score) (cut : Float) → T (nonneg (s .cost)) → T (nonneg cut) → T (atMost s t) → T (atMost (withCut s cut) (withCut t cut))
+unfolding withCut
+cut-keeps s t cut p q h = score-cut binary64 (s .over) (s .cost) (t .over) (t .cost) cut p q h

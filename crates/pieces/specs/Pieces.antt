@@ -1,0 +1,56 @@
+-- Document 01's "score" and "length cost": what a piece and a cut add to a path's score, and how scores compare.
+-- A piece from candidate i to candidate j runs from the right end of i to the left end of j.
+use Prim.Native.Nat.{ℕ, _+_, _-_}
+use mathlib.Core.Bool.{Bool, cond}
+use mathlib.Core.List.{List}
+use lib.Dec.{ltb}
+use lib.IntN.{pos}
+use lib.Ieee.{Float, binary64, add, ofInt}
+use lib.ListN.{getD}
+use Rattle.laws.specs.Nonneg.{nought}
+use Rattle.laws.specs.Lengths.{lengthCost}
+use Rattle.laws.specs.Scores.{scoreLe, scoreLt, scoreEq}
+use Rattle.pieces.specs.declared.lengths.Lengths.{Lengths}
+use Rattle.pieces.specs.declared.score.Score.{Score}
+
+-- ---- lengths
+
+-- the length of the piece from candidate i to candidate j, in samples
+unfoldable pub pieceLength : List ℕ → List ℕ → ℕ → ℕ → ℕ
+pieceLength left right i j = getD left j 0 - getD right i 0
+
+-- document 01's "length cost": what a piece of this length costs
+unfoldable pub lengthCostOf : Lengths → ℕ → Float
+lengthCostOf l len = lengthCost binary64 (l .«target_weight») (l .«short_weight») (l .min) (l .target) (ofInt binary64 (pos len))
+
+-- document 01's "over the limit": 1 for a piece that is longer than the limit, else 0
+unfoldable pub overOf : ℕ → ℕ → ℕ
+overOf limit len = cond (ltb limit len) 1 0
+
+-- ---- scores
+
+-- the score of a path without pieces
+abbrev pub noScore : Score
+noScore = record { over = 0; cost = nought }
+
+-- one more piece: first whether it is over the limit, then its length's cost
+unfoldable pub withPiece : Lengths → Score → ℕ → Score
+withPiece l s len = record { over = s .over + overOf (l .limit) len; cost = add binary64 (s .cost) (lengthCostOf l len) }
+
+-- one more cut, at the end of a piece
+unfoldable pub withCut : Score → Float → Score
+withCut s cut = record { over = s .over; cost = add binary64 (s .cost) cut }
+
+-- ---- order: the pieces over the limit first, then the cost
+
+-- at least as good
+abbrev pub atMost : Score → Score → Bool
+atMost a b = scoreLe (a .over) (a .cost) (b .over) (b .cost)
+
+-- better
+abbrev pub lessThan : Score → Score → Bool
+lessThan a b = scoreLt (a .over) (a .cost) (b .over) (b .cost)
+
+-- equally good
+abbrev pub equalTo : Score → Score → Bool
+equalTo a b = scoreEq (a .over) (a .cost) (b .over) (b .cost)

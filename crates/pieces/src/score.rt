@@ -1,0 +1,56 @@
+// A path's score: first the number of pieces over the limit, then the cost, added from left to right.
+use crate::lengths;
+use crate::lengths::Lengths;
+ghost use mathlib.Core.Path.{_≡_};
+ghost use Prim.Native.Nat.{_≤_};
+ghost use Rattle.pieces.specs.Limits.{maxEnd, maxIndex};
+ghost use Rattle.pieces.specs.Pieces.{withPiece, withCut, lessThan, atMost, equalTo};
+
+pub struct Score {
+    pub over: u32,
+    pub cost: f64,
+}
+
+// The score after one more piece of this length.
+pub fn piece_score(prior: Score, lengths: Lengths, len: u64) -> Score
+    requires { ⌜ prior .over ≤ maxIndex ⌝ }
+    requires { ⌜ len ≤ maxEnd ⌝ }
+    ensures { λ r. ⌜ r ≡ withPiece lengths prior len ⌝ }
+{
+    let limit = lengths.limit;
+    Score {
+        over: prior.over + lengths::is_over(len, limit),
+        cost: prior.cost + lengths::length_cost(lengths, len),
+    }
+}
+
+// The score after the cut at the end of the last piece.
+pub fn add_cut(score: Score, cut: f64) -> Score
+    ensures { λ r. ⌜ r ≡ withCut score cut ⌝ }
+{
+    Score {
+        over: score.over,
+        cost: score.cost + cut,
+    }
+}
+
+// Whether a is a better score than b.
+pub fn score_less(a: Score, b: Score) -> bool
+    ensures { λ r. ⌜ r ≡ lessThan a b ⌝ }
+{
+    a.over < b.over || (a.over == b.over && a.cost < b.cost)
+}
+
+// Whether a is as good a score as b.
+pub fn score_le(a: Score, b: Score) -> bool
+    ensures { λ r. ⌜ r ≡ atMost a b ⌝ }
+{
+    a.over < b.over || (a.over == b.over && a.cost <= b.cost)
+}
+
+// Whether a and b are equal scores.
+pub fn score_equal(a: Score, b: Score) -> bool
+    ensures { λ r. ⌜ r ≡ equalTo a b ⌝ }
+{
+    a.over == b.over && a.cost == b.cost
+}

@@ -1,0 +1,197 @@
+-- One law for each end of the operation "silence list", under what has passed before it.
+use mathlib.Core.Path.{_≡_, refl, sym, ap, subst, _∙_}
+use mathlib.Core.Bool.{Bool, true, false, _&&_, cond}
+use mathlib.Core.List.{List, _++_}
+use Prim.Native.Nat.{ℕ, _+_, _*_, _/_, _≤_, _<_}
+use native.Mathlib.Omega.{arith}
+use lib.Dec.{T, leb, eqb, leb→le, eqb→eq}
+use lib.Ieee.{Float, binary64, ofBits}
+use lib.ListN.{length, take, drop, length-append, length-drop}
+use lib.Seq.{take-at}
+use borrow.Author.Tests.{le-leb, lt-leb}
+use Rattle.laws.specs.Tests.{holds, both}
+use Rattle.basics.specs.Lists.{allOf, filled}
+use Rattle.grid.specs.Limits.{maxFrameRate, maxHop, maxFrames, maxDuration}
+use Rattle.grid.specs.Durations.{InFrames}
+use Rattle.grid.specs.Values.{isFinite}
+use Rattle.grid.specs.ValuesLaws.{values-finite}
+use Rattle.grid.specs.Validate.{validityOf, levelCount}
+use Rattle.grid.specs.ValidateLaws.{Passed, passed, frames-parts, lists-parts, within-most, within-pos}
+use Rattle.grid.specs.declared.validate.Recording.{Recording}
+use Rattle.grid.specs.declared.validate.Validity.{Validity}
+use Rattle.grid.specs.declared.validate.Validity.the-variants.{Valid, BadSampleRate, NoChannels, BadFrames, BadLists, BadValue, NotCovered}
+use Rattle.levels.specs.Threshold.{thresholdOk}
+use Rattle.sounds.specs.Silences.{silencesOf}
+use Rattle.sounds.specs.SoundsLaws.{sounds-length}
+use Rattle.silences.specs.Silences.{durationsOk, workOk, workLength, soundsIn, silencesIn, isValid, orElse, whenValid, firstRefusal, isFound, End, written, listedOf, silenceListOf}
+use Rattle.silences.specs.declared.config.SegmentConfig.{SegmentConfig}
+use Rattle.silences.specs.declared.list.Answer.{Answer}
+use Rattle.silences.specs.declared.list.Answer.the-variants.{Found, BadRecording, LongDuration, BadThreshold, ShortWork, ShortOutput}
+
+-- test 7, taken apart
+pub durations-parts : (c : SegmentConfig) → durationsOk c ≡ true
+    → (c .«min_silence» ≤ maxDuration) × (c .«min_sound» ≤ maxDuration)
+unfolding durationsOk
+durations-parts c e =
+    let p = both (leb (c .«min_silence») maxDuration && leb (c .«min_sound») maxDuration && leb (c .pre) maxDuration) (leb (c .tail) maxDuration) e in
+    let q = both (leb (c .«min_silence») maxDuration && leb (c .«min_sound») maxDuration) (leb (c .pre) maxDuration) (p .0) in
+    let s = both (leb (c .«min_silence») maxDuration) (leb (c .«min_sound») maxDuration) (q .0) in
+    (leb→le (c .«min_silence») maxDuration (holds (s .0)), leb→le (c .«min_sound») maxDuration (holds (s .1)))
+
+-- what the sound flags of a recording are made from, once tests 1 to 7 have passed
+pub record Ready (r : Recording) (c : SegmentConfig) (values : List Float) (flags : List ℕ) : Type 0 where
+  pub few : length values ≤ maxFrames
+  pub flagged : length flags ≡ length values
+  pub finite : allOf isFinite values ≡ true
+  pub sound : InFrames (r .«frame_rate») (r .hop) (c .«min_sound»)
+  pub silence : InFrames (r .«frame_rate») (r .hop) (c .«min_silence»)
+
+pub ready : (r : Recording) (c : SegmentConfig) (values : List Float) (flags : List ℕ) (levels : List Float) → validityOf r values flags levels ≡ Valid → durationsOk c ≡ true → Ready r c values flags
+ready r c values flags levels v d =
+    let p = passed r values flags levels v in
+    let f = frames-parts (r .«sample_rate») (r .«frame_rate») (r .hop) (p .frames) in
+    let l = lists-parts (r .domain) (length values) (length flags) (length levels) (p .lists) in
+    let t = durations-parts c d in
+    let rate = within-most (r .«frame_rate») maxFrameRate (f .0) in
+    let step = within-pos (r .hop) maxHop (f .1) in
+    let most = within-most (r .hop) maxHop (f .1) in
+    record {
+      few = leb→le (length values) maxFrames (holds (l .0));
+      flagged = eqb→eq (length flags) (length values) (holds (l .1));
+      finite = values-finite (r .domain) values flags levels (p .within);
+      sound = record { rate = rate; step = step; most = most; time = t .1 };
+      silence = record { rate = rate; step = step; most = most; time = t .0 };
+    }
+
+-- ---- the refusals
+
+-- any answer but `Valid` is a refusal of the recording
+refuses : (rest : Answer) (v : Validity) → isValid v ≡ false → whenValid v rest ≡ BadRecording v
+refuses rest Valid n = absurd (holds (sym n))
+refuses rest BadSampleRate n = refl
+refuses rest NoChannels n = refl
+refuses rest BadFrames n = refl
+refuses rest BadLists n = refl
+refuses rest BadValue n = refl
+refuses rest NotCovered n = refl
+
+pub valid-is : (v : Validity) → isValid v ≡ true → v ≡ Valid
+valid-is Valid e = refl
+valid-is BadSampleRate e = absurd (holds e)
+valid-is NoChannels e = absurd (holds e)
+valid-is BadFrames e = absurd (holds e)
+valid-is BadLists e = absurd (holds e)
+valid-is BadValue e = absurd (holds e)
+valid-is NotCovered e = absurd (holds e)
+
+-- a chain without refusal has passed its first test, and its rest has none
+step : (b : Bool) (refusal rest : Answer) → isFound refusal ≡ false → isFound (orElse b refusal rest) ≡ true → (b ≡ true) × (isFound rest ≡ true)
+step true refusal rest n e = (refl, e)
+step false refusal rest n e = absurd (holds (sym n ∙ e))
+
+accepts : (v : Validity) (rest : Answer) → isFound (whenValid v rest) ≡ true → (v ≡ Valid) × (isFound rest ≡ true)
+accepts Valid rest e = (refl, e)
+accepts BadSampleRate rest e = absurd (holds e)
+accepts NoChannels rest e = absurd (holds e)
+accepts BadFrames rest e = absurd (holds e)
+accepts BadLists rest e = absurd (holds e)
+accepts BadValue rest e = absurd (holds e)
+accepts NotCovered rest e = absurd (holds e)
+
+module _ (r : Recording) (c : SegmentConfig) (values : List Float) (flags : List ℕ) (levels : List Float) (n32 n64 nf : ℕ) where
+  pub refuses-recording : isValid (validityOf r values flags levels) ≡ false → BadRecording (validityOf r values flags levels) ≡ firstRefusal r c values flags levels n32 n64 nf
+  unfolding firstRefusal
+  refuses-recording n = sym (refuses _ (validityOf r values flags levels) n)
+
+  module _ (v : validityOf r values flags levels ≡ Valid) where
+    pub refuses-duration : durationsOk c ≡ false → LongDuration ≡ firstRefusal r c values flags levels n32 n64 nf
+    unfolding firstRefusal
+    refuses-duration n = rw (v, n)
+
+    module _ (d : durationsOk c ≡ true) where
+      pub refuses-threshold : thresholdOk (c .threshold) ≡ false → BadThreshold ≡ firstRefusal r c values flags levels n32 n64 nf
+      unfolding firstRefusal
+      refuses-threshold n = rw (v, d, n)
+
+      module _ (t : thresholdOk (c .threshold) ≡ true) where
+        pub refuses-work : workOk (length values) n32 n64 nf ≡ false → ShortWork ≡ firstRefusal r c values flags levels n32 n64 nf
+        unfolding firstRefusal
+        refuses-work n = rw (v, d, t, n)
+
+        pub refuses-none : workOk (length values) n32 n64 nf ≡ true → Found 0 ≡ firstRefusal r c values flags levels n32 n64 nf
+        unfolding firstRefusal
+        refuses-none n = rw (v, d, t, n)
+
+  -- without a refusal the recording is ready, and the work lists are long enough
+  pub found-ready : isFound (firstRefusal r c values flags levels n32 n64 nf) ≡ true → Ready r c values flags × (workOk (length values) n32 n64 nf ≡ true)
+  unfolding firstRefusal
+  found-ready e =
+      let last = orElse (workOk (length values) n32 n64 nf) ShortWork (Found 0) in
+      let third = orElse (thresholdOk (c .threshold)) BadThreshold last in
+      let a = accepts (validityOf r values flags levels) (orElse (durationsOk c) LongDuration third) e in
+      let b = step (durationsOk c) LongDuration third refl (a .1) in
+      let t = step (thresholdOk (c .threshold)) BadThreshold last refl (b .1) in
+      let w = step (workOk (length values) n32 n64 nf) ShortWork (Found 0) refl (t .1) in
+      (ready r c values flags levels (a .0) (b .0), w .0)
+
+-- a work list that is long enough has room for a flag for each frame
+pub work-room : (frames n32 n64 nf : ℕ) → workOk frames n32 n64 nf ≡ true → frames ≤ n32
+unfolding workOk
+work-room frames n32 n64 nf e =
+    let p = both (leb (workLength frames) n32 && leb (workLength frames) n64) (leb (workLength frames) nf) e in
+    let q = leb→le (workLength frames) n32 (holds (both (leb (workLength frames) n32) (leb (workLength frames) n64) (p .0) .0)) in
+    omega arith
+
+-- ---- the list
+
+module _ (silences out work32 work64 : List ℕ) (workf : List Float) (w32 w64 : List ℕ) (wf : List Float) (e32 : w32 ≡ filled 0 work32) (e64 : w64 ≡ filled 0 work64) (ef : wf ≡ filled (ofBits binary64 0) workf) where
+  -- the output is too short
+  pub listed-short : length out < length silences → _≡_ {A = End} (record { answer = ShortOutput; out = out; work32 = w32; work64 = w64; workf = wf }) (listedOf silences out work32 work64 workf)
+  unfolding listedOf
+  listed-short h = rw (lt-leb (length silences) (length out) h, e32, e64, ef)
+
+  -- it has room
+  pub listed-found : (count : ℕ) (out′ : List ℕ) → length silences ≡ 2 * count → length silences ≤ length out → out′ ≡ written silences out
+      → _≡_ {A = End} (record { answer = Found count; out = out′; work32 = w32; work64 = w64; workf = wf }) (listedOf silences out work32 work64 workf)
+  unfolding listedOf
+  listed-found count out′ l h e = rw (le-leb (length silences) (length out) h, e32, e64, ef, e, halved (length silences) count l)
+    where
+      halved : (n k : ℕ) → n ≡ 2 * k → n / 2 ≡ k
+      halved n k f = omega arith
+
+-- sound flags at the front of the first work list: it is as long as before
+pub listed-front : (n : ℕ) (sound work32 out work64 : List ℕ) (workf : List Float) → length sound ≡ n → n ≤ length work32
+    → listedOf (silencesOf (take n (sound ++ drop n work32))) out (sound ++ drop n work32) work64 workf ≡ listedOf (silencesOf sound) out work32 work64 workf
+unfolding listedOf filled
+listed-front n sound work32 out work64 workf e h = rw (take-at sound (drop n work32) n e, front-length)
+  where
+    front-length : length (sound ++ drop n work32) ≡ length work32
+    front-length = simp (length-append, length-drop) (omega arith)
+
+-- the flags of a recording that is ready are one a frame
+pub sounds-in-length : (r : Recording) (c : SegmentConfig) (values : List Float) (flags : List ℕ) → Ready r c values flags → length (soundsIn r c values flags) ≡ length values
+unfolding soundsIn
+sounds-in-length r c values flags ok = sounds-length _ _ _ _ values flags (ok .flagged)
+
+-- ---- the operation
+
+module _ (r : Recording) (c : SegmentConfig) (values : List Float) (flags : List ℕ) (levels : List Float) (out work32 work64 : List ℕ) (workf : List Float) where
+  pub ends-refused : (a : Answer) → a ≡ firstRefusal r c values flags levels (length work32) (length work64) (length workf) → isFound a ≡ false
+      → _≡_ {A = End} (record { answer = a; out = out; work32 = work32; work64 = work64; workf = workf }) (silenceListOf r c values flags levels out work32 work64 workf)
+  unfolding silenceListOf
+  ends-refused a e n = rw (← e, n)
+
+  pub ends-listed : isFound (firstRefusal r c values flags levels (length work32) (length work64) (length workf)) ≡ true
+      → listedOf (silencesIn r c values flags) out work32 work64 workf ≡ silenceListOf r c values flags levels out work32 work64 workf
+  unfolding silenceListOf
+  ends-listed n = rw n
+
+  -- the sound flags at the front of the first work list, and their silences listed
+  pub ends-front : (sound : List ℕ) → sound ≡ soundsIn r c values flags → isFound (firstRefusal r c values flags levels (length work32) (length work64) (length workf)) ≡ true
+      → listedOf (silencesOf (take (length values) (sound ++ drop (length values) work32))) out (sound ++ drop (length values) work32) work64 workf ≡ silenceListOf r c values flags levels out work32 work64 workf
+  unfolding silencesIn
+  ends-front sound e n =
+      let p = found-ready r c values flags levels (length work32) (length work64) (length workf) n in
+      listed-front (length values) sound work32 out work64 workf (ap length e ∙ sounds-in-length r c values flags (p .0)) (work-room (length values) (length work32) (length work64) (length workf) (p .1))
+      ∙ ap (λ (s : List ℕ). listedOf (silencesOf s) out work32 work64 workf) e
+      ∙ ends-listed n

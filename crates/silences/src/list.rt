@@ -1,0 +1,198 @@
+// The operation itself.
+use crate::config;
+use crate::config::SegmentConfig;
+use grid::validate::Recording;
+use grid::validate::Validity;
+ghost use mathlib.Core.Path.{_≡_};
+ghost use Prim.Native.Nat.{_/_, _≤_};
+ghost use lib.ListN.{length, take};
+ghost use lib.Ieee.{binary64, ofBits};
+ghost use Rattle.basics.specs.Lists.{filled};
+ghost use Rattle.silences.specs.Silences.{End, workOk, soundsIn, firstRefusal, isValid, isFound, listedOf, silenceListOf, numberOf};
+ghost use Rattle.sounds.specs.Silences.{silencesOf};
+ghost use Rattle.silences.specs.SilencesLaws.{Ready};
+
+// What the operation answers: how many silences it wrote, or why it wrote none.
+pub enum Answer {
+    Found(usize),
+    BadRecording(Validity),
+    LongDuration,
+    BadThreshold,
+    ShortWork,
+    ShortOutput,
+}
+
+// Document 01's number for each case.
+pub fn number(a: Answer) -> u32
+    ensures { λ r. ⌜ r ≡ numberOf a ⌝ }
+{
+    match a {
+        Answer::Found(_) => 0,
+        Answer::BadRecording(v) => grid::validate::refusal(v),
+        Answer::LongDuration => 7,
+        Answer::BadThreshold => 11,
+        Answer::ShortWork => 13,
+        Answer::ShortOutput => 12,
+    }
+}
+
+// Test 13.
+fn work_ok(frames: usize, n32: usize, n64: usize, nf: usize) -> bool
+    requires { ⌜ frames ≤ 1048576 ⌝ }
+    ensures { λ r. ⌜ r ≡ workOk frames n32 n64 nf ⌝ }
+{
+    let least = 16 * (frames + 1);
+    if n32 < least {
+        return false;
+    }
+    if n64 < least {
+        return false;
+    }
+    least <= nf
+}
+
+// Clears the three work lists whole.
+pub fn clear_work(work_u32: &mut [u32], work_u64: &mut [u64], work_f64: &mut [f64])
+    ensures { λ _. ⌜ now («work_u32» .exit) ≡ filled 0 (now («work_u32» .entry)) ⌝ }
+    ensures { λ _. ⌜ now («work_u64» .exit) ≡ filled 0 (now («work_u64» .entry)) ⌝ }
+    ensures { λ _. ⌜ now («work_f64» .exit) ≡ filled (ofBits binary64 0) (now («work_f64» .entry)) ⌝ }
+{
+    basics::clear::clear_u32(work_u32);
+    basics::clear::clear_u64(work_u64);
+    basics::clear::clear_f64(work_f64);
+}
+
+// Leaves the sound flags of an accepted recording in a list of its length.
+pub fn sounds_in(r: Recording, c: SegmentConfig, values: &[f32], flags: &[u8], sound: &mut [u32])
+    requires { ⌜ Ready r c (now values) (now flags) ⌝ }
+    requires { ⌜ length (now sound) ≡ length (now values) ⌝ }
+    ensures { λ _. ⌜ now (sound .exit) ≡ soundsIn r c (now (values .entry)) (now (flags .entry)) ⌝ }
+{
+    let threshold = c.threshold;
+    let domain = r.domain;
+    let levels = levels::levels(domain, threshold, values, flags, sound);
+    let min_sound = grid::durations::frames_in(r.frame_rate, r.hop, c.min_sound);
+    let min_silence = grid::durations::frames_in(r.frame_rate, r.hop, c.min_silence);
+    sounds::sounds::silences(
+        levels.on,
+        levels.off,
+        min_sound as usize,
+        min_silence as usize,
+        values,
+        flags,
+        sound,
+    );
+}
+
+// Whether a recording was accepted.
+fn is_valid(v: Validity) -> bool
+    ensures { λ r. ⌜ r ≡ isValid v ⌝ }
+{
+    match v {
+        Validity::Valid => true,
+        Validity::BadSampleRate => false,
+        Validity::NoChannels => false,
+        Validity::BadFrames => false,
+        Validity::BadLists => false,
+        Validity::BadValue => false,
+        Validity::NotCovered => false,
+    }
+}
+
+// The first refusal before 12, or that nothing is found yet. It reads the recording alone.
+fn first_refusal(
+    r: Recording,
+    c: SegmentConfig,
+    values: &[f32],
+    flags: &[u8],
+    levels: &[f64],
+    n32: usize,
+    n64: usize,
+    nf: usize,
+) -> Answer
+    ensures { λ a. ⌜ a ≡ firstRefusal r c (now (values .entry)) (now (flags .entry)) (now (levels .entry)) n32 n64 nf ⌝ }
+{
+    let validity = r.validate(values, flags, levels);
+    if !is_valid(validity) {
+        return Answer::BadRecording(validity);
+    }
+    if !config::durations_ok(c) {
+        return Answer::LongDuration;
+    }
+    let threshold = c.threshold;
+    if !config::threshold_ok(threshold) {
+        return Answer::BadThreshold;
+    }
+    if !work_ok(values.len(), n32, n64, nf) {
+        return Answer::ShortWork;
+    }
+    Answer::Found(0)
+}
+
+// Whether no refusal was given.
+fn is_found(a: Answer) -> bool
+    ensures { λ r. ⌜ r ≡ isFound a ⌝ }
+{
+    match a {
+        Answer::Found(_) => true,
+        Answer::BadRecording(_) => false,
+        Answer::LongDuration => false,
+        Answer::BadThreshold => false,
+        Answer::ShortWork => false,
+        Answer::ShortOutput => false,
+    }
+}
+
+// Lists the silences of sound flags that stand at the front of the first work list, and clears work memory.
+fn list_silences(
+    n: usize,
+    work_u32: &mut [u32],
+    work_u64: &mut [u64],
+    work_f64: &mut [f64],
+    out: &mut [u32],
+) -> Answer
+    requires { ⌜ n ≤ length (now «work_u32») ⌝ }
+    requires { ⌜ n ≤ 1048576 ⌝ }
+    ensures { λ a. ⌜ _≡_ {A = End} (record { answer = a; out = now (out .exit); work32 = now («work_u32» .exit); work64 = now («work_u64» .exit); workf = now («work_f64» .exit) }) (listedOf (silencesOf (take n (now («work_u32» .entry)))) (now (out .entry)) (now («work_u32» .entry)) (now («work_u64» .entry)) (now («work_f64» .entry))) ⌝ }
+{
+    let count = sounds::silences::count_silences(&work_u32[..n]);
+    if out.len() < 2 * count {
+        clear_work(work_u32, work_u64, work_f64);
+        return Answer::ShortOutput;
+    }
+    sounds::silences::write_silences(&work_u32[..n], out);
+    clear_work(work_u32, work_u64, work_f64);
+    Answer::Found(count)
+}
+
+// The silences of a recording: for silence i its first frame at out[2 i], and the frame after its last at out[2 i + 1].
+pub fn silence_list(
+    r: Recording,
+    c: SegmentConfig,
+    values: &[f32],
+    flags: &[u8],
+    levels: &[f64],
+    work_u32: &mut [u32],
+    work_u64: &mut [u64],
+    work_f64: &mut [f64],
+    out: &mut [u32],
+) -> Answer
+    ensures { λ a. ⌜ _≡_ {A = End} (record { answer = a; out = now (out .exit); work32 = now («work_u32» .exit); work64 = now («work_u64» .exit); workf = now («work_f64» .exit) }) (silenceListOf r c (now (values .entry)) (now (flags .entry)) (now (levels .entry)) (now (out .entry)) (now («work_u32» .entry)) (now («work_u64» .entry)) (now («work_f64» .entry))) ⌝ }
+{
+    let n = values.len();
+    let refusal = first_refusal(
+        r,
+        c,
+        values,
+        flags,
+        levels,
+        work_u32.len(),
+        work_u64.len(),
+        work_f64.len(),
+    );
+    if !is_found(refusal) {
+        return refusal;
+    }
+    sounds_in(r, c, values, flags, &mut work_u32[..n]);
+    list_silences(n, work_u32, work_u64, work_f64, out)
+}

@@ -1,0 +1,17 @@
+pub mod Hysteresis
+pub mod HysteresisLaws
+pub mod Runs
+pub mod RunsLaws
+pub mod RunsWalk
+pub mod Fill
+pub mod FillLaws
+pub mod FillExact
+pub mod Sounds
+pub mod SoundsLaws
+pub mod SoundsMono
+pub mod Silences
+pub mod SilencesLaws
+pub mod SilencesWalks
+pub mod Quiet
+pub mod QuietLaws
+pub mod Trials
