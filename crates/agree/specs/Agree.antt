@@ -1,0 +1,132 @@
+-- The rows that the search writes are those of the table by count: where every candidate of a range may start, the two ways to say "the lowest least" agree,
+-- and the candidates before the first start may not.
+use mathlib.Core.Path.{_≡_, refl, sym, ap, _∙_}
+use mathlib.Core.Logic.{inl, inr}
+use mathlib.Core.Bool.{Bool, true, false, not, cond, _||_}
+use mathlib.Core.List.{List}
+use Prim.Native.Nat.{ℕ, zero, suc, _+_, _-_, _≤_, _<_}
+use native.Mathlib.Nat.{le-refl, not-le-of-lt}
+use native.Mathlib.Omega.{arith}
+use lib.Dec.{T, not-T, ltb, eqb, eqb→eq}
+use lib.Ieee.{Float, nan}
+use lib.ListN.{length, getD}
+use Rattle.laws.specs.Tests.{or-l, or-split}
+use Rattle.pieces.specs.Pieces.{pieceLength, noScore, withPiece, atMost, withCut}
+use Rattle.pieces.specs.Domain.{Candidates}
+use Rattle.pieces.specs.declared.lengths.Lengths.{Lengths}
+use Rattle.pieces.specs.declared.score.Score.{Score}
+use Rattle.path.specs.declared.predecessor.Found.{Found}
+use Rattle.path.specs.declared.predecessor.Found.the-variants.{At, Nothing}
+use Rattle.path.specs.Least.{pickFound, lowestLeast, foundScore, foundIndex}
+use Rattle.path.specs.LeastLaws.{least-skip, least-same}
+use Rattle.path.specs.Paths as paths
+use Rattle.path.specs.Table as table
+use Rattle.path.specs.PredecessorLaws.{within-yes, within-is, start-next}
+use Rattle.path.specs.ByCount.{bestWith, parentWith}
+use Rattle.search.specs.declared.best.Best.{Best}
+use Rattle.search.specs.Least.{entry, pickBest, leastOf}
+use Rattle.search.specs.Starts.{scoreAt}
+use Rattle.search.specs.Tree.{pickScore}
+use Rattle.rows.specs.First.{firstStart}
+use Rattle.rows.specs.FirstLaws.{first-start-high, first-start-over, first-start-within}
+use Rattle.rows.specs.Rows as rows
+use Rattle.rows.specs.Rows.{FirstRow, NextRow, startOf}
+use Rattle.rows.specs.RowsLaws.{start-below}
+
+-- what was found, as the answer of the table's definition
+abbrev pub found : Best → Found
+found b = At (b .score) (b .at)
+
+pick-found : (t : Bool) (a b : Best) → pickFound t (found a) (found b) ≡ found (pickBest t a b)
+pick-found true a b = refl
+pick-found false a b = refl
+
+-- where every candidate of a range passes, both definitions find the same
+all-pass : (test : ℕ → Bool) (score : ℕ → Score) (n from : ℕ) → ((i : ℕ) → from ≤ i → i < from + suc n → T (test i))
+    → lowestLeast test score from (suc n) ≡ found (leastOf score from n)
+unfolding lowestLeast leastOf
+all-pass test score zero from f = go (test from) (f from (le-refl from) (omega arith))
+  where
+    go : (t : Bool) → T t → pickFound t (At (score from) from) Nothing ≡ At (score from) from
+    go true h = refl
+    go false h = absurd h
+all-pass test score (suc n) from f =
+    rw (all-pass test score n (suc from) (λ i a b. f i (omega arith) (omega arith))) (go (test from) (f from (le-refl from) (omega arith)))
+  where
+    go : (t : Bool) → T t
+        → pickFound t (pickFound (atMost (score from) (leastOf score (suc from) n .score)) (At (score from) from) (found (leastOf score (suc from) n))) (found (leastOf score (suc from) n))
+        ≡ found (pickBest (atMost (score from) (leastOf score (suc from) n .score)) (entry score from) (leastOf score (suc from) n))
+    go true h = pick-found (atMost (score from) (leastOf score (suc from) n .score)) (entry score from) (leastOf score (suc from) n)
+    go false h = absurd h
+
+-- the cut at a candidate is the same
+pub cut-agrees : (cut : List Float) (j : ℕ) (s : Score) → rows.withCutAt cut j s ≡ paths.withCutAt cut j s
+unfolding rows.withCutAt paths.withCutAt
+cut-agrees cut j s = go (ltb (suc j) (length cut))
+  where
+    go : (t : Bool) → pickScore t (withCut s (getD cut j nan)) s ≡ cond t (withCut s (getD cut j nan)) s
+    go true = refl
+    go false = refl
+
+-- what may start: nothing before the first start, and all from it on
+module _ (limit : ℕ) (left right : List ℕ) (ok : Candidates left right) (j : ℕ) (in-list : j < length left) where
+  none-before : (i : ℕ) → i < firstStart limit left right j → T (not (paths.mayStart limit left right j i))
+  unfolding paths.mayStart
+  none-before i h = not-T (paths.isWithin limit left right j i || eqb (suc i) j) (λ (t : T (paths.isWithin limit left right j i || eqb (suc i) j)).
+      elim (or-split (paths.isWithin limit left right j i) (eqb (suc i) j) t) [
+        | inl w ↦ not-le-of-lt (first-start-over limit left right j i h) (within-is limit left right j i w)
+        | inr e ↦ let q : suc i ≡ j = eqb→eq (suc i) j e in omega (arith, first-start-high limit left right j)
+      ])
+
+  all-after : (i : ℕ) → firstStart limit left right j ≤ i → i < j → T (paths.mayStart limit left right j i)
+  unfolding paths.mayStart
+  all-after i h g = elim (first-start-within limit left right ok j i in-list h g) [
+    | inl w ↦ or-l (paths.isWithin limit left right j i) (eqb (suc i) j) (within-yes limit left right j i w)
+    | inr e ↦ start-next limit left right j i e
+  ]
+
+module _ (l : Lengths) (left right : List ℕ) (ok : Candidates left right) where
+  -- the best predecessor of candidate j in row k + 1
+  pub predecessor-agrees : (own : ℕ → Score) (k j : ℕ) → k < j → j < length left
+      → table.predecessorOf l left right own k j ≡ found (rows.predecessorOf l left right own (suc k) j)
+  unfolding table.predecessorOf rows.predecessorOf
+  predecessor-agrees own k j h g =
+      let test = paths.mayStart (l .limit) left right j in
+      let score = paths.arrival l left right own j in
+      let from = startOf (l .limit) left right (suc k) j in
+      let below : from < j = start-below l left right (suc k) j (omega arith) h in
+      let e : j - from ≡ suc (j - suc from) = omega arith in
+      least-skip test score k from j (omega arith) (omega arith) (λ i a b. none-before (l .limit) left right ok j g i (omega arith))
+      ∙ rw e (all-pass test score (j - suc from) from (λ i a b. all-after (l .limit) left right ok j g i (omega arith) (omega arith)))
+
+  -- it looks at the candidates from k on alone
+  pub predecessor-looks : (own own' : ℕ → Score) (k j : ℕ) → ((i : ℕ) → k ≤ i → i < j → own i ≡ own' i)
+      → table.predecessorOf l left right own k j ≡ table.predecessorOf l left right own' k j
+  unfolding table.predecessorOf
+  predecessor-looks own own' k j f =
+      least-same (paths.mayStart (l .limit) left right j) (paths.mayStart (l .limit) left right j) (paths.arrival l left right own j)
+      (paths.arrival l left right own' j) k j (λ i a b. refl) (λ i a b. ap (λ (s : Score). withPiece l s (pieceLength left right i j)) (f i a b))
+
+-- ---- the rows
+
+module _ {l : Lengths} {left right : List ℕ} {cut : List Float} (ok : Candidates left right) where
+  -- the first row that is written is the table's
+  pub first-row-agrees : {over : List ℕ} {cost : List Float} {row : List ℕ} {n : ℕ} → FirstRow l left right cut over cost row n → (j : ℕ) → 0 < j → j < n
+      → (scoreAt over cost j ≡ bestWith l left right cut 1 j) × (getD row j 0 ≡ parentWith l left right cut 1 j)
+  unfolding bestWith parentWith
+  first-row-agrees x j p h = (x .score j p h ∙ cut-agrees cut j (withPiece l noScore (pieceLength left right 0 j)), x .parent j h)
+
+  -- and so is each next one, where the row before is
+  pub next-row-agrees : {k : ℕ} {over₀ over : List ℕ} {cost₀ cost : List Float} {row₀ row : List ℕ}
+      → ((i : ℕ) → suc k ≤ i → i < length left → scoreAt over₀ cost₀ i ≡ bestWith l left right cut (suc k) i)
+      → NextRow l left right cut (suc (suc k)) (scoreAt over₀ cost₀) over₀ cost₀ row₀ over cost row (length left) → (j : ℕ) → suc (suc k) ≤ j → j < length left
+      → (scoreAt over cost j ≡ bestWith l left right cut (suc (suc k)) j) × (getD row j 0 ≡ parentWith l left right cut (suc (suc k)) j)
+  unfolding bestWith parentWith
+  next-row-agrees {k} {over₀} {over} {cost₀} {cost} f x j h g =
+      let b = rows.predecessorOf l left right (scoreAt over₀ cost₀) (suc (suc k)) j in
+      let e : found b ≡ table.predecessorOf l left right (bestWith l left right cut (suc k)) (suc k) j =
+      sym (predecessor-agrees l left right ok (scoreAt over₀ cost₀) (suc k) j h g)
+      ∙ predecessor-looks l left right ok (scoreAt over₀ cost₀) (bestWith l left right cut (suc k)) (suc k) j (λ i a m. f i a (omega arith)) in (
+        x .score j h g ∙ cut-agrees cut j (b .score) ∙ ap (λ (z : Found). paths.withCutAt cut j (foundScore z)) e,
+        x .parent j h g ∙ ap foundIndex e,
+      )

@@ -1,0 +1,1 @@
+// The rows that the search writes are those of the table by count.

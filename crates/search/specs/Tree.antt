@@ -1,0 +1,64 @@
+-- The tree of least scores over a row of the table: the node n has the children 2n and 2n + 1, the leaf of candidate i stands at leaves + i, and each node's
+-- score is the lesser of its children's.
+use mathlib.Core.Path.{_≡_}
+use mathlib.Core.Bool.{Bool, true, false}
+use mathlib.Core.List.{List}
+use Prim.Native.Nat.{ℕ, suc, _+_, _-_, _*_, _/_, _≤_, _<_}
+use lib.Dec.{T}
+use lib.Ieee.{Float, nan, binary64, ofBits}
+use lib.ListN.{length, getD}
+use Rattle.laws.specs.Nonneg.{nonneg}
+use Rattle.pieces.specs.Limits.{maxIndex}
+use Rattle.pieces.specs.Pieces.{atMost}
+use Rattle.pieces.specs.declared.score.Score.{Score}
+use Rattle.search.specs.Starts.{scoreAt}
+
+-- ---- its size
+
+-- a power of two
+pub data Power : ℕ → Type 0 where
+  one : Power 1
+  twice : {m n : ℕ} → Power m → n ≡ m * 2 → Power n
+
+-- the number of leaves for n candidates: the least power of two that is at least n
+pub record Leaves (n leaves : ℕ) : Type 0 where
+  pub power : Power leaves
+  pub enough : n ≤ leaves
+  pub least : leaves < n * 2
+
+-- ---- its scores
+
+abbrev pub pickScore : Bool → Score → Score → Score
+pickScore true a b = a
+pickScore false a b = b
+
+-- the lesser of two, the first where they are equally good
+unfoldable pub lesserScore : Score → Score → Score
+lesserScore a b = pickScore (atMost a b) a b
+
+-- the score of a leaf without a candidate: more pieces over the limit than a path can have
+abbrev pub noLeaf : Score
+noLeaf = record { over = suc maxIndex; cost = ofBits binary64 0 }
+
+-- the tree of a row: what stands in it
+pub record Filled (leaves : ℕ) (over : List ℕ) (cost : List Float) (tree-over : List ℕ) (tree-cost : List Float) : Type 0 where
+  pub leaf : (i : ℕ) → i < length over → scoreAt tree-over tree-cost (leaves + i) ≡ scoreAt over cost i
+  pub beyond : (i : ℕ) → length over ≤ i → i < leaves → scoreAt tree-over tree-cost (leaves + i) ≡ noLeaf
+  pub inner : (node : ℕ) → 0 < node → node < leaves
+      → scoreAt tree-over tree-cost node ≡ lesserScore (scoreAt tree-over tree-cost (node * 2)) (scoreAt tree-over tree-cost (node * 2 + 1))
+
+-- ---- what the search asks of it
+
+-- the node's score is at most that of each leaf from lo up to hi
+pub record Bound (leaves : ℕ) (over : List ℕ) (cost : List Float) (node lo hi : ℕ) : Type 0 where
+  pub in-over : node < length over
+  pub in-cost : node < length cost
+  pub few : getD over node 0 ≤ suc maxIndex
+  pub fine : T (nonneg (getD cost node nan))
+  pub below : (i : ℕ) → lo ≤ i → i < hi → T (atMost (scoreAt over cost node) (scoreAt over cost (leaves + i)))
+
+-- a node, with all below it, bounds its leaves
+pub data Covers (leaves : ℕ) (over : List ℕ) (cost : List Float) : ℕ → ℕ → ℕ → Type 0 where
+  one : {node lo hi : ℕ} → hi ≡ lo + 1 → node ≡ leaves + lo → Bound leaves over cost node lo hi → Covers leaves over cost node lo hi
+  two : {node lo hi : ℕ} → lo + 1 < hi → Bound leaves over cost node lo hi → Covers leaves over cost (node * 2) lo (lo + (hi - lo) / 2)
+      → Covers leaves over cost (node * 2 + 1) (lo + (hi - lo) / 2) hi → Covers leaves over cost node lo hi
