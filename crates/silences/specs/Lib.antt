@@ -1,2 +1,3 @@
 pub mod Silences
 pub mod SilencesLaws
+pub mod Trials

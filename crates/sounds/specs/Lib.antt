@@ -14,4 +14,3 @@ pub mod SilencesLaws
 pub mod SilencesWalks
 pub mod Quiet
 pub mod QuietLaws
-pub mod Trials
