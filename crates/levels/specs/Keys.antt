@@ -1,11 +1,12 @@
 -- The order of frame values is `f32::total_cmp`'s: IEEE's total order of bit patterns. A value's key is its place there, so -0 comes before +0.
 use mathlib.Core.Path.{_≡_}
-use mathlib.Core.Bool.{Bool, cond}
+use mathlib.Core.Bool.{Bool, not, cond}
 use mathlib.Core.List.{List, [], _∷_, _++_, map}
 use Prim.Native.Nat.{ℕ, _+_, _-_}
 use lib.Dec.{ltb, eqb}
 use lib.Ieee.{Float, binary32, toBits, ofBits}
 use lib.ListN.{length, drop}
+use Rattle.basics.specs.Lists.{allOf}
 use Rattle.grid.specs.Values.{isFinite}
 
 -- the place of a bit pattern: those with the sign clear rise from 2^31 on, those with it set fall to 0
@@ -33,6 +34,14 @@ unfoldable pub kept : List Float → List ℕ → List Float
 kept [] flags = []
 kept (v ∷ vs) [] = []
 kept (v ∷ vs) (f ∷ fs) = cond (eqb f 0) (v ∷ kept vs fs) (kept vs fs)
+
+-- a frame has no signal
+unfoldable pub isLost : ℕ → Bool
+isLost flag = not (eqb flag 0)
+
+-- any frame has signal
+unfoldable pub anySignal : List ℕ → Bool
+anySignal flags = not (allOf isLost flags)
 
 -- the list with the keys of the kept values in front
 unfoldable pub collected : List Float → List ℕ → List ℕ → List ℕ

@@ -1,7 +1,7 @@
 -- A value comes back from its key, and collecting one frame after another gives the keys of the kept values.
 use mathlib.Core.Path.{_≡_, refl, sym, ap, _∙_}
 use mathlib.Core.Logic.{inl, inr}
-use mathlib.Core.Bool.{Bool, true, false, cond}
+use mathlib.Core.Bool.{Bool, true, false, not, cond, _&&_}
 use mathlib.Core.List.{List, [], _∷_, _++_, map, map-append, append-assoc, append-nil}
 use Prim.Native.Nat.{ℕ, suc, _+_, _-_, _≤_, _<_}
 use native.Mathlib.Nat.{not-suc-le-zero}
@@ -18,7 +18,7 @@ use Rattle.basics.specs.Lists.{allOf}
 use Rattle.basics.specs.Elements.{all-parts}
 use Rattle.grid.specs.Values.{isFinite}
 use Rattle.grid.specs.ValuesLaws.{value-number}
-use Rattle.levels.specs.Keys.{placeOf, patternOf, keyOf, valueOf, isKey, kept, collected, Collected}
+use Rattle.levels.specs.Keys.{placeOf, patternOf, keyOf, valueOf, isKey, kept, isLost, anySignal, collected, Collected}
 
 -- ---- keys
 
@@ -154,6 +154,45 @@ module _ (values : List Float) (flags keys₀ : List ℕ) (end : ℕ) where
       record { count = m; list = rw (← m) (rw (v, w) at h) }
 
 -- ---- what the values pass
+
+none-kept : (vs : List Float) (fs : List ℕ) → allOf isLost fs ≡ true → length (kept vs fs) ≡ 0
+unfolding kept allOf isLost
+none-kept [] fs h = refl
+none-kept (v ∷ vs) [] h = refl
+none-kept (v ∷ vs) (f ∷ fs) h = go (eqb f 0) h (none-kept vs fs)
+  where
+    go : (b : Bool) → (not b && allOf isLost fs) ≡ true → (allOf isLost fs ≡ true → length (kept vs fs) ≡ 0) → length (cond b (v ∷ kept vs fs) (kept vs fs)) ≡ 0
+    go true e k = absurd (holds e)
+    go false e k = k e
+
+some-kept : (vs : List Float) (fs : List ℕ) → length fs ≡ length vs → allOf isLost fs ≡ false → 0 < length (kept vs fs)
+unfolding kept allOf isLost
+some-kept [] [] e h = absurd (holds (sym h))
+some-kept [] (f ∷ fs) e h = absurd (not-suc-le-zero {n = 0} (omega arith))
+some-kept (v ∷ vs) [] e h = absurd (not-suc-le-zero {n = 0} (omega arith))
+some-kept (v ∷ vs) (f ∷ fs) e h = go (eqb f 0) h (some-kept vs fs (omega arith))
+  where
+    go : (b : Bool) → (not b && allOf isLost fs) ≡ false → (allOf isLost fs ≡ false → 0 < length (kept vs fs)) → 0 < length (cond b (v ∷ kept vs fs) (kept vs fs))
+    go true d k = omega arith
+    go false d k = k d
+
+-- no frame has signal: no value is kept
+pub signal-none : (values : List Float) (flags : List ℕ) → anySignal flags ≡ false → length (kept values flags) ≡ 0
+unfolding anySignal
+signal-none values flags h = go (allOf isLost flags) refl h
+  where
+    go : (b : Bool) → allOf isLost flags ≡ b → not b ≡ false → length (kept values flags) ≡ 0
+    go true e d = none-kept values flags e
+    go false e d = absurd (holds (sym d))
+
+-- a frame has signal: a value is kept
+pub signal-some : (values : List Float) (flags : List ℕ) → length flags ≡ length values → anySignal flags ≡ true → 0 < length (kept values flags)
+unfolding anySignal
+signal-some values flags l h = go (allOf isLost flags) refl h
+  where
+    go : (b : Bool) → allOf isLost flags ≡ b → not b ≡ true → 0 < length (kept values flags)
+    go true e d = absurd (holds d)
+    go false e d = some-kept values flags l e
 
 -- a test that every value passes is passed by every kept one
 pub kept-all : (test : Float → Bool) (values : List Float) (flags : List ℕ) → allOf test values ≡ true → allOf test (kept values flags) ≡ true

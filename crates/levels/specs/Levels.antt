@@ -5,6 +5,7 @@ use lib.Ieee.{Float}
 use Rattle.grid.specs.declared.validate.Domain.{Domain}
 use Rattle.levels.specs.declared.threshold.Threshold.{Threshold}
 use Rattle.levels.specs.declared.threshold.Levels.{Levels}
+use Rattle.levels.specs.declared.threshold.Thresholds.{Thresholds}
 use Rattle.levels.specs.Keys.{kept}
 use Rattle.levels.specs.Percentile.{percentileOf}
 use Rattle.levels.specs.Threshold.{noSignal, resolveOf}
@@ -17,3 +18,8 @@ levelsOver domain threshold (v ∷ vs) = resolveOf domain threshold (percentileO
 -- the levels of a recording's values and flags
 unfoldable pub levelsOf : Domain → Threshold → List Float → List ℕ → Levels
 levelsOf domain threshold values flags = levelsOver domain threshold (kept values flags)
+
+-- its thresholds alone
+unfoldable pub thresholdsOf : Domain → Threshold → List Float → List ℕ → Thresholds
+thresholdsOf domain threshold values flags =
+    record { on = levelsOf domain threshold values flags .on; off = levelsOf domain threshold values flags .off }

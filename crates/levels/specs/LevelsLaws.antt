@@ -16,13 +16,14 @@ use Rattle.grid.specs.Values.{isFinite}
 use Rattle.grid.specs.declared.validate.Domain.{Domain}
 use Rattle.levels.specs.declared.threshold.Threshold.{Threshold}
 use Rattle.levels.specs.declared.threshold.Levels.{Levels}
-use Rattle.levels.specs.Keys.{kept}
-use Rattle.levels.specs.KeysLaws.{kept-all, kept-same-length}
+use Rattle.levels.specs.declared.threshold.Thresholds.{Thresholds}
+use Rattle.levels.specs.Keys.{kept, anySignal}
+use Rattle.levels.specs.KeysLaws.{kept-all, kept-same-length, signal-none, signal-some}
 use Rattle.levels.specs.Percentile.{percentileOf}
 use Rattle.levels.specs.PercentileLaws.{percentile-passes}
 use Rattle.levels.specs.Threshold.{noSignal, resolveOf, thresholdOk, isFixed}
 use Rattle.levels.specs.ThresholdLaws.{resolve-floor, resolve-reference, resolve-numbers, fixed-same, fixed-order}
-use Rattle.levels.specs.Levels.{levelsOver, levelsOf}
+use Rattle.levels.specs.Levels.{levelsOver, levelsOf, thresholdsOf}
 
 -- ---- by whether there is a value
 
@@ -94,3 +95,28 @@ module _ (domain : Domain) (threshold : Threshold) where
         let f = fixed-same domain threshold (percentileOf (kept values flags) 10) (percentileOf (kept values flags) 99)
         (percentileOf (kept others flags) 10) (percentileOf (kept others flags) 99) e in
         (f .0 ∙ ap (λ (l : Levels). l .on) o, f .1 ∙ ap (λ (l : Levels). l .off) o))
+
+-- ---- the thresholds alone
+
+-- those of some levels
+abbrev pub thresholdsIn : Levels → Thresholds
+thresholdsIn l = record { on = l .on; off = l .off }
+
+module _ (domain : Domain) (threshold : Threshold) (values : List Float) (flags : List ℕ) where
+  pub thresholds-levels : (l : Levels) → l ≡ levelsOf domain threshold values flags → thresholdsIn l ≡ thresholdsOf domain threshold values flags
+  unfolding thresholdsOf
+  thresholds-levels l e = ap thresholdsIn e
+
+  -- no frame has signal
+  pub thresholds-none : (l : Levels) → l ≡ noSignal → anySignal flags ≡ false → thresholdsIn l ≡ thresholdsOf domain threshold values flags
+  unfolding levelsOf
+  thresholds-none l e h = thresholds-levels l (e ∙ over-none domain threshold (kept values flags) (signal-none values flags h))
+
+  -- fixed ones: any floor and any reference give them
+  pub thresholds-fixed : (l : Levels) (floor reference : Float) → l ≡ resolveOf domain threshold floor reference → length flags ≡ length values → isFixed domain threshold ≡ true
+      → anySignal flags ≡ true → thresholdsIn l ≡ thresholdsOf domain threshold values flags
+  unfolding thresholdsOf levelsOf
+  thresholds-fixed l floor reference e s f h =
+      let o = over-some domain threshold (kept values flags) (signal-some values flags s h) in
+      let t = fixed-same domain threshold floor reference (percentileOf (kept values flags) 10) (percentileOf (kept values flags) 99) f in
+      rw (e, ← o, t .0, t .1)

@@ -46,9 +46,13 @@ thresholdOk Auto = true
 thresholdOk (Abs v) = isFinite v
 thresholdOk (BelowRef v) = isFinite v
 
+-- the automatic thresholds do not depend on the values: those for scores
+abbrev pub fixedAuto : Domain → Bool
+fixedAuto Decibels = false
+fixedAuto Scores = true
+
 -- the thresholds do not depend on the values: absolute ones, and the automatic ones for scores
 unfoldable pub isFixed : Domain → Threshold → Bool
-isFixed Decibels Auto = false
-isFixed Scores Auto = true
+isFixed domain Auto = fixedAuto domain
 isFixed domain (Abs v) = true
 isFixed domain (BelowRef v) = false

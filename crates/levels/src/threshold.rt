@@ -2,7 +2,7 @@
 use basics::floats;
 use grid::validate::Domain;
 ghost use mathlib.Core.Path.{_≡_};
-ghost use Rattle.levels.specs.Threshold.{decibelOn, autoOf, resolveOf, noSignal};
+ghost use Rattle.levels.specs.Threshold.{decibelOn, autoOf, resolveOf, noSignal, isFixed, fixedAuto};
 
 // How the thresholds are chosen: decibels for a recording of decibels, probabilities for scores.
 pub enum Threshold {
@@ -23,6 +23,12 @@ pub struct Levels {
     // Level at which silence becomes sound.
     pub on: f32,
     // Sound ends below this level.
+    pub off: f32,
+}
+
+// The two thresholds of a recording alone.
+pub struct Thresholds {
+    pub on: f32,
     pub off: f32,
 }
 
@@ -89,5 +95,26 @@ pub fn resolve(domain: Domain, threshold: Threshold, floor: f32, reference: f32)
             on: reference - v,
             off: reference - v,
         },
+    }
+}
+
+// Whether the automatic thresholds are the same for all values.
+fn fixed_auto(domain: Domain) -> bool
+    ensures { λ r. ⌜ r ≡ fixedAuto domain ⌝ }
+{
+    match domain {
+        Domain::Decibels => false,
+        Domain::Scores => true,
+    }
+}
+
+// Whether the thresholds are the same for all values.
+pub fn is_fixed(domain: Domain, threshold: Threshold) -> bool
+    ensures { λ r. ⌜ r ≡ isFixed domain threshold ⌝ }
+{
+    match threshold {
+        Threshold::Auto => fixed_auto(domain),
+        Threshold::Abs(_) => true,
+        Threshold::BelowRef(_) => false,
     }
 }

@@ -70,12 +70,12 @@ pub fn sounds_in(r: Recording, c: SegmentConfig, values: &[f32], flags: &[u8], s
 {
     let threshold = c.threshold;
     let domain = r.domain;
-    let levels = levels::levels(domain, threshold, values, flags, sound);
+    let thresholds = levels::thresholds(domain, threshold, values, flags, sound);
     let min_sound = grid::durations::frames_in(r.frame_rate, r.hop, c.min_sound);
     let min_silence = grid::durations::frames_in(r.frame_rate, r.hop, c.min_silence);
     sounds::sounds::silences(
-        levels.on,
-        levels.off,
+        thresholds.on,
+        thresholds.off,
         min_sound as usize,
         min_silence as usize,
         values,
