@@ -64,7 +64,7 @@ pub record Sounding (on off : Float) (values : List Float) (flags : List ℕ) (e
   pub left : take i sound ++ soundsAfter on off before (drop i values) (drop i flags) ≡ hysteresis on off values flags
 
 module _ (on off : Float) where
-  after-cons : (before : ℕ) (values : List Float) (flags : List ℕ) (i : ℕ) → i < length values → i < length flags
+  pub after-cons : (before : ℕ) (values : List Float) (flags : List ℕ) (i : ℕ) → i < length values → i < length flags
       → soundsAfter on off before (drop i values) (drop i flags)
       ≡ soundAt on off before (getD values i nan) (getD flags i 0) ∷ soundsAfter on off (soundAt on off before (getD values i nan) (getD flags i 0)) (drop (suc i) values) (drop (suc i) flags)
   unfolding soundsAfter

@@ -14,3 +14,6 @@ pub mod SilencesLaws
 pub mod SilencesWalks
 pub mod Quiet
 pub mod QuietLaws
+pub mod OnePass
+pub mod OnePassLaws
+pub mod OnePassWalk

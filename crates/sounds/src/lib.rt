@@ -2,6 +2,7 @@
 // Contracts cite specs/Hysteresis, specs/Fill, specs/Sounds, specs/Silences and specs/Quiet; laws about them stand beside them.
 pub mod fill;
 pub mod hysteresis;
+pub mod one_pass;
 pub mod quiet;
 pub mod silences;
 pub mod sounds;
