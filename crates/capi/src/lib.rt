@@ -2,3 +2,4 @@
 pub mod convert;
 pub mod recording;
 pub mod silence_list;
+pub mod work;

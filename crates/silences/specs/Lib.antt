@@ -1,3 +1,4 @@
 pub mod Silences
 pub mod SilencesLaws
 pub mod Trials
+pub mod Front

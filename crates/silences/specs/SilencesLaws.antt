@@ -1,18 +1,18 @@
 -- One law for each end of the operation "silence list", under what has passed before it.
 use mathlib.Core.Path.{_≡_, refl, sym, ap, subst, _∙_}
 use mathlib.Core.Bool.{Bool, true, false, _&&_, cond}
-use mathlib.Core.List.{List, _++_}
+use mathlib.Core.List.{List}
 use Prim.Native.Nat.{ℕ, _+_, _*_, _/_, _≤_, _<_}
 use native.Mathlib.Omega.{arith}
 use lib.Dec.{T, leb, eqb, leb→le, eqb→eq}
 use lib.Ieee.{Float, binary64, ofBits}
-use lib.ListN.{length, take, drop, length-append, length-drop}
+use lib.ListN.{length, take, drop, length-take}
 use lib.Seq.{take-at}
 use borrow.Author.Tests.{le-leb, lt-leb}
 use Rattle.laws.specs.Tests.{holds, both}
 use Rattle.basics.specs.Lists.{allOf, filled}
 use Rattle.grid.specs.Limits.{maxFrameRate, maxHop, maxFrames, maxDuration}
-use Rattle.grid.specs.Durations.{InFrames}
+use Rattle.grid.specs.Durations.{InFrames, framesIn}
 use Rattle.grid.specs.Values.{isFinite}
 use Rattle.grid.specs.ValuesLaws.{values-finite}
 use Rattle.grid.specs.Validate.{validityOf, levelCount}
@@ -21,8 +21,10 @@ use Rattle.grid.specs.declared.validate.Recording.{Recording}
 use Rattle.grid.specs.declared.validate.Validity.{Validity}
 use Rattle.grid.specs.declared.validate.Validity.the-variants.{Valid, BadSampleRate, NoChannels, BadFrames, BadLists, BadValue, NotCovered}
 use Rattle.levels.specs.Threshold.{thresholdOk}
+use Rattle.levels.specs.Levels.{thresholdsOf}
+use Rattle.levels.specs.declared.threshold.Thresholds.{Thresholds}
+use Rattle.sounds.specs.Sounds.{soundsOf}
 use Rattle.sounds.specs.Silences.{silencesOf}
-use Rattle.sounds.specs.SoundsLaws.{sounds-length}
 use Rattle.silences.specs.Silences.{durationsOk, workOk, workLength, soundsIn, silencesIn, isValid, orElse, whenValid, firstRefusal, isFound, End, written, listedOf, silenceListOf}
 use Rattle.silences.specs.declared.config.SegmentConfig.{SegmentConfig}
 use Rattle.silences.specs.declared.list.Answer.{Answer}
@@ -134,8 +136,8 @@ module _ (r : Recording) (c : SegmentConfig) (values : List Float) (flags : List
       let w = step (workOk (length values) n32 n64 nf) ShortWork (Found 0) refl (t .1) in
       (ready r c values flags levels (a .0) (b .0), w .0)
 
--- a work list that is long enough has room for a flag for each frame
-pub work-room : (frames n32 n64 nf : ℕ) → workOk frames n32 n64 nf ≡ true → frames ≤ n32
+-- a work list that is long enough has room for two numbers more than frames
+pub work-room : (frames n32 n64 nf : ℕ) → workOk frames n32 n64 nf ≡ true → frames + 2 ≤ n32
 unfolding workOk
 work-room frames n32 n64 nf e =
     let p = both (leb (workLength frames) n32 && leb (workLength frames) n64) (leb (workLength frames) nf) e in
@@ -151,27 +153,36 @@ module _ (silences out work32 work64 : List ℕ) (workf : List Float) (w32 w64 :
   listed-short h = rw (lt-leb (length silences) (length out) h, e32, e64, ef)
 
   -- it has room
-  pub listed-found : (count : ℕ) (out′ : List ℕ) → length silences ≡ 2 * count → length silences ≤ length out → out′ ≡ written silences out
-      → _≡_ {A = End} (record { answer = Found count; out = out′; work32 = w32; work64 = w64; workf = wf }) (listedOf silences out work32 work64 workf)
+  pub listed-found : (n : ℕ) (out′ : List ℕ) → length silences ≡ n → n ≤ length out → out′ ≡ written silences out
+      → _≡_ {A = End} (record { answer = Found (n / 2); out = out′; work32 = w32; work64 = w64; workf = wf }) (listedOf silences out work32 work64 workf)
   unfolding listedOf
-  listed-found count out′ l h e = rw (le-leb (length silences) (length out) h, e32, e64, ef, e, halved (length silences) count l)
-    where
-      halved : (n k : ℕ) → n ≡ 2 * k → n / 2 ≡ k
-      halved n k f = omega arith
+  listed-found n out′ l h e = rw (le-leb (length silences) (length out) (omega arith), e32, e64, ef, e, ← l)
 
--- sound flags at the front of the first work list: it is as long as before
-pub listed-front : (n : ℕ) (sound work32 out work64 : List ℕ) (workf : List Float) → length sound ≡ n → n ≤ length work32
-    → listedOf (silencesOf (take n (sound ++ drop n work32))) out (sound ++ drop n work32) work64 workf ≡ listedOf (silencesOf sound) out work32 work64 workf
-unfolding listedOf filled
-listed-front n sound work32 out work64 workf e h = rw (take-at sound (drop n work32) n e, front-length)
+-- ---- the silences of a recording
+
+module _ (r : Recording) (c : SegmentConfig) (values : List Float) (flags : List ℕ) (t : Thresholds) (minSound minSilence : ℕ) (e : t ≡ thresholdsOf (r .domain) (c .threshold) values flags)
+    (f : minSound ≡ framesIn (r .«frame_rate») (r .hop) (c .«min_sound»)) (g : minSilence ≡ framesIn (r .«frame_rate») (r .hop) (c .«min_silence»))
   where
-    front-length : length (sound ++ drop n work32) ≡ length work32
-    front-length = simp (length-append, length-drop) (omega arith)
+    silences-by : silencesOf (soundsOf (t .on) (t .off) minSound minSilence values flags) ≡ silencesIn r c values flags
+    unfolding silencesIn soundsIn thresholdsOf
+    silences-by = rw (e, f, g)
 
--- the flags of a recording that is ready are one a frame
-pub sounds-in-length : (r : Recording) (c : SegmentConfig) (values : List Float) (flags : List ℕ) → Ready r c values flags → length (soundsIn r c values flags) ≡ length values
-unfolding soundsIn
-sounds-in-length r c values flags ok = sounds-length _ _ _ _ values flags (ok .flagged)
+    -- at the front of a list, by their number
+    pub silences-front : (list list₀ : List ℕ) (n : ℕ) → n ≡ length (silencesOf (soundsOf (t .on) (t .off) minSound minSilence values flags))
+        → list ≡ written (silencesOf (soundsOf (t .on) (t .off) minSound minSilence values flags)) list₀
+        → (n ≡ length (silencesIn r c values flags)) × (take n list ≡ silencesIn r c values flags)
+    silences-front list list₀ n l h =
+        let s = silencesOf (soundsOf (t .on) (t .off) minSound minSilence values flags) in
+        (l ∙ ap length silences-by, rw h (take-at s (drop (length s) list₀) n (sym l)) ∙ silences-by)
+
+-- what is in front of a list is not longer than it
+pub front-fits : (n : ℕ) (list silences : List ℕ) → n ≡ length silences → take n list ≡ silences → n ≤ length list
+front-fits n list silences l e = omega (arith, length-take n list, ap length e)
+
+-- only the length of the first work list counts, beside the silences in front of it
+pub listed-front : (silences front work32 out work64 : List ℕ) (workf : List Float) → length front ≡ length work32 → listedOf silences out front work64 workf ≡ listedOf silences out work32 work64 workf
+unfolding listedOf filled
+listed-front silences front work32 out work64 workf e = rw e
 
 -- ---- the operation
 
@@ -186,12 +197,8 @@ module _ (r : Recording) (c : SegmentConfig) (values : List Float) (flags : List
   unfolding silenceListOf
   ends-listed n = rw n
 
-  -- the sound flags at the front of the first work list, and their silences listed
-  pub ends-front : (sound : List ℕ) → sound ≡ soundsIn r c values flags → isFound (firstRefusal r c values flags levels (length work32) (length work64) (length workf)) ≡ true
-      → listedOf (silencesOf (take (length values) (sound ++ drop (length values) work32))) out (sound ++ drop (length values) work32) work64 workf ≡ silenceListOf r c values flags levels out work32 work64 workf
-  unfolding silencesIn
-  ends-front sound e n =
-      let p = found-ready r c values flags levels (length work32) (length work64) (length workf) n in
-      listed-front (length values) sound work32 out work64 workf (ap length e ∙ sounds-in-length r c values flags (p .0)) (work-room (length values) (length work32) (length work64) (length workf) (p .1))
-      ∙ ap (λ (s : List ℕ). listedOf (silencesOf s) out work32 work64 workf) e
-      ∙ ends-listed n
+  -- the silences at the front of the first work list, and handed out
+  pub ends-front : (front : List ℕ) (n : ℕ) → length front ≡ length work32 → take n front ≡ silencesIn r c values flags
+      → isFound (firstRefusal r c values flags levels (length work32) (length work64) (length workf)) ≡ true
+      → listedOf (take n front) out front work64 workf ≡ silenceListOf r c values flags levels out work32 work64 workf
+  ends-front front n l e f = listed-front (take n front) front work32 out work64 workf l ∙ ap (λ (s : List ℕ). listedOf s out work32 work64 workf) e ∙ ends-listed f

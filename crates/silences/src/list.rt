@@ -1,15 +1,15 @@
 // The operation itself.
 use crate::config;
 use crate::config::SegmentConfig;
+use crate::front;
 use grid::validate::Recording;
 use grid::validate::Validity;
 ghost use mathlib.Core.Path.{_≡_};
-ghost use Prim.Native.Nat.{_/_, _≤_};
+ghost use Prim.Native.Nat.{_+_, _≤_};
 ghost use lib.ListN.{length, take};
 ghost use lib.Ieee.{binary64, ofBits};
 ghost use Rattle.basics.specs.Lists.{filled};
-ghost use Rattle.silences.specs.Silences.{End, workOk, soundsIn, firstRefusal, isValid, isFound, listedOf, silenceListOf, numberOf};
-ghost use Rattle.sounds.specs.Silences.{silencesOf};
+ghost use Rattle.silences.specs.Silences.{End, workOk, silencesIn, firstRefusal, isValid, isFound, listedOf, silenceListOf, numberOf};
 ghost use Rattle.silences.specs.SilencesLaws.{Ready};
 
 // What the operation answers: how many silences it wrote, or why it wrote none.
@@ -62,26 +62,33 @@ pub fn clear_work(work_u32: &mut [u32], work_u64: &mut [u64], work_f64: &mut [f6
     basics::clear::clear_f64(work_f64);
 }
 
-// Leaves the sound flags of an accepted recording in a list of its length.
-pub fn sounds_in(r: Recording, c: SegmentConfig, values: &[f32], flags: &[u8], sound: &mut [u32])
+// Writes the silences of an accepted recording to the front of a list that has room for two more numbers than frames. Returns how many numbers they take.
+pub fn silences_in(
+    r: Recording,
+    c: SegmentConfig,
+    values: &[f32],
+    flags: &[u8],
+    list: &mut [u32],
+) -> usize
     requires { ⌜ Ready r c (now values) (now flags) ⌝ }
-    requires { ⌜ length (now sound) ≡ length (now values) ⌝ }
-    ensures { λ _. ⌜ now (sound .exit) ≡ soundsIn r c (now (values .entry)) (now (flags .entry)) ⌝ }
+    requires { ⌜ length (now values) + 2 ≤ length (now list) ⌝ }
+    ensures { λ n. ⌜ n ≡ length (silencesIn r c (now (values .entry)) (now (flags .entry))) ⌝ }
+    ensures { λ n. ⌜ take n (now (list .exit)) ≡ silencesIn r c (now (values .entry)) (now (flags .entry)) ⌝ }
 {
     let threshold = c.threshold;
     let domain = r.domain;
-    let thresholds = levels::thresholds(domain, threshold, values, flags, sound);
+    let thresholds = levels::thresholds(domain, threshold, values, flags, list);
     let min_sound = grid::durations::frames_in(r.frame_rate, r.hop, c.min_sound);
     let min_silence = grid::durations::frames_in(r.frame_rate, r.hop, c.min_silence);
-    sounds::sounds::silences(
+    sounds::one_pass::list_silences(
         thresholds.on,
         thresholds.off,
         min_sound as usize,
         min_silence as usize,
         values,
         flags,
-        sound,
-    );
+        list,
+    )
 }
 
 // Whether a recording was accepted.
@@ -143,8 +150,8 @@ fn is_found(a: Answer) -> bool
     }
 }
 
-// Lists the silences of sound flags that stand at the front of the first work list, and clears work memory.
-fn list_silences(
+// Hands out the numbers at the front of the first work list, two for each silence, and clears work memory.
+fn hand_out(
     n: usize,
     work_u32: &mut [u32],
     work_u64: &mut [u64],
@@ -152,17 +159,15 @@ fn list_silences(
     out: &mut [u32],
 ) -> Answer
     requires { ⌜ n ≤ length (now «work_u32») ⌝ }
-    requires { ⌜ n ≤ 1048576 ⌝ }
-    ensures { λ a. ⌜ _≡_ {A = End} (record { answer = a; out = now (out .exit); work32 = now («work_u32» .exit); work64 = now («work_u64» .exit); workf = now («work_f64» .exit) }) (listedOf (silencesOf (take n (now («work_u32» .entry)))) (now (out .entry)) (now («work_u32» .entry)) (now («work_u64» .entry)) (now («work_f64» .entry))) ⌝ }
+    ensures { λ a. ⌜ _≡_ {A = End} (record { answer = a; out = now (out .exit); work32 = now («work_u32» .exit); work64 = now («work_u64» .exit); workf = now («work_f64» .exit) }) (listedOf (take n (now («work_u32» .entry))) (now (out .entry)) (now («work_u32» .entry)) (now («work_u64» .entry)) (now («work_f64» .entry))) ⌝ }
 {
-    let count = sounds::silences::count_silences(&work_u32[..n]);
-    if out.len() < 2 * count {
+    if out.len() < n {
         clear_work(work_u32, work_u64, work_f64);
         return Answer::ShortOutput;
     }
-    sounds::silences::write_silences(&work_u32[..n], out);
+    front::put_front(&work_u32[..n], out);
     clear_work(work_u32, work_u64, work_f64);
-    Answer::Found(count)
+    Answer::Found(n / 2)
 }
 
 // The silences of a recording: for silence i its first frame at out[2 i], and the frame after its last at out[2 i + 1].
@@ -179,7 +184,6 @@ pub fn silence_list(
 ) -> Answer
     ensures { λ a. ⌜ _≡_ {A = End} (record { answer = a; out = now (out .exit); work32 = now («work_u32» .exit); work64 = now («work_u64» .exit); workf = now («work_f64» .exit) }) (silenceListOf r c (now (values .entry)) (now (flags .entry)) (now (levels .entry)) (now (out .entry)) (now («work_u32» .entry)) (now («work_u64» .entry)) (now («work_f64» .entry))) ⌝ }
 {
-    let n = values.len();
     let refusal = first_refusal(
         r,
         c,
@@ -193,6 +197,6 @@ pub fn silence_list(
     if !is_found(refusal) {
         return refusal;
     }
-    sounds_in(r, c, values, flags, &mut work_u32[..n]);
-    list_silences(n, work_u32, work_u64, work_f64, out)
+    let n = silences_in(r, c, values, flags, work_u32);
+    hand_out(n, work_u32, work_u64, work_f64, out)
 }

@@ -267,9 +267,9 @@ one-pass on off minSound minSilence values flags =
 pub gap-small : (min first end : ℕ) → first ≤ end → (length (gapOf min first end) ≤ 2) × (first + length (gapOf min first end) ≤ end + 1)
 unfolding gapOf lasts
 gap-small min first end l = elim (lt-or-le first end) [
-      | inl m ↦ go (lasts min (end - first)) m
-      | inr m ↦ (let e : end - first ≡ 0 = omega arith in rw (e, lasts-none min) (omega arith, omega arith))
-    ]
+  | inl m ↦ go (lasts min (end - first)) m
+  | inr m ↦ (let e : end - first ≡ 0 = omega arith in rw (e, lasts-none min) (omega arith, omega arith))
+]
   where
     go : (b : Bool) → first < end → (length (cond b (first ∷ (end ∷ [])) []) ≤ 2) × (first + length (cond b (first ∷ (end ∷ [])) []) ≤ end + 1)
     go true m = (omega arith, omega arith)

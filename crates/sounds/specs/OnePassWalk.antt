@@ -208,10 +208,10 @@ module _ (on off : Float) (values : List Float) (flags : List ℕ) (flagged : le
       -- what is left after the run, at the frame after its end
       passed : (l : ℕ) → silencesFrom minSound minSilence end l 0 (ahead end 1) ≡ silencesFrom minSound minSilence (nextFrame end (length values)) l 0 (ahead (nextFrame end (length values)) 0)
       passed l = elim (lt-or-le end (length values)) [
-          | inl m ↦ rw (lt-ltb end (length values) m) (ap (silencesFrom minSound minSilence end l 0) (ahead-other end 1 0 m one-other (turn-run .ended)) ∙ from-silent minSound minSilence end l 0 (ahead (suc end) 0) zero-not)
-          | inr m ↦ (let e : end ≡ length values = omega (arith, turn-run .stop) in
+        | inl m ↦ rw (lt-ltb end (length values) m) (ap (silencesFrom minSound minSilence end l 0) (ahead-other end 1 0 m one-other (turn-run .ended)) ∙ from-silent minSound minSilence end l 0 (ahead (suc end) 0) zero-not)
+        | inr m ↦ (let e : end ≡ length values = omega (arith, turn-run .stop) in
             rw (le-ltb end (length values) m, ahead-none end 1 m, ahead-none (length values) 0 (omega arith), e))
-        ]
+      ]
         where
           zero-not : _≡_ {A = ℕ} 0 1 → ⊥
           zero-not e = omega arith
@@ -268,7 +268,13 @@ module _ (on off : Float) (minSound minSilence : ℕ) (values : List Float) (fla
   pub passing-start : length flags ≡ length values → length values + 2 ≤ length out₀ → Passing on off minSound minSilence values flags out₀ out₀ 0 0 0
   unfolding hysteresis
   passing-start f r = record {
-    flagged = f; room = r; same = refl; within = omega arith; order = omega arith; front = omega arith; kept = refl;
+    flagged = f;
+    room = r;
+    same = refl;
+    within = omega arith;
+    order = omega arith;
+    front = omega arith;
+    kept = refl;
     left = one-pass on off minSound minSilence values flags;
   }
 
@@ -308,9 +314,9 @@ module _ (on off : Float) (minSound minSilence : ℕ) (values : List Float) (fla
 
       next-within : (i : ℕ) → i ≤ length values → (i ≤ nextFrame i (length values)) × (nextFrame i (length values) ≤ length values)
       next-within i l = elim (lt-or-le i (length values)) [
-          | inl m ↦ rw (lt-ltb i (length values) m) (omega arith, omega arith)
-          | inr m ↦ rw (le-ltb i (length values) m) (omega arith, omega arith)
-        ]
+        | inl m ↦ rw (lt-ltb i (length values) m) (omega arith, omega arith)
+        | inr m ↦ rw (le-ltb i (length values) m) (omega arith, omega arith)
+      ]
 
       -- the sound is too short: nothing is written
       pub passing-short : lasts minSound (end - start) ≡ false → Passing on off minSound minSilence values flags out₀ out (nextFrame end (length values)) last at
@@ -318,9 +324,13 @@ module _ (on off : Float) (minSound minSilence : ℕ) (values : List Float) (fla
           let r = turn-run on off values flags (w .flagged) from start end t in
           let n = next-within end (r .stop) in
           record {
-            flagged = w .flagged; room = w .room; same = w .same; within = n .1;
+            flagged = w .flagged;
+            room = w .room;
+            same = w .same;
+            within = n .1;
             order = omega (arith, w .order, turn-order on off values flags (w .flagged) from start end t, r .order, n .0);
-            front = w .front; kept = w .kept;
+            front = w .front;
+            kept = w .kept;
             left = ap (λ (l : List ℕ). take at out ++ l) (sym (turn-short on off values flags (w .flagged) from start end t minSound minSilence last b)) ∙ w .left;
           }
 
@@ -341,7 +351,11 @@ module _ (on off : Float) (minSound minSilence : ℕ) (values : List Float) (fla
           let l : at + length (gapOf minSilence last start) ≤ length out = omega (arith, passing-room, g .0) in
           let some = lasts-some minSound (end - start) b in
           record {
-            flagged = w .flagged; room = w .room; same = rw e (length-sets out at (gapOf minSilence last start)) ∙ w .same; within = n .1; order = n .0;
+            flagged = w .flagged;
+            room = w .room;
+            same = rw e (length-sets out at (gapOf minSilence last start)) ∙ w .same;
+            within = n .1;
+            order = n .0;
             front = omega (arith, f, w .front, g .1, some);
             kept = rw (e, f) (put-kept out out₀ (gapOf minSilence last start) at l (w .kept));
             left = rw (e, f) (put-left out (gapOf minSilence last start) (silencesFrom minSound minSilence (nextFrame end (length values)) end 0 (soundsAfter on off 0 (drop (nextFrame end (length values)) values) (drop (nextFrame end (length values)) flags))) (silencesOf (soundsOf on off minSound minSilence values flags)) at l
@@ -363,12 +377,12 @@ module _ (on off : Float) (minSound minSilence : ℕ) (values : List Float) (fla
         let g = gap-small (cond (eqb last 0) 0 minSilence) last (length values) (omega (arith, w .order)) in
         let m : at + length gap ≤ length out = omega (arith, passing-last-room, g .0) in
         let z : silencesFrom minSound minSilence from last 0 (soundsAfter on off 0 (drop from values) (drop from flags)) ≡ gap =
-            rw (ahead-none on off values flags (w .flagged) from 0 l) (from-end minSound minSilence from last ∙ ap (lastGap minSilence last) q) in
+        rw (ahead-none on off values flags (w .flagged) from 0 l) (from-end minSound minSilence from last ∙ ap (lastGap minSilence last) q) in
         let v : take at out ++ (gap ++ []) ≡ silencesOf (soundsOf on off minSound minSilence values flags) =
-            ap (λ (s : List ℕ). take at out ++ s) (append-nil gap ∙ sym z) ∙ w .left in
+        ap (λ (s : List ℕ). take at out ++ s) (append-nil gap ∙ sym z) ∙ w .left in
         let u : take at′ out′ ≡ silencesOf (soundsOf on off minSound minSilence values flags) =
-            sym (append-nil (take at′ out′)) ∙ rw (e, f) (put-left out gap [] (silencesOf (soundsOf on off minSound minSilence values flags)) at m v) in
+        sym (append-nil (take at′ out′)) ∙ rw (e, f) (put-left out gap [] (silencesOf (soundsOf on off minSound minSilence values flags)) at m v) in
         let k : drop at′ out′ ≡ drop at′ out₀ = rw (e, f) (put-kept out out₀ gap at m (w .kept)) in
         let n : at′ ≡ length (silencesOf (soundsOf on off minSound minSilence values flags)) =
-            sym (length-take-le at′ out′ (rw e (omega (arith, f, m, length-sets out at gap)))) ∙ ap length u in
+        sym (length-take-le at′ out′ (rw e (omega (arith, f, m, length-sets out at gap)))) ∙ ap length u in
         (n, sym (take-append-drop at′ out′) ∙ rw (u, k, n) refl)

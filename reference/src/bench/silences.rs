@@ -2,16 +2,18 @@
 //! already stands.
 //!
 //! The operation also tests the recording and clears its work lists, three of 16 × (frames + 1)
-//! entries, whatever it used of them; the Rust does neither. The line `without clearing` has the
-//! time of a plain `fill` of the same three lists taken off our side: an estimate of all but the
-//! clearing. Few frames are asked many times, and the times are of all the calls.
+//! entries, whatever it used of them; the Rust does neither. The line `clearing` has the port's own
+//! clearing of the same lists, called by itself, beside the machine's fill of them. The line
+//! `without clearing` has the best time of that clearing taken off the best of the operation. The
+//! line `growth` compares what is left for two sizes. Few frames are asked many times, and the times
+//! are of all the calls.
 
 use std::hint::black_box;
-use std::time::Duration;
+use std::time::{Duration, Instant};
 
 use silence_split::segment::hook_silence_runs;
 
-use super::{line, measure};
+use super::{ENOUGH, RUNS, line, time};
 use crate::case::Case;
 use crate::domain::MOST_FRAMES;
 use crate::ours::{self, Work};
@@ -21,6 +23,9 @@ use crate::silence_job::{Job, Settings};
 
 /// Frames asked for in a case at least, by as many calls as that takes.
 const ASKED: u64 = 131_072;
+
+/// The smaller size of the growth.
+const GROWN_FROM: u64 = 65_536;
 
 /// Frame values by their kind.
 type Make = fn(&mut Rng, &mut Case);
@@ -34,11 +39,27 @@ const KINDS: [(&str, Make); 5] = [
 ];
 
 pub fn run() {
-    for frames in [1_000, 65_536, MOST_FRAMES] {
+    for (i, (kind, make)) in KINDS.iter().enumerate() {
         // The first two kinds show the growth, all of them the largest size.
-        let kinds = if frames == MOST_FRAMES { 5 } else { 2 };
-        for (kind, make) in &KINDS[..kinds] {
-            both(&format!("silences_{kind}_{frames}"), &job(frames, *make));
+        let sizes: &[u64] = if i < 2 {
+            &[1_000, GROWN_FROM, MOST_FRAMES]
+        } else {
+            &[MOST_FRAMES]
+        };
+        let mut from = None;
+        for &frames in sizes {
+            let left = both(&format!("silences_{kind}_{frames}"), &job(frames, *make));
+            let each = left.as_nanos() as f64 / frames.max(ASKED) as f64;
+            match (frames, from) {
+                (GROWN_FROM, _) => from = Some(each),
+                (MOST_FRAMES, Some(before)) => {
+                    let growth = each / before;
+                    println!(
+                        "bench silences_{kind} growth from {GROWN_FROM} to {MOST_FRAMES} frames: {growth:.2} of linear"
+                    );
+                }
+                _ => {}
+            }
         }
     }
 }
@@ -99,7 +120,8 @@ fn alternating(_: &mut Rng, case: &mut Case) {
     }
 }
 
-fn both(name: &str, job: &Job) {
+/// Prints the case's lines. Returns our best time without the clearing.
+fn both(name: &str, job: &Job) -> Duration {
     let frames = job.case.values.len();
     let calls = ASKED.div_ceil(frames as u64);
     let (analysis, config) = (
@@ -109,26 +131,30 @@ fn both(name: &str, job: &Job) {
     let mut lists = Lists::new(frames);
     // A refusal would be quick and would say nothing.
     assert_eq!(lists.ask(job), 0, "{name}: accepted by the Rust");
-    let (ours, rust) = measure(
-        || {
-            for _ in 0..calls {
-                black_box(lists.ask(black_box(job)));
-            }
-        },
-        || {
-            for _ in 0..calls {
-                black_box(hook_silence_runs(black_box(&analysis), &config));
-            }
-        },
-    );
-    let (clearing, _) = measure(|| (0..calls).for_each(|_| lists.clear()), || {});
+    let [mut ours, mut rust, mut clearing, mut fill] = [Duration::MAX; 4];
+    let start = Instant::now();
+    // In turn, so that all meet the same disturbances.
+    for _ in 0..RUNS {
+        let each = || 0..calls;
+        ours = ours.min(time(&mut || {
+            each().for_each(|_| _ = black_box(lists.ask(black_box(job))))
+        }));
+        clearing = clearing.min(time(&mut || each().for_each(|_| lists.clear())));
+        fill = fill.min(time(&mut || each().for_each(|_| lists.fill())));
+        rust = rust.min(time(&mut || {
+            each().for_each(|_| _ = black_box(hook_silence_runs(black_box(&analysis), &config)))
+        }));
+        if start.elapsed() > ENOUGH {
+            break;
+        }
+    }
     line(name, ours, rust);
-    let name = format!("{name} without clearing");
-    line(
-        &name,
-        ours.saturating_sub(clearing).max(Duration::from_nanos(1)),
-        rust,
-    );
+    let (x, y) = (clearing.as_nanos(), fill.as_nanos());
+    let ratio = x as f64 / y as f64;
+    println!("bench {name} clearing: ours {x} ns, the machine's fill {y} ns, ratio {ratio:.2}");
+    let left = ours.saturating_sub(clearing).max(Duration::from_nanos(1));
+    line(&format!("{name} without clearing"), left, rust);
+    left
 }
 
 struct Lists {
@@ -151,25 +177,29 @@ impl Lists {
     }
 
     fn ask(&mut self, job: &Job) -> u32 {
+        let (work, out) = self.work();
+        let mut count = 0;
+        ours::silences::list(&job.case.lent(), &job.settings, work, out, &mut count)
+    }
+
+    fn clear(&mut self) {
+        ours::silences::clear(self.work().0);
+        black_box(&mut *self);
+    }
+
+    fn fill(&mut self) {
+        self.u32s.fill(0);
+        self.u64s.fill(0);
+        self.f64s.fill(0.0);
+        black_box(&mut *self);
+    }
+
+    fn work(&mut self) -> (Work<'_>, &mut [u32]) {
         let work = Work {
             u32s: &mut self.u32s,
             u64s: &mut self.u64s,
             f64s: &mut self.f64s,
         };
-        let mut count = 0;
-        ours::silences::list(
-            &job.case.lent(),
-            &job.settings,
-            work,
-            &mut self.out,
-            &mut count,
-        )
-    }
-
-    fn clear(&mut self) {
-        self.u32s.fill(0);
-        self.u64s.fill(0);
-        self.f64s.fill(0.0);
-        black_box(&mut *self);
+        (work, &mut self.out)
     }
 }

@@ -33,6 +33,29 @@ unsafe extern "C" {
         out_len: usize,
         count: *mut u64,
     ) -> u32;
+    fn buchawzer_clear_work(
+        work_u32: *mut u32,
+        work_u32_len: usize,
+        work_u64: *mut u64,
+        work_u64_len: usize,
+        work_f64: *mut f64,
+        work_f64_len: usize,
+    );
+}
+
+/// Clears work memory, as the operation does it at its end.
+pub fn clear(work: Work<'_>) {
+    // SAFETY: as below.
+    unsafe {
+        buchawzer_clear_work(
+            work.u32s.as_mut_ptr(),
+            work.u32s.len(),
+            work.u64s.as_mut_ptr(),
+            work.u64s.len(),
+            work.f64s.as_mut_ptr(),
+            work.f64s.len(),
+        );
+    }
 }
 
 /// Document 01's refusal, or 0 with the silences in `out` and their number in `count`.

@@ -1,13 +1,10 @@
--- A refusal touches nothing; else the sound flags stand at the front of the first work list, which keeps its length.
-use lib.Seq.{length-take-le}
+-- A refusal touches nothing; else the silences stand at the front of the first work list, which keeps its length, and are handed out.
 use borrow.Author.Tests.{not-true, not-false}
 use borrow.Author.Needs.{needs}
-use native.Mathlib.Omega.{arith}
 use mathlib.Core.Path.{_≡_, sym, ap, _∙_}
-use Prim.Native.Nat.{_≤_}
-use lib.ListN.{length, length-append, length-drop}
+use lib.ListN.{length}
 use Rattle.silences.specs.Silences.{isFound}
-use Rattle.silences.specs.SilencesLaws.{found-ready, work-room, sounds-in-length, ends-refused, ends-front}
+use Rattle.silences.specs.SilencesLaws.{found-ready, work-room, front-fits, ends-refused, ends-front}
 use Rattle.silences.proofs.list.silence_list.Statement.{statement}
 use Rattle.silences.proofs.list.silence_list.Tie as tie
 
@@ -22,31 +19,14 @@ returns c =
     let s = c .before .before .before .before .before .before .before .before .before .before in
     ends-refused (s .args .r) (s .args .c) (s .args .values .now) (s .args .flags .now) (s .args .levels .now) (s .args .out .now) (s .args .work-u32 .now) (s .args .work-u64 .now) (s .args .work-f64 .now) (c .before .before .first-refusal .result) (c .before .before .first-refusal .ensures) (sym (c .before .is-found .ensures) ∙ not-true (c .before .is-found .result) (c .if1 .taken))
 
-slice-relend-prefix-sounds-in : tie.Need-slice-relend-prefix-sounds-in
-slice-relend-prefix-sounds-in c =
-    let s = c .before .before .before .before .before .before .before .before .before .before in
-    let p = found-ready (s .args .r) (s .args .c) (s .args .values .now) (s .args .flags .now) (s .args .levels .now) (length (s .args .work-u32 .now)) (length (s .args .work-u64 .now)) (length (s .args .work-f64 .now)) (sym (ap isFound (c .before .before .first-refusal .ensures)) ∙ sym (c .before .is-found .ensures) ∙ not-false (c .before .is-found .result) (c .if1 .left)) in
-    work-room (length (s .args .values .now)) (length (s .args .work-u32 .now)) (length (s .args .work-u64 .now)) (length (s .args .work-f64 .now)) (p .1)
-
-slice-aggregate-sounds-in : tie.Need-slice-aggregate-sounds-in
-slice-aggregate-sounds-in c =
+silences-in-requires : tie.Need-silences-in-requires
+silences-in-requires c κs =
     let s = c .before .before .before .before .before .before .before .before .before .before .before in
     let p = found-ready (s .args .r) (s .args .c) (s .args .values .now) (s .args .flags .now) (s .args .levels .now) (length (s .args .work-u32 .now)) (length (s .args .work-u64 .now)) (length (s .args .work-f64 .now)) (sym (ap isFound (c .before .before .before .first-refusal .ensures)) ∙ sym (c .before .before .is-found .ensures) ∙ not-false (c .before .before .is-found .result) (c .before .if1 .left)) in
-    sym (length-take-le (length (s .args .values .now)) (s .args .work-u32 .now) (work-room (length (s .args .values .now)) (length (s .args .work-u32 .now)) (length (s .args .work-u64 .now)) (length (s .args .work-f64 .now)) (p .1)))
+    (p .0, work-room (length (s .args .values .now)) (length (s .args .work-u32 .now)) (length (s .args .work-u64 .now)) (length (s .args .work-f64 .now)) (p .1))
 
-sounds-in-requires : tie.Need-sounds-in-requires
-sounds-in-requires c κs =
-    let s = c .before .before .before .before .before .before .before .before .before .before .before in
-    let p = found-ready (s .args .r) (s .args .c) (s .args .values .now) (s .args .flags .now) (s .args .levels .now) (length (s .args .work-u32 .now)) (length (s .args .work-u64 .now)) (length (s .args .work-f64 .now)) (sym (ap isFound (c .before .before .before .first-refusal .ensures)) ∙ sym (c .before .before .is-found .ensures) ∙ not-false (c .before .before .is-found .result) (c .before .if1 .left)) in
-    (p .0, length-take-le (length (s .args .values .now)) (s .args .work-u32 .now) (work-room (length (s .args .values .now)) (length (s .args .work-u32 .now)) (length (s .args .work-u64 .now)) (length (s .args .work-f64 .now)) (p .1)))
-
-list-silences-requires : tie.Need-list-silences-requires
-list-silences-requires c κs =
-    let s = c .before .before .before .before .before .before .before .before .before .before .before .before .before .before .before .before .before .before in
-    let p = found-ready (s .args .r) (s .args .c) (s .args .values .now) (s .args .flags .now) (s .args .levels .now) (length (s .args .work-u32 .now)) (length (s .args .work-u64 .now)) (length (s .args .work-f64 .now)) (sym (ap isFound (c .before .before .before .before .before .before .before .before .before .before .first-refusal .ensures)) ∙ sym (c .before .before .before .before .before .before .before .before .before .is-found .ensures) ∙ not-false (c .before .before .before .before .before .before .before .before .before .is-found .result) (c .before .before .before .before .before .before .before .before .if1 .left)) in
-    let l : length (s .args .values .now) ≤ length (s .args .work-u32 .now) = work-room (length (s .args .values .now)) (length (s .args .work-u32 .now)) (length (s .args .work-u64 .now)) (length (s .args .work-f64 .now)) (p .1) in
-    let e : length (c .before .before .before .before .before .before .sounds-in .last .1 .1 .1 .1 .0) ≡ length (s .args .values .now) = ap length (c .before .before .before .before .before .before .sounds-in .ensures) ∙ sounds-in-length (s .args .r) (s .args .c) (s .args .values .now) (s .args .flags .now) (p .0) in
-    (simp (length-append, length-drop) (omega arith), p .0 .few)
+hand-out-requires : tie.Need-hand-out-requires
+hand-out-requires c κs = front-fits (c .before .before .before .before .before .before .silences-in .result) (c .before .before .before .before .before .before .silences-in .last .1 .1 .1 .1 .0) _ (c .before .before .before .before .before .before .silences-in .ensures .0) (c .before .before .before .before .before .before .silences-in .ensures .1)
 
 same-length : tie.Need-same-length
 same-length c = search needs
@@ -63,7 +43,9 @@ same-length-4 c = search needs
 returns-2 : tie.Need-returns-2
 returns-2 c =
     let s = c .before .before .before .before .before .before .before .before .before .before .before .before .before .before .before .before .before .before .before .before .before .before .before .before .before .before .before in
-    c .before .before .before .before .before .before .before .before .list-silences .ensures ∙ ends-front (s .args .r) (s .args .c) (s .args .values .now) (s .args .flags .now) (s .args .levels .now) (s .args .out .now) (s .args .work-u32 .now) (s .args .work-u64 .now) (s .args .work-f64 .now) (c .before .before .before .before .before .before .before .before .before .before .before .before .before .before .before .sounds-in .last .1 .1 .1 .1 .0) (c .before .before .before .before .before .before .before .before .before .before .before .before .before .before .before .sounds-in .ensures) (sym (ap isFound (c .before .before .before .before .before .before .before .before .before .before .before .before .before .before .before .before .before .before .before .first-refusal .ensures)) ∙ sym (c .before .before .before .before .before .before .before .before .before .before .before .before .before .before .before .before .before .before .is-found .ensures) ∙ not-false (c .before .before .before .before .before .before .before .before .before .before .before .before .before .before .before .before .before .before .is-found .result) (c .before .before .before .before .before .before .before .before .before .before .before .before .before .before .before .before .before .if1 .left))
+    let front = c .before .before .before .before .before .before .before .before .before .before .before .before .before .before .before .silences-in .last .1 .1 .1 .1 .0 in
+    let same : length (c .before .before .before .before .before .before .before .before .before .before .before .before .before .before .before .silences-in .last .1 .1 .1 .1 .0) ≡ length (s .args .work-u32 .now) = search needs in
+    c .before .before .before .before .before .before .before .before .hand-out .ensures ∙ ends-front (s .args .r) (s .args .c) (s .args .values .now) (s .args .flags .now) (s .args .levels .now) (s .args .out .now) (s .args .work-u32 .now) (s .args .work-u64 .now) (s .args .work-f64 .now) front (c .before .before .before .before .before .before .before .before .before .before .before .before .before .before .before .silences-in .result) same (c .before .before .before .before .before .before .before .before .before .before .before .before .before .before .before .silences-in .ensures .1) (sym (ap isFound (c .before .before .before .before .before .before .before .before .before .before .before .before .before .before .before .before .before .before .before .first-refusal .ensures)) ∙ sym (c .before .before .before .before .before .before .before .before .before .before .before .before .before .before .before .before .before .before .is-found .ensures) ∙ not-false (c .before .before .before .before .before .before .before .before .before .before .before .before .before .before .before .before .before .before .is-found .result) (c .before .before .before .before .before .before .before .before .before .before .before .before .before .before .before .before .before .if1 .left))
 
 pub silence-list-spec : {M : Type 1} → statement M
 silence-list-spec =
@@ -72,10 +54,8 @@ silence-list-spec =
     first-refusal-requires
     is-found-requires
     returns
-    slice-relend-prefix-sounds-in
-    slice-aggregate-sounds-in
-    sounds-in-requires
-    list-silences-requires
+    silences-in-requires
+    hand-out-requires
     same-length
     same-length-2
     same-length-3
