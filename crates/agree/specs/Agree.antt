@@ -11,7 +11,7 @@ use lib.Dec.{T, not-T, ltb, eqb, eqb→eq}
 use lib.Ieee.{Float, nan}
 use lib.ListN.{length, getD}
 use Rattle.laws.specs.Tests.{or-l, or-split}
-use Rattle.pieces.specs.Pieces.{pieceLength, noScore, withPiece, atMost, withCut}
+use Rattle.pieces.specs.Pieces.{pieceLength, isWithin, withPiece, withCutAt, arrival, scoreAt, atMost}
 use Rattle.pieces.specs.Domain.{Candidates}
 use Rattle.pieces.specs.declared.lengths.Lengths.{Lengths}
 use Rattle.pieces.specs.declared.score.Score.{Score}
@@ -25,8 +25,6 @@ use Rattle.path.specs.PredecessorLaws.{within-yes, within-is, start-next}
 use Rattle.path.specs.ByCount.{bestWith, parentWith}
 use Rattle.search.specs.declared.best.Best.{Best}
 use Rattle.search.specs.Least.{entry, pickBest, leastOf}
-use Rattle.search.specs.Starts.{scoreAt}
-use Rattle.search.specs.Tree.{pickScore}
 use Rattle.rows.specs.First.{firstStart}
 use Rattle.rows.specs.FirstLaws.{first-start-high, first-start-over, first-start-within}
 use Rattle.rows.specs.Rows as rows
@@ -59,21 +57,12 @@ all-pass test score (suc n) from f =
     go true h = pick-found (atMost (score from) (leastOf score (suc from) n .score)) (entry score from) (leastOf score (suc from) n)
     go false h = absurd h
 
--- the cut at a candidate is the same
-pub cut-agrees : (cut : List Float) (j : ℕ) (s : Score) → rows.withCutAt cut j s ≡ paths.withCutAt cut j s
-unfolding rows.withCutAt paths.withCutAt
-cut-agrees cut j s = go (ltb (suc j) (length cut))
-  where
-    go : (t : Bool) → pickScore t (withCut s (getD cut j nan)) s ≡ cond t (withCut s (getD cut j nan)) s
-    go true = refl
-    go false = refl
-
 -- what may start: nothing before the first start, and all from it on
 module _ (limit : ℕ) (left right : List ℕ) (ok : Candidates left right) (j : ℕ) (in-list : j < length left) where
   none-before : (i : ℕ) → i < firstStart limit left right j → T (not (paths.mayStart limit left right j i))
   unfolding paths.mayStart
-  none-before i h = not-T (paths.isWithin limit left right j i || eqb (suc i) j) (λ (t : T (paths.isWithin limit left right j i || eqb (suc i) j)).
-      elim (or-split (paths.isWithin limit left right j i) (eqb (suc i) j) t) [
+  none-before i h = not-T (isWithin limit left right j i || eqb (suc i) j) (λ (t : T (isWithin limit left right j i || eqb (suc i) j)).
+      elim (or-split (isWithin limit left right j i) (eqb (suc i) j) t) [
         | inl w ↦ not-le-of-lt (first-start-over limit left right j i h) (within-is limit left right j i w)
         | inr e ↦ let q : suc i ≡ j = eqb→eq (suc i) j e in omega (arith, first-start-high limit left right j)
       ])
@@ -81,7 +70,7 @@ module _ (limit : ℕ) (left right : List ℕ) (ok : Candidates left right) (j :
   all-after : (i : ℕ) → firstStart limit left right j ≤ i → i < j → T (paths.mayStart limit left right j i)
   unfolding paths.mayStart
   all-after i h g = elim (first-start-within limit left right ok j i in-list h g) [
-    | inl w ↦ or-l (paths.isWithin limit left right j i) (eqb (suc i) j) (within-yes limit left right j i w)
+    | inl w ↦ or-l (isWithin limit left right j i) (eqb (suc i) j) (within-yes limit left right j i w)
     | inr e ↦ start-next limit left right j i e
   ]
 
@@ -92,7 +81,7 @@ module _ (l : Lengths) (left right : List ℕ) (ok : Candidates left right) wher
   unfolding table.predecessorOf rows.predecessorOf
   predecessor-agrees own k j h g =
       let test = paths.mayStart (l .limit) left right j in
-      let score = paths.arrival l left right own j in
+      let score = arrival l left right own j in
       let from = startOf (l .limit) left right (suc k) j in
       let below : from < j = start-below l left right (suc k) j (omega arith) h in
       let e : j - from ≡ suc (j - suc from) = omega arith in
@@ -104,8 +93,8 @@ module _ (l : Lengths) (left right : List ℕ) (ok : Candidates left right) wher
       → table.predecessorOf l left right own k j ≡ table.predecessorOf l left right own' k j
   unfolding table.predecessorOf
   predecessor-looks own own' k j f =
-      least-same (paths.mayStart (l .limit) left right j) (paths.mayStart (l .limit) left right j) (paths.arrival l left right own j)
-      (paths.arrival l left right own' j) k j (λ i a b. refl) (λ i a b. ap (λ (s : Score). withPiece l s (pieceLength left right i j)) (f i a b))
+      least-same (paths.mayStart (l .limit) left right j) (paths.mayStart (l .limit) left right j) (arrival l left right own j)
+      (arrival l left right own' j) k j (λ i a b. refl) (λ i a b. ap (λ (s : Score). withPiece l s (pieceLength left right i j)) (f i a b))
 
 -- ---- the rows
 
@@ -114,7 +103,7 @@ module _ {l : Lengths} {left right : List ℕ} {cut : List Float} (ok : Candidat
   pub first-row-agrees : {over : List ℕ} {cost : List Float} {row : List ℕ} {n : ℕ} → FirstRow l left right cut over cost row n → (j : ℕ) → 0 < j → j < n
       → (scoreAt over cost j ≡ bestWith l left right cut 1 j) × (getD row j 0 ≡ parentWith l left right cut 1 j)
   unfolding bestWith parentWith
-  first-row-agrees x j p h = (x .score j p h ∙ cut-agrees cut j (withPiece l noScore (pieceLength left right 0 j)), x .parent j h)
+  first-row-agrees x j p h = (x .score j p h, x .parent j h)
 
   -- and so is each next one, where the row before is
   pub next-row-agrees : {k : ℕ} {over₀ over : List ℕ} {cost₀ cost : List Float} {row₀ row : List ℕ}
@@ -127,6 +116,6 @@ module _ {l : Lengths} {left right : List ℕ} {cut : List Float} (ok : Candidat
       let e : found b ≡ table.predecessorOf l left right (bestWith l left right cut (suc k)) (suc k) j =
       sym (predecessor-agrees l left right ok (scoreAt over₀ cost₀) (suc k) j h g)
       ∙ predecessor-looks l left right ok (scoreAt over₀ cost₀) (bestWith l left right cut (suc k)) (suc k) j (λ i a m. f i a (omega arith)) in (
-        x .score j h g ∙ cut-agrees cut j (b .score) ∙ ap (λ (z : Found). paths.withCutAt cut j (foundScore z)) e,
+        x .score j h g ∙ ap (λ (z : Found). withCutAt cut j (foundScore z)) e,
         x .parent j h g ∙ ap foundIndex e,
       )

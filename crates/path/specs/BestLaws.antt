@@ -8,13 +8,13 @@ use native.Mathlib.Omega.{arith}
 use lib.Dec.{T}
 use lib.Ieee.{Float}
 use lib.ListN.{length}
-use Rattle.pieces.specs.Pieces.{pieceLength, noScore, withPiece, atMost}
+use Rattle.pieces.specs.Pieces.{pieceLength, noScore, withPiece, atMost, arrival}
 use Rattle.pieces.specs.Domain.{Lent}
-use Rattle.pieces.specs.DomainLaws.{at-most-refl, at-most-trans, piece-bounded, piece-nonneg, piece-keeps}
+use Rattle.pieces.specs.DomainLaws.{at-most-refl, at-most-trans, piece-bounded, piece-nonneg, piece-keeps, cut-at-keeps}
 use Rattle.pieces.specs.declared.lengths.Lengths.{Lengths}
 use Rattle.pieces.specs.declared.score.Score.{Score}
-use Rattle.path.specs.Paths.{Allowed, Run, Path, step, scoreFrom, pathScore, arrival, Chosen}
-use Rattle.path.specs.PathsLaws.{path-more, path-score-more, cut-at-keeps}
+use Rattle.path.specs.Paths.{Allowed, Run, Path, step, scoreFrom, pathScore, Chosen}
+use Rattle.path.specs.PathsLaws.{path-more, path-score-more}
 use Rattle.path.specs.Table.{bestScore, parentOf, wayTo, Falling}
 use Rattle.path.specs.TableLaws.{best-first, best-nonneg, best-step, best-least, parent-chosen, parent-below}
 use Rattle.path.specs.WayLaws.{way-first, way-step}

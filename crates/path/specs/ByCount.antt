@@ -7,11 +7,11 @@ use Prim.Native.Nat.{ℕ, zero, suc, _≤_, _<_}
 use lib.Dec.{T}
 use lib.Ieee.{Float}
 use lib.ListN.{length}
-use Rattle.pieces.specs.Pieces.{pieceLength, noScore, withPiece, atMost}
+use Rattle.pieces.specs.Pieces.{pieceLength, noScore, withPiece, atMost, arrival, withCutAt}
 use Rattle.pieces.specs.declared.lengths.Lengths.{Lengths}
 use Rattle.pieces.specs.declared.score.Score.{Score}
 use Rattle.path.specs.Least.{foundScore, foundIndex, LowestLeast}
-use Rattle.path.specs.Paths.{mayStart, PathWith, piecesOf, lastOf, withCutAt, pathScore, arrival}
+use Rattle.path.specs.Paths.{mayStart, PathWith, piecesOf, lastOf, pathScore}
 use Rattle.path.specs.Table.{predecessorOf}
 
 module _ (l : Lengths) (left right : List ℕ) (cut : List Float) where

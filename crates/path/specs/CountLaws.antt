@@ -9,17 +9,17 @@ use lib.Dec.{T}
 use lib.Ieee.{Float}
 use lib.ListN.{length, length-append}
 use Rattle.laws.specs.Nonneg.{nonneg, nought-nonneg}
-use Rattle.pieces.specs.Pieces.{pieceLength, noScore, withPiece, atMost}
+use Rattle.pieces.specs.Pieces.{pieceLength, noScore, withPiece, atMost, arrival, withCutAt}
 use Rattle.pieces.specs.Domain.{Lent}
-use Rattle.pieces.specs.DomainLaws.{at-most-refl, at-most-trans, piece-bounded, piece-nonneg, piece-keeps}
+use Rattle.pieces.specs.DomainLaws.{at-most-refl, at-most-trans, piece-bounded, piece-nonneg, piece-keeps, cut-at-nonneg, cut-at-keeps}
 use Rattle.pieces.specs.declared.lengths.Lengths.{Lengths}
 use Rattle.pieces.specs.declared.score.Score.{Score}
 use Rattle.path.specs.declared.predecessor.Found.{Found}
 use Rattle.path.specs.declared.predecessor.Found.the-variants.{At, Nothing}
 use Rattle.path.specs.Least.{foundScore, LowestLeast}
 use Rattle.path.specs.LeastLaws.{Answers, least-answers}
-use Rattle.path.specs.Paths.{mayStart, AllowedByCount, PathWith, Run, Path, withCutAt, step, scoreFrom, pathScore, arrival}
-use Rattle.path.specs.PathsLaws.{cut-at-nonneg, cut-at-keeps, path-more, path-score-more}
+use Rattle.path.specs.Paths.{mayStart, AllowedByCount, PathWith, Run, Path, step, scoreFrom, pathScore}
+use Rattle.path.specs.PathsLaws.{path-more, path-score-more}
 use Rattle.path.specs.Table.{predecessorOf}
 use Rattle.path.specs.PredecessorLaws.{start-next, predecessor-nothing}
 use Rattle.path.specs.TableLaws.{least-settled}

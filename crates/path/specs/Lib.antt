@@ -8,17 +8,16 @@ pub mod Least
 --   Answers, least-answers   it is the lowest and the least
 pub mod LeastLaws
 -- Paths: document 01's piece rule, paths, scores, best and the tie rule
---   isWithin, mayStart, Allowed, AllowedByCount   pieces
+--   mayStart, Allowed, AllowedByCount   pieces
 --   Run, Path, lastOf, PathByLength, PathWith, piecesOf, PathByCount   paths
---   withCutAt, step, scoreFrom, pathScore   scores
+--   step, scoreFrom, pathScore   scores
 --   BestByLength, BestByCount, OwnBest   best
---   arrival, Chosen, TieRule   ties
+--   Chosen, TieRule   ties
 pub mod Paths
---   cut-at-inner, cut-at-last, cut-at-over, cut-at-nonneg, cut-at-keeps   the cut at a candidate
 --   path-more, path-score-more   one more piece
 pub mod PathsLaws
 -- Table: the best scores by length, the parents, and the path that they give
---   scoreAt, Scored, predecessorOf, nextScore, tableOf, bestScore, bestOver, bestCost, parentOf
+--   Scored, predecessorOf, nextScore, tableOf, bestScore, bestOver, bestCost, parentOf
 --   wayBack, wayTo, Falling, bestPath
 pub mod Table
 --   within-yes, within-is, within-none   pieces within the limit; start-next   the candidate just before

@@ -2,22 +2,18 @@
 -- The limit is an argument of every definition, alone or in the length preferences.
 use mathlib.Core.Path.{_≡_}
 use mathlib.Core.Logic.{_⊎_}
-use mathlib.Core.Bool.{Bool, cond, _||_}
+use mathlib.Core.Bool.{Bool, _||_}
 use mathlib.Core.List.{List, [], _∷_}
 use Prim.Native.Nat.{ℕ, suc, _-_, _<_, min}
-use lib.Dec.{T, leb, ltb, eqb}
-use lib.Ieee.{Float, nan}
-use lib.ListN.{length, getD}
-use Rattle.pieces.specs.Pieces.{pieceLength, noScore, withPiece, withCut, atMost}
+use lib.Dec.{T, eqb}
+use lib.Ieee.{Float}
+use lib.ListN.{length}
+use Rattle.pieces.specs.Pieces.{pieceLength, isWithin, noScore, withPiece, withCutAt, arrival, atMost}
 use Rattle.pieces.specs.declared.lengths.Lengths.{Lengths}
 use Rattle.pieces.specs.declared.score.Score.{Score}
 use Rattle.path.specs.Least.{LowestLeast}
 
 -- ---- pieces
-
--- the piece that ends at candidate j and starts at candidate i is no longer than the limit
-unfoldable pub isWithin : ℕ → List ℕ → List ℕ → ℕ → ℕ → Bool
-isWithin limit left right j i = leb (pieceLength left right i j) limit
 
 -- document 01's "piece rule": a piece that ends at candidate j may start at candidate i if it is no longer than the limit or i = j - 1
 unfoldable pub mayStart : ℕ → List ℕ → List ℕ → ℕ → ℕ → Bool
@@ -65,10 +61,6 @@ PathByCount count limit left right path = PathWith limit left right (piecesOf le
 
 -- ---- scores
 
--- the cut at candidate j is added; there is none at the last
-unfoldable pub withCutAt : List Float → ℕ → Score → Score
-withCutAt cut j s = cond (ltb (suc j) (length cut)) (withCut s (getD cut j nan)) s
-
 module _ (l : Lengths) (left right : List ℕ) (cut : List Float) where
   -- a path's score s at candidate i becomes this at candidate j: the piece is added, and then the cut
   abbrev pub step : Score → ℕ → ℕ → Score
@@ -103,13 +95,9 @@ module _ (l : Lengths) (left right : List ℕ) (cut : List Float) where
 -- ---- ties
 
 module _ (l : Lengths) (left right : List ℕ) where
-  -- the score at candidate j of a path that comes from candidate i, before the cut at j is added; `own` is the best score of each candidate
-  abbrev pub arrival : (ℕ → Score) → ℕ → ℕ → Score
-  arrival own j i = withPiece l (own i) (pieceLength left right i j)
-
   -- document 01's "tie rule" for the piece from i to j: i is the lowest candidate whose own best score, plus this piece, is least among the allowed pieces
   abbrev pub Chosen : (ℕ → Score) → ℕ → ℕ → Type 0
-  Chosen own i j = LowestLeast (mayStart (l .limit) left right j) (arrival own j) 0 j i
+  Chosen own i j = LowestLeast (mayStart (l .limit) left right j) (arrival l left right own j) 0 j i
 
   -- "reading from the end, each piece starts" there
   abbrev pub TieRule : (ℕ → Score) → List ℕ → Type 0

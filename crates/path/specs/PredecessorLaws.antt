@@ -8,7 +8,7 @@ use native.Mathlib.Nat.{le-trans, not-le-of-lt}
 use native.Mathlib.Omega.{arith}
 use lib.Dec.{T, T-not, eqb, eqb→eq, eqb-refl, le→leb, leb→le, not-T}
 use lib.ListN.{length}
-use Rattle.pieces.specs.Pieces.{pieceLength, withPiece}
+use Rattle.pieces.specs.Pieces.{pieceLength, withPiece, isWithin, arrival}
 use Rattle.pieces.specs.Domain.{Candidates}
 use Rattle.pieces.specs.DomainLaws.{piece-longer}
 use Rattle.laws.specs.Tests.{same-test, or-l, or-r, or-split, lt-or-le}
@@ -18,7 +18,7 @@ use Rattle.path.specs.declared.predecessor.Found.{Found}
 use Rattle.path.specs.declared.predecessor.Found.the-variants.{At, Nothing}
 use Rattle.path.specs.Least.{lowestLeast}
 use Rattle.path.specs.LeastLaws.{least-none, least-front, least-skip, least-same, least-nothing}
-use Rattle.path.specs.Paths.{isWithin, mayStart, arrival}
+use Rattle.path.specs.Paths.{mayStart}
 use Rattle.path.specs.Table.{predecessorOf}
 
 -- ---- which pieces are within the limit

@@ -4,13 +4,14 @@ use mathlib.Core.List.{List}
 use Prim.Native.Nat.{ℕ, _≤_, _<_}
 use lib.Ieee.{Float}
 use lib.ListN.{length, getD}
+use Rattle.pieces.specs.Pieces.{scoreAt}
 use Rattle.basics.specs.Front.{onto, tabulate}
 use Rattle.pieces.specs.Limits.{maxIndex}
 use Rattle.pieces.specs.Domain.{Lent}
 use Rattle.pieces.specs.declared.lengths.Lengths.{Lengths}
 use Rattle.path.specs.declared.solve.Solved.{Solved}
 use Rattle.path.specs.Paths.{lastOf}
-use Rattle.path.specs.Table.{scoreAt, bestScore, bestOver, bestCost, parentOf, Falling, bestPath}
+use Rattle.path.specs.Table.{bestScore, bestOver, bestCost, parentOf, Falling, bestPath}
 
 -- ---- the table
 

@@ -8,7 +8,7 @@ use lib.Dec.{T-not}
 use lib.Ieee.{Float, nan}
 use lib.ListN.{length, getD, set, length-set}
 use Rattle.basics.specs.Front.{onto-tabulate-at, onto-tabulate-length, onto-tabulate-next, onto-tabulate-set, onto-tabulate-one}
-use Rattle.pieces.specs.Pieces.{noScore}
+use Rattle.pieces.specs.Pieces.{noScore, arrival, scoreAt, withCutAt}
 use Rattle.pieces.specs.Domain.{Lent}
 use Rattle.pieces.specs.declared.lengths.Lengths.{Lengths}
 use Rattle.pieces.specs.declared.score.Score.{Score}
@@ -16,8 +16,8 @@ use Rattle.path.specs.declared.predecessor.Found.{Found}
 use Rattle.path.specs.declared.predecessor.Found.the-variants.{At, Nothing}
 use Rattle.path.specs.Least.{foundScore, foundIndex, lowestLeast}
 use Rattle.path.specs.LeastLaws.{least-nothing}
-use Rattle.path.specs.Paths.{mayStart, withCutAt, arrival, lastOf}
-use Rattle.path.specs.Table.{scoreAt, Scored, predecessorOf, bestScore, bestOver, bestCost, parentOf, wayTo, bestPath}
+use Rattle.path.specs.Paths.{mayStart, lastOf}
+use Rattle.path.specs.Table.{Scored, predecessorOf, bestScore, bestOver, bestCost, parentOf, wayTo, bestPath}
 use Rattle.path.specs.WayLaws.{way-few, way-same}
 use Rattle.path.specs.PredecessorLaws.{start-next, predecessor-same}
 use Rattle.path.specs.TableLaws.{best-first, best-next, best-few, parent-below}

@@ -2,19 +2,15 @@
 -- In words: the best score at j is the least of the best scores before it, each plus the piece from there, and then the cut at j.
 use mathlib.Core.List.{List, [], _∷_, _++_}
 use Prim.Native.Nat.{ℕ, zero, suc, _-_, _≤_, _<_}
-use lib.Ieee.{Float, nan}
+use lib.Ieee.{Float}
 use lib.ListN.{length, getD}
-use Rattle.pieces.specs.Pieces.{noScore}
+use Rattle.pieces.specs.Pieces.{noScore, arrival, withCutAt}
 use Rattle.pieces.specs.Domain.{Candidates}
 use Rattle.pieces.specs.declared.lengths.Lengths.{Lengths}
 use Rattle.pieces.specs.declared.score.Score.{Score}
 use Rattle.path.specs.declared.predecessor.Found.{Found}
 use Rattle.path.specs.Least.{foundScore, foundIndex, lowestLeast}
-use Rattle.path.specs.Paths.{mayStart, withCutAt, arrival, lastOf}
-
--- the score at index i of a table that is kept as two lists
-abbrev pub scoreAt : List ℕ → List Float → ℕ → Score
-scoreAt over cost i = record { over = getD over i 0; cost = getD cost i nan }
+use Rattle.path.specs.Paths.{mayStart, lastOf}
 
 -- what the search for a predecessor of candidate j reads: candidates in order, and a score for each before j, of no more pieces over the limit than there are pieces
 pub record Scored (left right over : List ℕ) (cost : List Float) (j : ℕ) : Type 0 where

@@ -9,11 +9,11 @@ use lib.Dec.{T, T-not}
 use lib.ListN.{length, getD, length-append, List·getD-append}
 use lib.Seq.{getD-at}
 use lib.Ieee.{Float}
-use Rattle.pieces.specs.Pieces.{pieceLength, noScore, withPiece, atMost}
+use Rattle.pieces.specs.Pieces.{pieceLength, noScore, withPiece, atMost, arrival, withCutAt}
 use Rattle.laws.specs.Nonneg.{nonneg, nought-nonneg}
 use Rattle.pieces.specs.Domain.{Lent}
-use Rattle.pieces.specs.DomainLaws.{piece-bounded, piece-nonneg}
-use Rattle.pieces.specs.PiecesLaws.{over-one}
+use Rattle.pieces.specs.DomainLaws.{piece-bounded, piece-nonneg, cut-at-nonneg, cut-at-keeps}
+use Rattle.pieces.specs.PiecesLaws.{over-one, cut-at-over}
 use Rattle.laws.specs.Tests.{lt-or-le}
 use Rattle.pieces.specs.declared.lengths.Lengths.{Lengths}
 use Rattle.pieces.specs.declared.score.Score.{Score}
@@ -21,8 +21,7 @@ use Rattle.path.specs.declared.predecessor.Found.{Found}
 use Rattle.path.specs.declared.predecessor.Found.the-variants.{At, Nothing}
 use Rattle.path.specs.Least.{foundScore, foundIndex, LowestLeast}
 use Rattle.path.specs.LeastLaws.{Answers, least-answers}
-use Rattle.path.specs.Paths.{mayStart, withCutAt, arrival, step, Chosen, Allowed}
-use Rattle.path.specs.PathsLaws.{cut-at-over, cut-at-nonneg, cut-at-keeps}
+use Rattle.path.specs.Paths.{mayStart, step, Chosen, Allowed}
 use Rattle.path.specs.Table.{predecessorOf, nextScore, tableOf, bestScore, parentOf}
 use Rattle.path.specs.PredecessorLaws.{predecessor-same, start-next}
 

@@ -13,14 +13,14 @@ use lib.ListN.{length}
 use Rattle.laws.specs.Nonneg.{nonneg, nought-nonneg}
 use Rattle.laws.specs.Scores.{score-lt-le-trans, score-le-lt-trans}
 use Rattle.laws.specs.Tests.{lt-or-le}
-use Rattle.pieces.specs.Pieces.{pieceLength, noScore, withPiece, atMost, lessThan}
+use Rattle.pieces.specs.Pieces.{pieceLength, noScore, withPiece, atMost, lessThan, arrival}
 use Rattle.pieces.specs.Domain.{Lent}
-use Rattle.pieces.specs.DomainLaws.{at-most-trans, less-than-is, piece-bounded, piece-nonneg, piece-keeps}
+use Rattle.pieces.specs.DomainLaws.{at-most-trans, less-than-is, piece-bounded, piece-nonneg, piece-keeps, cut-at-nonneg}
 use Rattle.pieces.specs.declared.lengths.Lengths.{Lengths}
 use Rattle.pieces.specs.declared.score.Score.{Score}
 use Rattle.path.specs.Least.{LowestLeast}
-use Rattle.path.specs.Paths.{Allowed, Run, Path, lastOf, step, scoreFrom, pathScore, OwnBest, arrival, Chosen, TieRule}
-use Rattle.path.specs.PathsLaws.{path-more, cut-at-nonneg}
+use Rattle.path.specs.Paths.{Allowed, Run, Path, lastOf, step, scoreFrom, pathScore, OwnBest, Chosen, TieRule}
+use Rattle.path.specs.PathsLaws.{path-more}
 use Rattle.path.specs.BestLaws.{run-rises}
 
 -- ---- one lowest least

@@ -9,9 +9,9 @@ use Rattle.laws.specs.Square.{square}
 use Rattle.laws.specs.Offset.{offOf}
 use Rattle.laws.specs.Lengths.{short, lengthCost}
 use Rattle.pieces.specs.declared.lengths.Lengths.{Lengths}
-use Rattle.pieces.specs.Pieces.{pieceLength, overOf, lengthCostOf, withPiece, withCut}
+use Rattle.pieces.specs.Pieces.{pieceLength, overOf, lengthCostOf, withPiece, withCut, isWithin, withCutAt}
 use Rattle.path.specs.Least.{lowestLeast}
-use Rattle.path.specs.Paths.{isWithin, mayStart, withCutAt, lastOf}
+use Rattle.path.specs.Paths.{mayStart, lastOf}
 use Rattle.path.specs.Table.{predecessorOf, nextScore, tableOf, bestScore, parentOf, wayBack, bestPath}
 use Rattle.path.specs.ByCount.{bestWith, parentWith, wayWith, bestPathByCount, bestScoreByCount}
 

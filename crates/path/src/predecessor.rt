@@ -4,9 +4,9 @@ use pieces::score;
 use pieces::score::Score;
 ghost use mathlib.Core.Path.{_≡_};
 ghost use Prim.Native.Nat.{_-_};
+ghost use Rattle.pieces.specs.Pieces.{isWithin, arrival, scoreAt};
 ghost use Rattle.path.specs.Least.{orBetter, lowestLeast};
-ghost use Rattle.path.specs.Paths.{isWithin, arrival};
-ghost use Rattle.path.specs.Table.{scoreAt, Scored, predecessorOf};
+ghost use Rattle.path.specs.Table.{Scored, predecessorOf};
 
 // A predecessor, with the score of the path through it before the cut at the piece's end.
 pub enum Found {

@@ -6,10 +6,9 @@ use pieces::lengths::Lengths;
 use pieces::score;
 use pieces::score::Score;
 ghost use mathlib.Core.Path.{_≡_};
-ghost use Prim.Native.Nat.{_≤_, _<_};
+ghost use Prim.Native.Nat.{_≤_};
 ghost use lib.ListN.{length, set};
 ghost use Rattle.pieces.specs.Domain.{Lent};
-ghost use Rattle.path.specs.Paths.{withCutAt};
 ghost use Rattle.path.specs.Table.{bestOver, bestCost, parentOf};
 ghost use Rattle.path.specs.Solved.{Room, Ready, Filled, Solution};
 
@@ -17,18 +16,6 @@ ghost use Rattle.path.specs.Solved.{Room, Ready, Filled, Solution};
 pub struct Solved {
     pub score: Score,
     pub len: usize,
-}
-
-// The score after the cut at candidate j; there is none at the last.
-pub fn add_cut_at(score: Score, cut: &[f64], j: usize) -> Score
-    requires { ⌜ j < length (now cut) ⌝ }
-    ensures { λ r. ⌜ r ≡ withCutAt (now (cut .entry)) j score ⌝ }
-{
-    if j + 1 < cut.len() {
-        score::add_cut(score, cut[j])
-    } else {
-        score
-    }
 }
 
 // Settles candidate j: its best score, and where the last piece starts.
@@ -51,7 +38,7 @@ fn fill_at(
     let Found::At(best, i) = found else {
         return;
     };
-    let here = add_cut_at(best, cut, j);
+    let here = score::add_cut_at(best, cut, j);
     over[j] = here.over;
     cost[j] = here.cost;
     parent[j] = i as u32;

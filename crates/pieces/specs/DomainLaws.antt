@@ -1,13 +1,13 @@
 -- What the domain gives: ends and lengths are in order and within bounds, scores compare as a total preorder, and one more piece or cut keeps their order.
 use mathlib.Core.Path.{_≡_, ap}
 use mathlib.Core.Logic.{_⊎_, inl, inr}
-use mathlib.Core.Bool.{not}
+use mathlib.Core.Bool.{Bool, true, false, not, cond}
 use mathlib.Core.List.{List}
 use Prim.Native.Nat.{ℕ, zero, suc, _≤_, _<_}
 use native.Mathlib.Nat.{le-trans, le-of-eq, le-of-suc-le-suc}
 use native.Mathlib.Omega.{arith}
-use lib.Dec.{T, lit≤}
-use lib.Ieee.{Float, binary64}
+use lib.Dec.{T, lit≤, ltb}
+use lib.Ieee.{Float, nan, binary64}
 use lib.ListN.{length, getD}
 use Rattle.laws.specs.Tests.{lt-or-le}
 use Rattle.laws.specs.Nonneg.{nonneg, nonneg-number}
@@ -15,8 +15,8 @@ use Rattle.laws.specs.Sums.{float-add-nonneg}
 use Rattle.laws.specs.Lengths.{length-whole, length-cost-nonneg}
 use Rattle.laws.specs.Scores.{score-refl, score-total, score-trans, score-lt-is, score-lt-le, score-piece, score-cut}
 use Rattle.pieces.specs.Limits.{maxEnd}
-use Rattle.pieces.specs.Pieces.{pieceLength, lengthCostOf, overOf, withPiece, withCut, atMost, lessThan}
-use Rattle.pieces.specs.Domain.{Candidates, Preferred}
+use Rattle.pieces.specs.Pieces.{pieceLength, lengthCostOf, overOf, withPiece, withCut, withCutAt, atMost, lessThan}
+use Rattle.pieces.specs.Domain.{Candidates, Costs, Preferred}
 use Rattle.pieces.specs.declared.lengths.Lengths.{Lengths}
 use Rattle.pieces.specs.declared.score.Score.{Score}
 
@@ -104,3 +104,24 @@ cut-nonneg s cut p q = float-add-nonneg binary64 (s .cost) cut p q
 pub cut-keeps : (s t : Score) (cut : Float) → T (nonneg (s .cost)) → T (nonneg cut) → T (atMost s t) → T (atMost (withCut s cut) (withCut t cut))
 unfolding withCut
 cut-keeps s t cut p q h = score-cut binary64 (s .over) (s .cost) (t .over) (t .cost) cut p q h
+
+-- ---- the cut at a candidate, where there is one
+
+module _ {cut : List Float} {n : ℕ} (ok : Costs cut n) (j : ℕ) (h : j < n) where
+  -- it keeps the cost from being negative
+  pub cut-at-nonneg : (s : Score) → T (nonneg (s .cost)) → T (nonneg (withCutAt cut j s .cost))
+  unfolding withCutAt
+  cut-at-nonneg s p = go (ltb (suc j) (length cut))
+    where
+      go : (b : Bool) → T (nonneg (cond b (withCut s (getD cut j nan)) s .cost))
+      go true = cut-nonneg s (getD cut j nan) p (ok .cost-nonneg j h)
+      go false = p
+
+  -- and keeps the order
+  pub cut-at-keeps : (s t : Score) → T (nonneg (s .cost)) → T (atMost s t) → T (atMost (withCutAt cut j s) (withCutAt cut j t))
+  unfolding withCutAt
+  cut-at-keeps s t p k = go (ltb (suc j) (length cut))
+    where
+      go : (b : Bool) → T (atMost (cond b (withCut s (getD cut j nan)) s) (cond b (withCut t (getD cut j nan)) t))
+      go true = cut-keeps s t (getD cut j nan) p (ok .cost-nonneg j h) k
+      go false = k

@@ -1,12 +1,12 @@
 -- Document 01's "score" and "length cost": what a piece and a cut add to a path's score, and how scores compare.
 -- A piece from candidate i to candidate j runs from the right end of i to the left end of j.
-use Prim.Native.Nat.{ℕ, _+_, _-_}
+use Prim.Native.Nat.{ℕ, suc, _+_, _-_}
 use mathlib.Core.Bool.{Bool, cond}
 use mathlib.Core.List.{List}
-use lib.Dec.{ltb}
+use lib.Dec.{leb, ltb}
 use lib.IntN.{pos}
-use lib.Ieee.{Float, binary64, add, ofInt}
-use lib.ListN.{getD}
+use lib.Ieee.{Float, nan, binary64, add, ofInt}
+use lib.ListN.{length, getD}
 use Rattle.laws.specs.Nonneg.{nought}
 use Rattle.laws.specs.Lengths.{lengthCost}
 use Rattle.laws.specs.Scores.{scoreLe, scoreLt, scoreEq}
@@ -27,6 +27,10 @@ lengthCostOf l len = lengthCost binary64 (l .«target_weight») (l .«short_weig
 unfoldable pub overOf : ℕ → ℕ → ℕ
 overOf limit len = cond (ltb limit len) 1 0
 
+-- the piece that ends at candidate j and starts at candidate i is no longer than the limit
+unfoldable pub isWithin : ℕ → List ℕ → List ℕ → ℕ → ℕ → Bool
+isWithin limit left right j i = leb (pieceLength left right i j) limit
+
 -- ---- scores
 
 -- the score of a path without pieces
@@ -40,6 +44,18 @@ withPiece l s len = record { over = s .over + overOf (l .limit) len; cost = add 
 -- one more cut, at the end of a piece
 unfoldable pub withCut : Score → Float → Score
 withCut s cut = record { over = s .over; cost = add binary64 (s .cost) cut }
+
+-- the cut at candidate j is added; there is none at the last
+unfoldable pub withCutAt : List Float → ℕ → Score → Score
+withCutAt cut j s = cond (ltb (suc j) (length cut)) (withCut s (getD cut j nan)) s
+
+-- the score at candidate j of a path that comes from candidate i, before the cut at j is added; `own` is the score of each candidate
+abbrev pub arrival : Lengths → List ℕ → List ℕ → (ℕ → Score) → ℕ → ℕ → Score
+arrival l left right own j i = withPiece l (own i) (pieceLength left right i j)
+
+-- the score at index i of scores that are kept as two lists
+abbrev pub scoreAt : List ℕ → List Float → ℕ → Score
+scoreAt over cost i = record { over = getD over i 0; cost = getD cost i nan }
 
 -- ---- order: the pieces over the limit first, then the cost
 

@@ -2,9 +2,10 @@
 use crate::lengths;
 use crate::lengths::Lengths;
 ghost use mathlib.Core.Path.{_≡_};
-ghost use Prim.Native.Nat.{_≤_};
+ghost use Prim.Native.Nat.{_≤_, _<_};
+ghost use lib.ListN.{length};
 ghost use Rattle.pieces.specs.Limits.{maxEnd, maxIndex};
-ghost use Rattle.pieces.specs.Pieces.{withPiece, withCut, lessThan, atMost, equalTo};
+ghost use Rattle.pieces.specs.Pieces.{withPiece, withCut, withCutAt, lessThan, atMost, equalTo};
 
 pub struct Score {
     pub over: u32,
@@ -31,6 +32,18 @@ pub fn add_cut(score: Score, cut: f64) -> Score
     Score {
         over: score.over,
         cost: score.cost + cut,
+    }
+}
+
+// The score after the cut at candidate j; there is none at the last.
+pub fn add_cut_at(score: Score, cut: &[f64], j: usize) -> Score
+    requires { ⌜ j < length (now cut) ⌝ }
+    ensures { λ r. ⌜ r ≡ withCutAt (now (cut .entry)) j score ⌝ }
+{
+    if j + 1 < cut.len() {
+        add_cut(score, cut[j])
+    } else {
+        score
     }
 }
 

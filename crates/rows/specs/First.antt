@@ -3,18 +3,13 @@ use mathlib.Core.Path.{_≡_}
 use mathlib.Core.Bool.{Bool, cond}
 use mathlib.Core.List.{List}
 use Prim.Native.Nat.{ℕ, zero, suc, _-_, _<_}
-use lib.Dec.{leb}
 use lib.ListN.{length, getD}
-use Rattle.pieces.specs.Pieces.{pieceLength}
+use Rattle.pieces.specs.Pieces.{isWithin}
 
 -- the first index from `from` on that passes the test, or the one after n that fail
 unfoldable pub firstPassing : (ℕ → Bool) → ℕ → ℕ → ℕ
 firstPassing test from zero = from
 firstPassing test from (suc n) = cond (test from) from (firstPassing test (suc from) n)
-
--- the piece that ends at candidate j and starts at candidate i is no longer than the limit
-unfoldable pub isWithin : ℕ → List ℕ → List ℕ → ℕ → ℕ → Bool
-isWithin limit left right j i = leb (pieceLength left right i j) limit
 
 -- the first candidate whose piece to j is within the limit, and j - 1 where that is later
 unfoldable pub firstStart : ℕ → List ℕ → List ℕ → ℕ → ℕ

@@ -11,10 +11,10 @@ use lib.Dec.{T, not-T, leb, leb→le, nleb→lt, le→leb}
 use lib.ListN.{length, getD, set, length-set}
 use lib.Seq.{getD-set-same, getD-set-other}
 use Rattle.laws.specs.Tests.{passes, lt-or-le}
-use Rattle.pieces.specs.Pieces.{pieceLength}
+use Rattle.pieces.specs.Pieces.{pieceLength, isWithin}
 use Rattle.pieces.specs.Domain.{Candidates}
 use Rattle.pieces.specs.DomainLaws.{piece-longer}
-use Rattle.rows.specs.First.{firstPassing, isWithin, firstStart, FirstStarts}
+use Rattle.rows.specs.First.{firstPassing, firstStart, FirstStarts}
 
 pick-yes : (b : Bool) (x y : ℕ) → T b → cond b x y ≡ x
 pick-yes true x y t = refl

@@ -2,25 +2,20 @@
 use mathlib.Core.Path.{_≡_}
 use mathlib.Core.List.{List}
 use Prim.Native.Nat.{ℕ, suc, _+_, _-_, _*_, _≤_, _<_, max}
-use lib.Dec.{T, ltb}
+use lib.Dec.{T}
 use lib.Ieee.{Float, nan}
 use lib.ListN.{length, getD}
 use Rattle.laws.specs.Nonneg.{nonneg}
-use Rattle.pieces.specs.Pieces.{pieceLength, noScore, withPiece, withCut}
+use Rattle.pieces.specs.Pieces.{pieceLength, noScore, withPiece, withCutAt, arrival, scoreAt}
 use Rattle.pieces.specs.Domain.{Candidates, Preferred}
 use Rattle.pieces.specs.declared.lengths.Lengths.{Lengths}
 use Rattle.pieces.specs.declared.score.Score.{Score}
 use Rattle.search.specs.declared.best.Best.{Best}
 use Rattle.search.specs.Least.{leastIn}
-use Rattle.search.specs.Starts.{scoreAt, arrival}
 use Rattle.rows.specs.First.{firstStart, FirstStarts}
-use Rattle.search.specs.Tree.{pickScore, Covers}
+use Rattle.search.specs.Tree.{Covers}
 
 -- ---- one score of a row
-
--- the cut at candidate j is added; there is none at the last
-unfoldable pub withCutAt : List Float → ℕ → Score → Score
-withCutAt cut j s = pickScore (ltb (suc j) (length cut)) (withCut s (getD cut j nan)) s
 
 -- where the pieces to candidate j may start in row k: an allowed piece, and k - 1 pieces before it
 abbrev pub startOf : ℕ → List ℕ → List ℕ → ℕ → ℕ → ℕ

@@ -9,45 +9,24 @@ use lib.Dec.{T}
 use lib.Ieee.{Float, nan, binary64, ofBits}
 use lib.ListN.{length, getD, set}
 use lib.Seq.{getD-set-same, getD-set-other}
-use borrow.Author.Tests.{lt-ltb, le-ltb}
 use Rattle.laws.specs.Tests.{lt-or-le}
 use Rattle.laws.specs.Nonneg.{nonneg, nought-is, nought-nonneg}
 use Rattle.pieces.specs.Limits.{maxIndex}
-use Rattle.pieces.specs.Pieces.{pieceLength, noScore, withPiece, withCut}
-use Rattle.pieces.specs.PiecesLaws.{over-one}
-use Rattle.pieces.specs.Domain.{Candidates, Costs, Preferred, Lent}
-use Rattle.pieces.specs.DomainLaws.{rights-rise, ends-rise, left-bounded, piece-bounded, piece-nonneg, cut-nonneg}
+use Rattle.pieces.specs.Pieces.{pieceLength, noScore, withPiece, withCutAt, arrival, scoreAt}
+use Rattle.pieces.specs.PiecesLaws.{over-one, cut-at-over}
+use Rattle.pieces.specs.Domain.{Candidates, Preferred, Lent}
+use Rattle.pieces.specs.DomainLaws.{rights-rise, ends-rise, left-bounded, piece-bounded, piece-nonneg, cut-at-nonneg}
 use Rattle.pieces.specs.declared.lengths.Lengths.{Lengths}
 use Rattle.pieces.specs.declared.score.Score.{Score}
 use Rattle.search.specs.declared.best.Best.{Best}
 use Rattle.search.specs.Least.{leastOf, leastIn, IsLeast}
 use Rattle.search.specs.LeastLaws.{least-is}
-use Rattle.search.specs.Starts.{scoreAt, arrival, arrivalAt, Starts}
+use Rattle.search.specs.Starts.{arrivalAt, Starts}
 use Rattle.rows.specs.FirstLaws.{first-start-high}
 use Rattle.search.specs.Tree.{noLeaf, Leaves, Filled}
 use Rattle.search.specs.TreeLaws.{Sound, covers-all}
 use Rattle.search.specs.Fill.{written, kept}
-use Rattle.rows.specs.Rows.{withCutAt, startOf, predecessorOf, firstScore, Row, FirstRow, NextRow, leafScore, Planted}
-
--- ---- one score
-
--- a property of the score with the cut and of that without it
-cut-either : (P : Score → Type 0) (cut : List Float) (j : ℕ) (s : Score) → (suc j < length cut → P (withCut s (getD cut j nan))) → P s → P (withCutAt cut j s)
-unfolding withCutAt
-cut-either P cut j s x y = elim (lt-or-le (suc j) (length cut)) [
-  | inl l ↦ rw (lt-ltb (suc j) (length cut) l) (x l)
-  | inr g ↦ rw (le-ltb (suc j) (length cut) g) y
-]
-
--- a cut adds no piece
-pub cut-over : (cut : List Float) (j : ℕ) (s : Score) → withCutAt cut j s .over ≡ s .over
-unfolding withCut
-cut-over cut j s = cut-either (λ (t : Score). t .over ≡ s .over) cut j s (λ h. refl) refl
-
--- and its cost is not negative
-pub cut-at-nonneg : {cut : List Float} {n : ℕ} (j : ℕ) (s : Score) → Costs cut n → T (nonneg (s .cost)) → T (nonneg (withCutAt cut j s .cost))
-cut-at-nonneg {cut} {n} j s ok p =
-    cut-either (λ (t : Score). T (nonneg (t .cost))) cut j s (λ h. cut-nonneg s (getD cut j nan) p (ok .cost-nonneg j (omega (arith, ok .each)))) p
+use Rattle.rows.specs.Rows.{startOf, predecessorOf, firstScore, Row, FirstRow, NextRow, leafScore, Planted}
 
 -- ---- where the last piece may start
 
@@ -120,13 +99,13 @@ module _ {l : Lengths} {left right : List ℕ} {cut : List Float} (ok : Lent l l
     overs = eo;
     costs = ec;
     few = λ i h. elim (lt-or-le 0 i) [
-      | inl p ↦ rw (ap (λ (s : Score). s .over) (x .score i p h) ∙ cut-over cut i (withPiece l noScore (pieceLength left right 0 i)))
+      | inl p ↦ rw (ap (λ (s : Score). s .over) (x .score i p h) ∙ cut-at-over cut i (withPiece l noScore (pieceLength left right 0 i)))
           (piece-over noScore (pieceLength left right 0 i) 0 i (le-refl 0) p)
       | inr z ↦ let e : i ≡ 0 = omega arith in rw e (omega (arith, ap (λ (s : Score). s .over) (x .start)))
     ];
     fine = λ i h. elim (lt-or-le 0 i) [
       | inl p ↦ subst (λ (s : Score). T (nonneg (s .cost))) (sym (x .score i p h))
-          (cut-at-nonneg i (withPiece l noScore (pieceLength left right 0 i)) (ok .costs)
+          (cut-at-nonneg (ok .costs) i h (withPiece l noScore (pieceLength left right 0 i))
           (piece-nonneg (ok .preferred) noScore (pieceLength left right 0 i) (piece-bounded (ok .candidates) 0 i h) nought-nonneg))
       | inr z ↦ let e : 0 ≡ i = omega arith in
           rw (← e) (subst (λ (s : Score). T (nonneg (s .cost))) (sym (x .start)) nought-nonneg)
@@ -143,7 +122,7 @@ module _ {l : Lengths} {left right : List ℕ} {cut : List Float} (ok : Lent l l
       | inr m ↦
           let b = predecessorOf l left right (scoreAt over₀ cost₀) k j in
           let is = predecessor-is (ok .candidates) (ok .preferred) (scoreAt over₀ cost₀) k j (λ i a. r .fine i (omega arith)) p m h in
-          rw (ap (λ (s : Score). s .over) (x .score j m h) ∙ cut-over cut j (b .score) ∙ ap (λ (s : Score). s .over) (is .is))
+          rw (ap (λ (s : Score). s .over) (x .score j m h) ∙ cut-at-over cut j (b .score) ∙ ap (λ (s : Score). s .over) (is .is))
           (piece-over (scoreAt over₀ cost₀ (b .at)) (pieceLength left right (b .at) j) (b .at) j (r .few (b .at) (omega (arith, is .high))) (is .high))
     ];
     fine = λ j h. elim (lt-or-le j k) [
@@ -152,7 +131,7 @@ module _ {l : Lengths} {left right : List ℕ} {cut : List Float} (ok : Lent l l
           let b = predecessorOf l left right (scoreAt over₀ cost₀) k j in
           let is = predecessor-is (ok .candidates) (ok .preferred) (scoreAt over₀ cost₀) k j (λ i a. r .fine i (omega arith)) p m h in
           subst (λ (s : Score). T (nonneg (s .cost))) (sym (x .score j m h))
-          (cut-at-nonneg j (b .score) (ok .costs) (subst (λ (s : Score). T (nonneg (s .cost))) (sym (is .is))
+          (cut-at-nonneg (ok .costs) j h (b .score) (subst (λ (s : Score). T (nonneg (s .cost))) (sym (is .is))
           (arrival-fine (ok .candidates) (ok .preferred) (scoreAt over₀ cost₀) (r .fine) j (b .at) h (omega (arith, is .high)))))
     ];
   }

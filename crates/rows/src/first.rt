@@ -2,8 +2,9 @@
 ghost use mathlib.Core.Path.{_≡_};
 ghost use Prim.Native.Nat.{_-_, _≤_, _<_};
 ghost use lib.ListN.{length};
+ghost use Rattle.pieces.specs.Pieces.{isWithin};
 ghost use Rattle.pieces.specs.Domain.{Candidates};
-ghost use Rattle.rows.specs.First.{firstPassing, isWithin, FirstStarts};
+ghost use Rattle.rows.specs.First.{firstPassing, FirstStarts};
 
 // From candidate p on, the first whose piece to candidate j is within the limit, and j - 1 where none before is.
 fn advance(left: &[u64], right: &[u64], limit: u64, p: usize, j: usize) -> usize

@@ -10,9 +10,9 @@ ghost use mathlib.Core.Path.{_≡_};
 ghost use Prim.Native.Nat.{_*_, _≤_, _<_};
 ghost use lib.ListN.{length};
 ghost use Rattle.pieces.specs.Domain.{Lent};
-ghost use Rattle.search.specs.Starts.{scoreAt};
+ghost use Rattle.pieces.specs.Pieces.{scoreAt};
 ghost use Rattle.rows.specs.First.{FirstStarts};
-ghost use Rattle.rows.specs.Rows.{withCutAt, predecessorOf, firstScore, Row, FirstRow, NextRow, leafScore, RowReady};
+ghost use Rattle.rows.specs.Rows.{predecessorOf, firstScore, Row, FirstRow, NextRow, leafScore, RowReady};
 
 // The best predecessor of candidate j in row k.
 fn predecessor(
@@ -33,17 +33,6 @@ fn predecessor(
 {
     let from = range::larger(first[j] as usize, k - 1);
     least::least_predecessor(right, over, cost, leaves, lengths, left[j], from, j)
-}
-
-// The score with the cut at candidate j; there is none at the last.
-fn add_cut_at(score: Score, cut: &[f64], j: usize) -> Score
-    requires { ⌜ j < length (now cut) ⌝ }
-    ensures { λ r. ⌜ r ≡ withCutAt (now (cut .entry)) j score ⌝ }
-{
-    if j + 1 < cut.len() {
-        return score::add_cut(score, cut[j]);
-    }
-    score
 }
 
 // Writes row k from the tree of the row before. Scores are compared before the cut at the piece's end is added.
@@ -79,7 +68,7 @@ fn write_row(
             k,
             j,
         );
-        let score = add_cut_at(best.score, cut, j);
+        let score = score::add_cut_at(best.score, cut, j);
         over[j] = score.over;
         cost[j] = score.cost;
         row[j] = best.at as u32;
@@ -136,7 +125,7 @@ fn first_score(left: &[u64], right: &[u64], cut: &[f64], lengths: Lengths, j: us
 {
     let none = Score { over: 0, cost: 0.0 };
     let score = score::piece_score(none, lengths, left[j] - right[0]);
-    add_cut_at(score, cut, j)
+    score::add_cut_at(score, cut, j)
 }
 
 // The first row of the table: one piece from the first candidate, of any length.

@@ -5,10 +5,9 @@ use lib.IntN.{pos}
 use lib.Ieee.{Float, binary64, add, ofInt}
 use lib.ListN.{getD}
 use Rattle.laws.specs.Lengths.{lengthBound}
-use Rattle.pieces.specs.Pieces.{overOf}
+use Rattle.pieces.specs.Pieces.{overOf, scoreAt}
 use Rattle.pieces.specs.declared.lengths.Lengths.{Lengths}
 use Rattle.pieces.specs.declared.score.Score.{Score}
-use Rattle.search.specs.Starts.{scoreAt}
 
 -- the least cost of a length from `shortest` to `longest`
 unfoldable pub lengthBoundOf : Lengths → ℕ → ℕ → Float

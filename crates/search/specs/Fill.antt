@@ -10,7 +10,7 @@ use lib.Seq.{getD-set-same, getD-set-other}
 use Rattle.laws.specs.Tests.{lt-or-le}
 use Rattle.pieces.specs.Limits.{maxIndex}
 use Rattle.pieces.specs.declared.score.Score.{Score}
-use Rattle.search.specs.Starts.{scoreAt}
+use Rattle.pieces.specs.Pieces.{scoreAt}
 use Rattle.search.specs.Tree.{lesserScore, noLeaf, Filled}
 
 -- ---- a score written to two lists

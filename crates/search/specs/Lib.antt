@@ -9,7 +9,7 @@ pub mod Least
 --   before-refl, before-trans, ahead-before, not-ahead-before, before-least   which comes first; what comes before all is the lowest least
 pub mod LeastLaws
 -- Starts: where a piece that ends at a place may start, with scores kept as two lists
---   scoreAt, arrival, arrivalAt, Starts, Start
+--   arrivalAt, Starts, Start
 pub mod Starts
 --   start-at, arrival-nonneg; scan-first, scan-next, scan-done   the plain search
 pub mod StartsLaws

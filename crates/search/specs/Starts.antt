@@ -6,20 +6,12 @@ use lib.Ieee.{Float, nan}
 use lib.ListN.{length, getD}
 use Rattle.laws.specs.Nonneg.{nonneg}
 use Rattle.pieces.specs.Limits.{maxIndex, maxEnd}
-use Rattle.pieces.specs.Pieces.{pieceLength, withPiece}
+use Rattle.pieces.specs.Pieces.{withPiece, scoreAt}
 use Rattle.pieces.specs.Domain.{Preferred}
 use Rattle.pieces.specs.declared.lengths.Lengths.{Lengths}
 use Rattle.pieces.specs.declared.score.Score.{Score}
 
--- the score at index i of scores that are kept as two lists
-abbrev pub scoreAt : List ℕ → List Float → ℕ → Score
-scoreAt over cost i = record { over = getD over i 0; cost = getD cost i nan }
-
--- the score at candidate j of a path that comes from candidate i, before the cut at j is added; `own` is the score of each candidate
-abbrev pub arrival : Lengths → List ℕ → List ℕ → (ℕ → Score) → ℕ → ℕ → Score
-arrival l left right own j i = withPiece l (own i) (pieceLength left right i j)
-
--- the same where the piece ends at the place `end`, and the score of candidate i stands at index base + i of two lists
+-- the score of a path that comes from candidate i where the piece ends at the place `end`, and the score of candidate i stands at index base + i of two lists
 abbrev pub arrivalAt : Lengths → List ℕ → List ℕ → List Float → ℕ → ℕ → ℕ → Score
 arrivalAt l right over cost base end i = withPiece l (scoreAt over cost (base + i)) (end - getD right i 0)
 

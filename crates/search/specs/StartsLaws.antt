@@ -7,14 +7,14 @@ use lib.Dec.{T}
 use lib.Ieee.{Float}
 use lib.ListN.{getD}
 use Rattle.laws.specs.Nonneg.{nonneg}
-use Rattle.pieces.specs.Pieces.{lessThan}
+use Rattle.pieces.specs.Pieces.{lessThan, scoreAt}
 use Rattle.pieces.specs.DomainLaws.{piece-nonneg}
 use Rattle.pieces.specs.declared.lengths.Lengths.{Lengths}
 use Rattle.pieces.specs.declared.score.Score.{Score}
 use Rattle.search.specs.declared.best.Best.{Best}
 use Rattle.search.specs.Least.{entry, pickBest, leastIn, IsLeast}
 use Rattle.search.specs.LeastLaws.{least-one, least-more, least-only}
-use Rattle.search.specs.Starts.{scoreAt, arrivalAt, Starts, Start}
+use Rattle.search.specs.Starts.{arrivalAt, Starts, Start}
 
 module _ {l : Lengths} {right over : List ℕ} {cost : List Float} {base to end : ℕ} (s : Starts l right over cost base to end) where
   -- one start

@@ -9,9 +9,8 @@ use lib.Ieee.{Float, nan, binary64, ofBits}
 use lib.ListN.{length, getD}
 use Rattle.laws.specs.Nonneg.{nonneg}
 use Rattle.pieces.specs.Limits.{maxIndex}
-use Rattle.pieces.specs.Pieces.{atMost}
+use Rattle.pieces.specs.Pieces.{atMost, scoreAt}
 use Rattle.pieces.specs.declared.score.Score.{Score}
-use Rattle.search.specs.Starts.{scoreAt}
 
 -- ---- its size
 

@@ -12,10 +12,9 @@ use lib.ListN.{length, getD}
 use Rattle.laws.specs.Nonneg.{nonneg}
 use Rattle.laws.specs.Tests.{passes, lt-or-le}
 use Rattle.pieces.specs.Limits.{maxIndex}
-use Rattle.pieces.specs.Pieces.{atMost}
+use Rattle.pieces.specs.Pieces.{atMost, scoreAt}
 use Rattle.pieces.specs.DomainLaws.{at-most-refl, at-most-total, at-most-trans}
 use Rattle.pieces.specs.declared.score.Score.{Score}
-use Rattle.search.specs.Starts.{scoreAt}
 use Rattle.search.specs.Tree.{Power, one, twice, pickScore, lesserScore, Bound, Covers}
 
 -- ---- powers of two

@@ -14,13 +14,13 @@ use borrow.Author.Tests.{lt-ltb, le-ltb}
 use Rattle.laws.specs.Nonneg.{nonneg}
 use Rattle.laws.specs.Tests.{holds, passes, lt-or-le}
 use Rattle.pieces.specs.Limits.{maxEnd}
-use Rattle.pieces.specs.Pieces.{atMost, lessThan}
+use Rattle.pieces.specs.Pieces.{atMost, lessThan, scoreAt}
 use Rattle.pieces.specs.declared.score.Score.{Score}
 use Rattle.search.specs.declared.best.Best.{Best}
 use Rattle.search.specs.declared.visit.Query.{Query}
 use Rattle.search.specs.Least.{entry, aheadOf, firstOf, Before}
 use Rattle.search.specs.LeastLaws.{pick-yes, pick-no, before-refl, before-trans, ahead-before, not-ahead-before}
-use Rattle.search.specs.Starts.{scoreAt, Starts}
+use Rattle.search.specs.Starts.{Starts}
 use Rattle.search.specs.Tree.{Bound, Covers}
 use Rattle.search.specs.TreeLaws.{bound-of}
 use Rattle.search.specs.Bound.{boundOf}

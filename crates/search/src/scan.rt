@@ -6,9 +6,9 @@ use pieces::score::Score;
 ghost use mathlib.Core.Path.{_≡_};
 ghost use Prim.Native.Nat.{_-_, _<_};
 ghost use lib.ListN.{getD};
-ghost use Rattle.pieces.specs.Pieces.{withPiece, lessThan};
+ghost use Rattle.pieces.specs.Pieces.{withPiece, lessThan, scoreAt};
 ghost use Rattle.search.specs.Least.{pickBest, leastIn};
-ghost use Rattle.search.specs.Starts.{scoreAt, arrivalAt, Starts, Start};
+ghost use Rattle.search.specs.Starts.{arrivalAt, Starts, Start};
 
 // The score through candidate i of a path whose last piece ends at the place `end`; the candidate's own score stands at index `node`.
 pub fn score_from(

@@ -3,9 +3,8 @@ use borrow.Author.Needs.{needs}
 use native.Mathlib.Omega.{arith}
 use mathlib.Core.Path.{sym, _∙_}
 use Prim.Native.Nat.{_-_}
-use Rattle.pieces.specs.Pieces.{pieceLength}
+use Rattle.pieces.specs.Pieces.{pieceLength, scoreAt}
 use Rattle.pieces.specs.DomainLaws.{ends-rise, piece-bounded}
-use Rattle.path.specs.Table.{scoreAt}
 use Rattle.path.specs.PredecessorLaws.{predecessor-found, predecessor-fallback, predecessor-nothing}
 use Rattle.path.proofs.predecessor.best_predecessor.Statement.{statement}
 use Rattle.path.proofs.predecessor.best_predecessor.Tie as tie

@@ -3,11 +3,9 @@
 use borrow.Author.Needs.{needs}
 use native.Mathlib.Omega.{arith}
 use Prim.Native.Nat.{_-_}
-use Rattle.pieces.specs.Pieces.{pieceLength}
+use Rattle.pieces.specs.Pieces.{pieceLength, isWithin, arrival, scoreAt}
 use Rattle.pieces.specs.DomainLaws.{ends-rise, piece-bounded}
 use Rattle.path.specs.LeastLaws.{Walking, walking-start, walking-next, walking-stop, walking-done}
-use Rattle.path.specs.Paths.{isWithin, arrival}
-use Rattle.path.specs.Table.{scoreAt}
 use Rattle.path.specs.PredecessorLaws.{within-yes, within-none}
 use Rattle.path.proofs.predecessor.within_limit.Statement.{statement}
 use Rattle.path.proofs.predecessor.within_limit.Tie as tie

@@ -1,8 +1,8 @@
 -- `first::advance` goes past each candidate whose piece is over the limit, so the first that passes stays the same.
 use denote.Ref.{now}
-use Rattle.rows.specs.First.{firstPassing, isWithin}
+use Rattle.rows.specs.First.{firstPassing}
 use Rattle.rows.specs.FirstLaws.{first-none, first-here, first-after, within-yes, within-no}
-use Rattle.pieces.specs.Pieces.{pieceLength}
+use Rattle.pieces.specs.Pieces.{pieceLength, isWithin}
 use Rattle.pieces.specs.DomainLaws.{ends-rise}
 use borrow.Author.Needs.{needs}
 use native.Mathlib.Omega.{arith}

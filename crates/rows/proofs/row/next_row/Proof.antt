@@ -1,6 +1,6 @@
 -- `row::next_row` plants the tree of the row before, whose leaves are that row's scores, and writes the next row from it.
 use denote.Ref.{now}
-use Rattle.search.specs.Starts.{scoreAt}
+use Rattle.pieces.specs.Pieces.{scoreAt}
 use Rattle.rows.specs.Rows.{leafScore}
 use Rattle.rows.specs.RowsLaws.{planted, next-row-same}
 use borrow.Author.Needs.{needs}

@@ -1,10 +1,10 @@
--- `solve::add_cut_at` adds the cut at every candidate but the last.
+-- `score::add_cut_at` adds the cut at every candidate but the last.
 use borrow.Author.Needs.{needs}
 use native.Mathlib.Omega.{arith}
 use mathlib.Core.Path.{sym, _∙_}
-use Rattle.path.specs.PathsLaws.{cut-at-inner, cut-at-last}
-use Rattle.path.proofs.solve.add_cut_at.Statement.{statement}
-use Rattle.path.proofs.solve.add_cut_at.Tie as tie
+use Rattle.pieces.specs.PiecesLaws.{cut-at-inner, cut-at-last}
+use Rattle.pieces.proofs.score.add_cut_at.Statement.{statement}
+use Rattle.pieces.proofs.score.add_cut_at.Tie as tie
 
 add-if1 : tie.Need-add-if1
 add-if1 c = search needs
