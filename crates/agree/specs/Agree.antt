@@ -28,8 +28,8 @@ use Rattle.search.specs.Least.{entry, pickBest, leastOf}
 use Rattle.rows.specs.First.{firstStart}
 use Rattle.rows.specs.FirstLaws.{first-start-high, first-start-over, first-start-within}
 use Rattle.rows.specs.Rows as rows
-use Rattle.rows.specs.Rows.{FirstRow, NextRow, startOf}
-use Rattle.rows.specs.RowsLaws.{start-below}
+use Rattle.rows.specs.Rows.{FirstRow, NextRow, startOf, leafScore, behind, firstScore}
+use Rattle.rows.specs.RowsLaws.{start-below, first-one}
 
 -- what was found, as the answer of the table's definition
 abbrev pub found : Best → Found
@@ -98,24 +98,30 @@ module _ (l : Lengths) (left right : List ℕ) (ok : Candidates left right) wher
 
 -- ---- the rows
 
-module _ {l : Lengths} {left right : List ℕ} {cut : List Float} (ok : Candidates left right) where
+module _ {l : Lengths} {left right : List ℕ} {leaves : ℕ} {over₀ over : List ℕ} {cost₀ cost : List Float} {row : List ℕ} where
   -- the first row that is written is the table's
-  pub first-row-agrees : {over : List ℕ} {cost : List Float} {row : List ℕ} {n : ℕ} → FirstRow l left right cut over cost row n → (j : ℕ) → 0 < j → j < n
-      → (scoreAt over cost j ≡ bestWith l left right cut 1 j) × (getD row j 0 ≡ parentWith l left right cut 1 j)
+  pub first-row-agrees : FirstRow l left right leaves over₀ cost₀ over cost row → (j : ℕ) → 0 < j → j < length left
+      → (leafScore leaves over cost j ≡ bestWith l left right (behind (length left) cost₀) 1 j) × (getD row j 0 ≡ parentWith l left right (behind (length left) cost₀) 1 j)
   unfolding bestWith parentWith
-  first-row-agrees x j p h = (x .score j p h, x .parent j h)
+  first-row-agrees x j p h = (
+    x .score j h ∙ ap (λ (cut : List Float). firstScore l left right cut j) (x .cuts) ∙ sym (first-one l left right (behind (length left) cost₀) j p),
+    x .parent j h,
+  )
 
   -- and so is each next one, where the row before is
-  pub next-row-agrees : {k : ℕ} {over₀ over : List ℕ} {cost₀ cost : List Float} {row₀ row : List ℕ}
-      → ((i : ℕ) → suc k ≤ i → i < length left → scoreAt over₀ cost₀ i ≡ bestWith l left right cut (suc k) i)
-      → NextRow l left right cut (suc (suc k)) (scoreAt over₀ cost₀) over₀ cost₀ row₀ over cost row (length left) → (j : ℕ) → suc (suc k) ≤ j → j < length left
-      → (scoreAt over cost j ≡ bestWith l left right cut (suc (suc k)) j) × (getD row j 0 ≡ parentWith l left right cut (suc (suc k)) j)
+  pub next-row-agrees : {k : ℕ} → ((i : ℕ) → suc k ≤ i → i < length left → leafScore leaves over₀ cost₀ i ≡ bestWith l left right (behind (length left) cost₀) (suc k) i)
+      → NextRow l left right leaves over₀ cost₀ over cost row (suc (suc k)) → (j : ℕ) → suc (suc k) ≤ j → j < length left
+      → (leafScore leaves over cost j ≡ bestWith l left right (behind (length left) cost₀) (suc (suc k)) j)
+      × (getD row j 0 ≡ parentWith l left right (behind (length left) cost₀) (suc (suc k)) j)
   unfolding bestWith parentWith
-  next-row-agrees {k} {over₀} {over} {cost₀} {cost} f x j h g =
-      let b = rows.predecessorOf l left right (scoreAt over₀ cost₀) (suc (suc k)) j in
+  next-row-agrees {k} f x j h g =
+      let cut = behind (length left) cost₀ in
+      let own = leafScore leaves over₀ cost₀ in
+      let b = rows.predecessorOf l left right own (suc (suc k)) j in
+      let ok = x .laid .lent .candidates in
       let e : found b ≡ table.predecessorOf l left right (bestWith l left right cut (suc k)) (suc k) j =
-      sym (predecessor-agrees l left right ok (scoreAt over₀ cost₀) (suc k) j h g)
-      ∙ predecessor-looks l left right ok (scoreAt over₀ cost₀) (bestWith l left right cut (suc k)) (suc k) j (λ i a m. f i a (omega arith)) in (
-        x .score j h g ∙ ap (λ (z : Found). withCutAt cut j (foundScore z)) e,
+      sym (predecessor-agrees l left right ok own (suc k) j h g)
+      ∙ predecessor-looks l left right ok own (bestWith l left right cut (suc k)) (suc k) j (λ i a m. f i a (omega arith)) in (
+        x .score j h g ∙ ap (λ (c : List Float). withCutAt c j (b .score)) (x .cuts) ∙ ap (λ (z : Found). withCutAt cut j (foundScore z)) e,
         x .parent j h g ∙ ap foundIndex e,
       )

@@ -31,6 +31,21 @@ use Rattle.path.specs.ByCount.{bestWith, parentWith, wayWith, ChosenByCo
 abbrev pub Reached : ℕ → ℕ → Type 0
 Reached k j = (k ≤ j) × (k ≡ 0 → j ≡ 0)
 
+-- ---- one more piece by the tie rule
+
+module _ (l : Lengths) (left right : List ℕ) (own : ℕ → ℕ → Score) where
+  tie-run-more : (k n a : ℕ) (rest : List ℕ) (i j : ℕ) → n + length rest ≡ k → TieRun l left right own n a rest i → ChosenByCount l left right own k i j
+      → TieRun l left right own n a (rest ++ (j ∷ [])) j
+  tie-run-more k n a [] i j e r c = let q : k ≡ n = omega arith in (rw (← q, r) c, refl)
+  tie-run-more k n a (b ∷ rest) i j e (p, r) c = (p, tie-run-more k (suc n) b rest i j (omega arith) r c)
+
+  -- a path of k pieces and a piece that is chosen after them
+  pub tie-more : (k : ℕ) (path : List ℕ) (i j : ℕ) → length path ≡ suc k → TiePath l left right own path i → ChosenByCount l left right own k i j → TiePath l left right own (path ++ (j ∷ [])) j
+  tie-more k [] i j e t c = absurd t
+  tie-more k (a ∷ rest) i j e (z, r) c = (z, tie-run-more k 0 a rest i j (omega arith) r c)
+
+-- ---- the table
+
 module _ {l : Lengths} {left right : List ℕ} {cut : List Float} (ok : Lent l left right cut) where
   abbrev own : ℕ → ℕ → Score
   own = bestWith l left right cut
@@ -174,19 +189,10 @@ module _ {l : Lengths} {left right : List ℕ} {cut : List Float} (ok : Lent l l
 
   -- ---- it follows the tie rule
 
-  tie-run-more : (k n a : ℕ) (rest : List ℕ) (i j : ℕ) → n + length rest ≡ k → TieRun l left right own n a rest i → ChosenByCount l left right own k i j
-      → TieRun l left right own n a (rest ++ (j ∷ [])) j
-  tie-run-more k n a [] i j e r c = let q : k ≡ n = omega arith in (rw (← q, r) c, refl)
-  tie-run-more k n a (b ∷ rest) i j e (p, r) c = (p, tie-run-more k (suc n) b rest i j (omega arith) r c)
-
-  tie-more : (k : ℕ) (path : List ℕ) (i j : ℕ) → length path ≡ suc k → TiePath l left right own path i → ChosenByCount l left right own k i j → TiePath l left right own (path ++ (j ∷ [])) j
-  tie-more k [] i j e t c = absurd t
-  tie-more k (a ∷ rest) i j e (z, r) c = (z, tie-run-more k 0 a rest i j (omega arith) r c)
-
   pub with-tie : (k j : ℕ) → Reached k j → j < length left → TiePath l left right own (wayWith l left right cut k j) j
   unfolding wayWith
   with-tie zero j (h, z) g = (z refl, refl)
   with-tie (suc k) j (h, z) g =
       let p = parent (suc k) j in
       let a = parent-allowed k j h g in
-      tie-more k (wayWith l left right cut k p) p j (way-with-length k p) (with-tie k p (parent-reached k j h g) (omega (arith, a .0))) (parent-tie k j h g)
+      tie-more l left right own k (wayWith l left right cut k p) p j (way-with-length k p) (with-tie k p (parent-reached k j h g) (omega (arith, a .0))) (parent-tie k j h g)

@@ -2,7 +2,7 @@
 --   count-allowed   the path is allowed and has min(count, last index) pieces
 --   count-score     its score, added left to right, is the table's
 --   count-best      that score is at most the score of every allowed path of as many pieces; count-is-best   so the path is best
---   count-tie       the path follows the tie rule, by each candidate's own best score with one piece fewer
+--   count-tie       the path follows the tie rule, by each candidate's own best score with one piece fewer; count-only   no other path of as many pieces does
 --   own-best-by-count   the table's scores are such own best scores
 use mathlib.Core.Path.{_≡_}
 use mathlib.Core.List.{List, [], _∷_}
@@ -16,8 +16,10 @@ use Rattle.pieces.specs.Pieces.{noScore, atMost}
 use Rattle.pieces.specs.Domain.{Lent}
 use Rattle.pieces.specs.DomainLaws.{at-most-refl}
 use Rattle.pieces.specs.declared.lengths.Lengths.{Lengths}
+use Rattle.pieces.specs.declared.score.Score.{Score}
 use Rattle.path.specs.Paths.{PathWith, piecesOf, PathByCount, lastOf, scoreFrom, pathScore, BestByCount}
 use Rattle.path.specs.ByCount.{bestWith, wayWith, bestPathByCount, bestScoreByCount, OwnBestByCount, TieRuleByCount}
+use Rattle.path.specs.CountTieLaws.{tie-unique-by-count, tie-same-by-count}
 use Rattle.path.specs.CountLaws.{Reached, with-allowed, with-attained, with-below, with-tie}
 
 module _ {l : Lengths} {left right : List ℕ} {cut : List Float} (ok : Lent l left right cut) where
@@ -63,7 +65,15 @@ module _ {l : Lengths} {left right : List ℕ} {cut : List Float} (ok : Lent l l
     pub count-is-best : BestByCount l left right cut count (bestPathByCount l left right cut count)
     count-is-best = record { allowed = count-allowed; least = λ other p. rw count-score (count-best other p) }
 
-    -- and it follows the tie rule
-    pub count-tie : TieRuleByCount l left right (bestWith l left right cut) (bestPathByCount l left right cut count)
+    -- it follows the tie rule, by whatever own best scores
+    pub count-tie : {own : ℕ → ℕ → Score} → OwnBestByCount l left right cut own → TieRuleByCount l left right own (bestPathByCount l left right cut count)
     unfolding bestPathByCount
-    count-tie = with-tie ok (piecesOf left count) (lastOf left) last-reached last-inside
+    count-tie best =
+        tie-same-by-count ok own-best-by-count best (wayWith l left right cut (piecesOf left count) (lastOf left)) (lastOf left) last-inside
+        (with-tie ok (piecesOf left count) (lastOf left) last-reached last-inside)
+
+    -- and no other path of as many pieces does
+    pub count-only : {own : ℕ → ℕ → Score} → OwnBestByCount l left right cut own → (other : List ℕ) → TieRuleByCount l left right own other
+        → length other ≡ suc (piecesOf left count) → other ≡ bestPathByCount l left right cut count
+    count-only best other t n =
+        tie-unique-by-count ok best (piecesOf left count) (lastOf left) last-inside other (bestPathByCount l left right cut count) t (count-tie best) n (count-allowed .1)

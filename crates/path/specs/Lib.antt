@@ -34,22 +34,25 @@ pub mod WalkLaws
 --   way-path, path-weaken, run-rises   rules of paths
 --   best-chosen, best-allowed, best-attained, best-below   the table is the best of all paths
 pub mod BestLaws
---   lowest-unique, path-unique, tie-unique   the tie rule leaves one path; chosen-same   by whatever own best scores; path-nonneg
+--   lowest-unique, path-unique, tie-unique   the tie rule leaves one path; lowest-same, chosen-same   by whatever own best scores; path-nonneg
 pub mod TieLaws
 -- ByCount: the same with an exact number of pieces
 --   bestWith, parentWith, wayWith, bestPathByCount, bestScoreByCount, OwnBestByCount
 --   ChosenByCount, TieRun, TiePath, TieRuleByCount
 pub mod ByCount
 --   Reached, with-nonneg, with-step, with-least, parent-reached, parent-allowed, parent-tie   one row by the row before
---   with-allowed, with-attained, with-below, with-tie   the table is the best of all paths
+--   with-allowed, with-attained, with-below, tie-more, with-tie   the table is the best of all paths
 pub mod CountLaws
--- CountTheorems: own-best-by-count, count-allowed, count-score, count-best, count-is-best, count-tie
+--   tie-unique-by-count   the tie rule leaves one path of as many pieces; tie-same-by-count   by whatever own best scores
+pub mod CountTieLaws
+-- CountTheorems: own-best-by-count, count-allowed, count-score, count-best, count-is-best, count-tie, count-only
 pub mod CountTheorems
 -- Solved: what the functions need and leave
---   Room, Ready, Filled, parentAt, Parents, Solution
+--   cutsIn, parentsIn, Room, Ready, Filled, parentAt, Parents, Solution
 pub mod Solved
+--   second-part           the parents, or the costs of the cuts, as a part that is lent
 --   ready-scored, ready-found, ready-score, ready-parent, ready-below   one candidate
---   room-set, filled-start, filled-room, filled-ready, filled-next, filled-over   one after another
+--   filled-ready, filled-next, room-first, filled-first, filled-over   one after another
 --   filled-score, filled-parents, filled-path, filled-few   the whole table
 pub mod SolvedLaws
 -- Theorems: own-best, solve-allowed, solve-score, solve-best, solve-is-best, solve-tie, solve-only

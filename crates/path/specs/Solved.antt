@@ -1,40 +1,49 @@
--- What the functions of this crate need and leave: the table in three lent lists, the path in a fourth, and the answer.
+-- What the functions of this crate need and leave: the table in two lent lists, the path in a third, and the answer.
 use mathlib.Core.Path.{_≡_}
 use mathlib.Core.List.{List}
-use Prim.Native.Nat.{ℕ, _≤_, _<_}
+use Prim.Native.Nat.{ℕ, _+_, _≤_, _<_}
 use lib.Ieee.{Float}
-use lib.ListN.{length, getD}
+use lib.ListN.{length, getD, take, drop}
 use Rattle.pieces.specs.Pieces.{scoreAt}
-use Rattle.basics.specs.Front.{onto, tabulate}
+use Rattle.basics.specs.Front.{onto}
 use Rattle.pieces.specs.Limits.{maxIndex}
 use Rattle.pieces.specs.Domain.{Lent}
 use Rattle.pieces.specs.declared.lengths.Lengths.{Lengths}
 use Rattle.path.specs.declared.solve.Solved.{Solved}
 use Rattle.path.specs.Paths.{lastOf}
-use Rattle.path.specs.Table.{bestScore, bestOver, bestCost, parentOf, Falling, bestPath}
+use Rattle.path.specs.Table.{bestScore, parentOf, Falling, bestPath}
 
 -- ---- the table
 
--- the lists have a place for each candidate
-pub record Room (left over : List ℕ) (cost : List Float) (parent : List ℕ) : Type 0 where
-  pub overs : length left ≤ length over
-  pub costs : length left ≤ length cost
-  pub parents : length left ≤ length parent
+-- the costs of the cuts at n candidates: they stand behind the scores' costs, that of candidate j at n + j
+abbrev pub cutsIn : ℕ → List Float → List Float
+cutsIn n cost = take n (drop n cost)
 
-module _ (l : Lengths) (left right : List ℕ) (cut : List Float) where
+-- the parents of n candidates: they stand behind the counts of pieces over the limit, that of candidate j at n + j
+abbrev pub parentsIn : ℕ → List ℕ → List ℕ
+parentsIn n over = take n (drop n over)
+
+module _ (l : Lengths) (left right : List ℕ) where
+  -- the lists have two places for each candidate, and the costs of the cuts are there
+  pub record Room (over : List ℕ) (cost : List Float) : Type 0 where
+    pub lent : Lent l left right (cutsIn (length left) cost)
+    pub overs : length left + length left ≤ length over
+    pub costs : length left + length left ≤ length cost
+
   -- the table holds the best scores of the candidates before j
-  pub record Ready (over : List ℕ) (cost : List Float) (parent : List ℕ) (j : ℕ) : Type 0 where
-    pub lent : Lent l left right cut
-    pub room : Room left over cost parent
+  pub record Ready (over : List ℕ) (cost : List Float) (j : ℕ) : Type 0 where
+    pub room : Room over cost
     pub later : 0 < j
     pub inside : j < length left
-    pub scores : (k : ℕ) → k < j → scoreAt over cost k ≡ bestScore l left right cut k
+    pub scores : (k : ℕ) → k < j → scoreAt over cost k ≡ bestScore l left right (cutsIn (length left) cost) k
 
-  -- at the first n candidates the lists hold the best scores and the parents; beyond them they are as they were
-  pub record Filled (over₀ : List ℕ) (cost₀ : List Float) (parent₀ over : List ℕ) (cost : List Float) (parent : List ℕ) (n : ℕ) : Type 0 where
-    pub overs : over ≡ onto (tabulate (bestOver l left right cut) n) over₀
-    pub costs : cost ≡ onto (tabulate (bestCost l left right cut) n) cost₀
-    pub parents : parent ≡ onto (tabulate (parentOf l left right cut) n) parent₀
+  -- the table holds the best scores and the parents of the first j candidates; the cuts' costs and the lengths are as they were
+  pub record Filled (over₀ : List ℕ) (cost₀ : List Float) (over : List ℕ) (cost : List Float) (j : ℕ) : Type 0 where
+    pub scores : (k : ℕ) → k < j → scoreAt over cost k ≡ bestScore l left right (cutsIn (length left) cost₀) k
+    pub parents : (k : ℕ) → k < j → getD over (length left + k) 0 ≡ parentOf l left right (cutsIn (length left) cost₀) k
+    pub cuts : cutsIn (length left) cost ≡ cutsIn (length left) cost₀
+    pub overs : length over ≡ length over₀
+    pub costs : length cost ≡ length cost₀
 
 -- ---- the way back
 

@@ -1,15 +1,15 @@
 -- How the table is filled: what the search for a predecessor reads there, that it always finds one, and that the table grows by one candidate at a time.
 use mathlib.Core.Path.{_≡_, refl, sym, ap, _∙_}
+use mathlib.Core.Logic.{inl, inr}
 use mathlib.Core.List.{List}
-use Prim.Native.Nat.{ℕ, _+_, _-_, _≤_, _<_}
+use Prim.Native.Nat.{ℕ, suc, _+_, _-_, _≤_, _<_}
 use native.Mathlib.Omega.{arith}
-use native.Mathlib.Numerals.{add-one}
 use lib.Dec.{T-not}
 use lib.Ieee.{Float, nan}
-use lib.ListN.{length, getD, set, length-set}
-use Rattle.basics.specs.Front.{onto-tabulate-at, onto-tabulate-length, onto-tabulate-next, onto-tabulate-set, onto-tabulate-one}
+use lib.ListN.{length, set, take, drop, length-set, length-drop}
+use lib.Seq.{getD-set-same, getD-set-other, getD-take, getD-drop, drop-set-lt, length-take-le}
+use Rattle.laws.specs.Tests.{lt-or-le}
 use Rattle.pieces.specs.Pieces.{noScore, arrival, scoreAt, withCutAt}
-use Rattle.pieces.specs.Domain.{Lent}
 use Rattle.pieces.specs.declared.lengths.Lengths.{Lengths}
 use Rattle.pieces.specs.declared.score.Score.{Score}
 use Rattle.path.specs.declared.predecessor.Found.{Found}
@@ -21,20 +21,26 @@ use Rattle.path.specs.Table.{Scored, predecessorOf, bestScore, bestOver,
 use Rattle.path.specs.WayLaws.{way-few, way-same}
 use Rattle.path.specs.PredecessorLaws.{start-next, predecessor-same}
 use Rattle.path.specs.TableLaws.{best-first, best-next, best-few, parent-below}
-use Rattle.path.specs.Solved.{Room, Ready, Filled, parentAt, Parents}
+use Rattle.path.specs.Solved.{cutsIn, parentsIn, Room, Ready, Filled, parentAt, Parents}
+
+-- the part of a list from n to n + n, as it is lent
+pub second-part : {A : Type 0} (n : ℕ) (xs : List A) → take (n + n - n) (drop n xs) ≡ take n (drop n xs)
+second-part n xs = let e : n + n - n ≡ n = omega arith in rw e
 
 -- ---- at one candidate
 
-module _ {l : Lengths} {left right : List ℕ} {cut : List Float} {over : List ℕ} {cost : List Float} {parent : List ℕ} {j : ℕ}
-    (ok : Ready l left right cut over cost parent j) where
+module _ {l : Lengths} {left right over : List ℕ} {cost : List Float} {j : ℕ} (ok : Ready l left right over cost j) where
+  abbrev cut : List Float
+  cut = cutsIn (length left) cost
+
   -- what the search reads
   pub ready-scored : Scored left right over cost j
   ready-scored = record {
-    candidates = ok .lent .candidates;
+    candidates = ok .room .lent .candidates;
     inside = ok .inside;
     overs = omega (arith, ok .inside, ok .room .overs);
     costs = omega (arith, ok .inside, ok .room .costs);
-    few = λ k h. let e = ap (λ (s : Score). s .over) (ok .scores k h) in rw e (best-few (ok .lent) k (omega (arith, ok .inside)));
+    few = λ k h. let e = ap (λ (s : Score). s .over) (ok .scores k h) in rw e (best-few (ok .room .lent) k (omega (arith, ok .inside)));
   }
 
   -- it searches the best scores
@@ -59,108 +65,144 @@ module _ {l : Lengths} {left right : List ℕ} {cut : List Float} {over : List �
   ready-parent s i e = ap foundIndex (e ∙ search-same)
 
   pub ready-below : (s : Score) (i : ℕ) → At s i ≡ predecessorOf l left right (scoreAt over cost) 0 j → i < j
-  ready-below s i e = rw (ready-parent s i e) (parent-below (ok .lent) j (ok .later) (ok .inside))
+  ready-below s i e = rw (ready-parent s i e) (parent-below (ok .room .lent) j (ok .later) (ok .inside))
 
 -- ---- from one candidate to the next
 
--- a store leaves the room
-pub room-set : {left over : List ℕ} {cost : List Float} {parent : List ℕ} (a : ℕ) (b : Float) (c : ℕ) → Room left over cost parent
-    → Room left (set over 0 a) (set cost 0 b) (set parent 0 c)
-room-set a b c r = record { overs = simp length-set (r .overs); costs = simp length-set (r .costs); parents = simp length-set (r .parents) }
+-- the table of no candidates
+filled-none : {l : Lengths} {left right over₀ : List ℕ} {cost₀ : List Float} → Filled l left right over₀ cost₀ over₀ cost₀ 0
+filled-none = record {
+  scores = λ k h. absurd (omega arith);
+  parents = λ k h. absurd (omega arith);
+  cuts = refl;
+  overs = refl;
+  costs = refl;
+}
 
-module _ {l : Lengths} {left right : List ℕ} {cut : List Float} (lent : Lent l left right cut)
-    {over₀ : List ℕ} {cost₀ : List Float} {parent₀ : List ℕ} (room : Room left over₀ cost₀ parent₀) where
-  -- the first candidate has the score of a path without pieces
-  pub filled-start : (zero-cost : Float) → zero-cost ≡ noScore .cost
-      → Filled l left right cut (set over₀ 0 0) (set cost₀ 0 zero-cost) (set parent₀ 0 0) (set over₀ 0 0) (set cost₀ 0 zero-cost) (set parent₀ 0 0) 1
-  unfolding parentOf predecessorOf lowestLeast
-  filled-start z e =
-      let first = best-first l left right cut in record {
-        overs =
-            onto-tabulate-one (bestOver l left right cut) over₀ 0 (omega (arith, room .overs, lent .candidates .some)) (ap (λ (s : Score). s .over) (sym first))
-            ∙ sym (onto-tabulate-set (bestOver l left right cut) over₀ 1 0 0 (omega arith));
-        costs =
-            onto-tabulate-one (bestCost l left right cut) cost₀ z (omega (arith, room .costs, lent .candidates .some)) (e ∙ ap (λ (s : Score). s .cost) (sym first))
-            ∙ sym (onto-tabulate-set (bestCost l left right cut) cost₀ 1 0 z (omega arith));
-        parents =
-            onto-tabulate-one (parentOf l left right cut) parent₀ 0 (omega (arith, room .parents, lent .candidates .some)) refl
-            ∙ sym (onto-tabulate-set (parentOf l left right cut) parent₀ 1 0 0 (omega arith));
-      }
+module _ {l : Lengths} {left right over₀ : List ℕ} {cost₀ : List Float} (room : Room l left right over₀ cost₀) where
+  abbrev cut₀ : List Float
+  cut₀ = cutsIn (length left) cost₀
 
-  module _ {over : List ℕ} {cost : List Float} {parent : List ℕ} {n : ℕ} (f : Filled l left right cut over₀ cost₀ parent₀ over cost parent n) where
-    -- the lists are as long as they were
-    pub filled-room : n ≤ length left → (length over ≡ length over₀) × (length cost ≡ length cost₀) × (length parent ≡ length parent₀)
-    filled-room h = (
-      rw (f .overs) (onto-tabulate-length (bestOver l left right cut) over₀ n (omega (arith, room .overs))),
-      rw (f .costs) (onto-tabulate-length (bestCost l left right cut) cost₀ n (omega (arith, room .costs))),
-      rw (f .parents) (onto-tabulate-length (parentOf l left right cut) parent₀ n (omega (arith, room .parents))),
-    )
-
-    -- the next candidate can be settled
-    pub filled-ready : 0 < n → n < length left → Ready l left right cut over cost parent n
-    filled-ready h g =
-        let r = filled-room (omega arith) in record {
-          lent = lent;
-          room = record { overs = omega (arith, r .0, room .overs); costs = omega (arith, r .1, room .costs); parents = omega (arith, r .2, room .parents) };
-          later = h;
-          inside = g;
-          scores = λ k m.
-              let a : getD over k 0 ≡ bestOver l left right cut k = rw (f .overs) (onto-tabulate-at (bestOver l left right cut) over₀ n k 0 m) in
-              let b : getD cost k nan ≡ bestCost l left right cut k = rw (f .costs) (onto-tabulate-at (bestCost l left right cut) cost₀ n k nan m) in
-              rw (a, b);
-        }
-
-    -- and then stands in the table
-    pub filled-next : n < length left
-        → Filled l left right cut over₀ cost₀ parent₀ (set over n (bestOver l left right cut n)) (set cost n (bestCost l left right cut n))
-        (set parent n (parentOf l left right cut n)) (n + 1)
-    filled-next h = record {
-      overs = rw (f .overs, add-one) (onto-tabulate-next (bestOver l left right cut) over₀ n (omega (arith, room .overs)));
-      costs = rw (f .costs, add-one) (onto-tabulate-next (bestCost l left right cut) cost₀ n (omega (arith, room .costs)));
-      parents = rw (f .parents, add-one) (onto-tabulate-next (parentOf l left right cut) parent₀ n (omega (arith, room .parents)));
+  module _ {over : List ℕ} {cost : List Float} {j : ℕ} (f : Filled l left right over₀ cost₀ over cost j) where
+    -- the lists have room as before
+    filled-room : Room l left right over cost
+    filled-room = record {
+      lent = rw (f .cuts) (room .lent);
+      overs = rw (f .overs) (room .overs);
+      costs = rw (f .costs) (room .costs);
     }
 
--- what the lists held at the first candidate does not matter
-pub filled-over : {l : Lengths} {left right : List ℕ} {cut : List Float} {over : List ℕ} {cost : List Float} {parent : List ℕ} {n : ℕ}
-    (over₀ : List ℕ) (a : ℕ) (cost₀ : List Float) (b : Float) (parent₀ : List ℕ) (c : ℕ) → 0 < n
-    → Filled l left right cut (set over₀ 0 a) (set cost₀ 0 b) (set parent₀ 0 c) over cost parent n → Filled l left right cut over₀ cost₀ parent₀ over cost parent n
-filled-over {l} {left} {right} {cut} {over} {cost} {parent} {n} over₀ a cost₀ b parent₀ c h f = record {
-  overs = f .overs ∙ onto-tabulate-set (bestOver l left right cut) over₀ n 0 a h;
-  costs = f .costs ∙ onto-tabulate-set (bestCost l left right cut) cost₀ n 0 b h;
-  parents = f .parents ∙ onto-tabulate-set (parentOf l left right cut) parent₀ n 0 c h;
-}
+    -- the next candidate can be settled
+    pub filled-ready : 0 < j → j < length left → Ready l left right over cost j
+    filled-ready h g = record { room = filled-room; later = h; inside = g; scores = λ k m. rw (f .cuts) (f .scores k m) }
+
+    -- with its best score and its parent it stands in the table
+    filled-with : j < length left → (a : ℕ) (c : Float) (p : ℕ) → bestScore l left right cut₀ j ≡ record { over = a; cost = c } → parentOf l left right cut₀ j ≡ p
+        → Filled l left right over₀ cost₀ (set (set over j a) (length left + j) p) (set cost j c) (suc j)
+    filled-with h a c p s e = record {
+      scores = λ k m. elim (lt-or-le k j) [
+        | inl n ↦
+            rw (
+              getD-set-other (set over j a) (length left + j) k p 0 (λ q. absurd (omega arith)),
+              getD-set-other over j k a 0 (λ q. absurd (omega arith)),
+              getD-set-other cost j k c nan (λ q. absurd (omega arith)),
+            ) (f .scores k n)
+        | inr n ↦
+            let q : k ≡ j = omega arith in
+            rw (
+              q,
+              getD-set-other (set over j a) (length left + j) j p 0 (λ q. absurd (omega arith)),
+              getD-set-same over j a 0 (omega (arith, room .overs, f .overs)),
+              getD-set-same cost j c nan (omega (arith, room .costs, f .costs)),
+            ) (sym s)
+      ];
+      parents = λ k m. elim (lt-or-le k j) [
+        | inl n ↦
+            rw (
+              getD-set-other (set over j a) (length left + j) (length left + k) p 0 (λ q. absurd (omega arith)),
+              getD-set-other over j (length left + k) a 0 (λ q. absurd (omega arith)),
+            ) (f .parents k n)
+        | inr n ↦
+            let q : k ≡ j = omega arith in
+            rw (q, getD-set-same (set over j a) (length left + j) p 0 (simp length-set (omega (arith, room .overs, f .overs)))) (sym e)
+      ];
+      cuts = ap (take (length left)) (drop-set-lt (length left) cost j c h) ∙ f .cuts;
+      overs = simp length-set (f .overs);
+      costs = simp length-set (f .costs);
+    }
+
+    pub filled-next : j < length left
+        → Filled l left right over₀ cost₀
+        (set (set over j (bestOver l left right (cutsIn (length left) cost) j)) (length left + j) (parentOf l left right (cutsIn (length left) cost) j))
+        (set cost j (bestCost l left right (cutsIn (length left) cost) j)) (suc j)
+    filled-next h = rw (f .cuts) (filled-with h (bestOver l left right cut₀ j) (bestCost l left right cut₀ j) (parentOf l left right cut₀ j) refl refl)
+
+  -- ---- the first candidate, which has the score of a path without pieces
+
+  module _ (z : Float) (e : z ≡ noScore .cost) where
+    abbrev over₁ : List ℕ
+    over₁ = set (set over₀ 0 0) (length left) 0
+
+    abbrev cost₁ : List Float
+    cost₁ = set cost₀ 0 z
+
+    first : Filled l left right over₀ cost₀ over₁ cost₁ 1
+    unfolding parentOf predecessorOf lowestLeast
+    first =
+        let q : length left + 0 ≡ length left = omega arith in
+        rw q at (filled-with filled-none (room .lent .candidates .some) 0 z 0 (best-first l left right cut₀ ∙ ap (λ (c : Float). record { over = 0; cost = c }) (sym e)) refl)
+
+    pub room-first : Room l left right over₁ cost₁
+    room-first = filled-room first
+
+    pub filled-first : Filled l left right over₁ cost₁ over₁ cost₁ 1
+    filled-first = record {
+      scores = λ k h. rw (first .cuts) (first .scores k h);
+      parents = λ k h. rw (first .cuts) (first .parents k h);
+      cuts = refl;
+      overs = refl;
+      costs = refl;
+    }
+
+    -- what the lists held there does not matter
+    pub filled-over : {over : List ℕ} {cost : List Float} {j : ℕ} → Filled l left right over₁ cost₁ over cost j → Filled l left right over₀ cost₀ over cost j
+    filled-over f = record {
+      scores = λ k h. rw (first .cuts) at (f .scores k h);
+      parents = λ k h. rw (first .cuts) at (f .parents k h);
+      cuts = f .cuts ∙ first .cuts;
+      overs = f .overs ∙ first .overs;
+      costs = f .costs ∙ first .costs;
+    }
 
 -- ---- the whole table
 
-module _ {l : Lengths} {left right : List ℕ} {cut : List Float} (lent : Lent l left right cut)
-    {over₀ : List ℕ} {cost₀ : List Float} {parent₀ : List ℕ} (room : Room left over₀ cost₀ parent₀)
-    {over : List ℕ} {cost : List Float} {parent : List ℕ} (f : Filled l left right cut over₀ cost₀ parent₀ over cost parent (length left)) where
+module _ {l : Lengths} {left right over₀ : List ℕ} {cost₀ : List Float} (room : Room l left right over₀ cost₀)
+    {over : List ℕ} {cost : List Float} (f : Filled l left right over₀ cost₀ over cost (length left)) where
   last-inside : lastOf left < length left
-  last-inside = omega (arith, lent .candidates .some)
+  last-inside = omega (arith, room .lent .candidates .some)
 
   -- its score at the last candidate is the best
-  pub filled-score : scoreAt over cost (lastOf left) ≡ bestScore l left right cut (lastOf left)
-  filled-score =
-      let a : getD over (lastOf left) 0 ≡ bestOver l left right cut (lastOf left) = rw (f .overs) (onto-tabulate-at (bestOver l left right cut) over₀ (length left) (lastOf left) 0 last-inside) in
-      let b : getD cost (lastOf left) nan ≡ bestCost l left right cut (lastOf left) = rw (f .costs) (onto-tabulate-at (bestCost l left right cut) cost₀ (length left) (lastOf left) nan last-inside) in
-      rw (a, b)
+  pub filled-score : scoreAt over cost (lastOf left) ≡ bestScore l left right (cutsIn (length left) cost₀) (lastOf left)
+  filled-score = f .scores (lastOf left) last-inside
 
-  parent-same : (k : ℕ) → k ≤ lastOf left → parentAt parent k ≡ parentOf l left right cut k
-  parent-same k h = rw (f .parents) (onto-tabulate-at (parentOf l left right cut) parent₀ (length left) k 0 (omega (arith, last-inside)))
+  parent-same : (k : ℕ) → k ≤ lastOf left → parentAt (parentsIn (length left) over) k ≡ parentOf l left right (cutsIn (length left) cost₀) k
+  parent-same k h =
+      let inside : k < length left = omega (arith, last-inside) in
+      getD-take (length left) (drop (length left) over) k 0 inside ∙ getD-drop (length left) over k 0 ∙ f .parents k inside
 
   -- its parents lead back
-  pub filled-parents : Parents parent (lastOf left)
+  pub filled-parents : Parents (parentsIn (length left) over) (lastOf left)
   filled-parents = record {
-    inside = omega (arith, last-inside, filled-room lent room f (omega arith) .2, room .parents);
-    few = omega (arith, lent .candidates .few);
-    falling = λ j h g. rw (parent-same j g) (parent-below lent j h (omega (arith, last-inside)));
+    inside = rw (length-take-le (length left) (drop (length left) over) (simp length-drop (omega (arith, f .overs, room .overs)))) last-inside;
+    few = omega (arith, room .lent .candidates .few);
+    falling = λ j h g. rw (parent-same j g) (parent-below (room .lent) j h (omega (arith, last-inside)));
   }
 
   -- along the best path
-  pub filled-path : wayTo (parentAt parent) (lastOf left) ≡ bestPath l left right cut
+  pub filled-path : wayTo (parentAt (parentsIn (length left) over)) (lastOf left) ≡ bestPath l left right (cutsIn (length left) cost₀)
   unfolding bestPath
-  filled-path = way-same (parentAt parent) (parentOf l left right cut) (lastOf left) (filled-parents .falling) parent-same
+  filled-path = way-same (parentAt (parentsIn (length left) over)) (parentOf l left right (cutsIn (length left) cost₀)) (lastOf left) (filled-parents .falling) parent-same
 
   -- which fits into a list that has a place for each candidate
-  pub filled-few : length (wayTo (parentAt parent) (lastOf left)) ≤ length left
-  filled-few = omega (arith, way-few (parentAt parent) (lastOf left) (filled-parents .falling), last-inside)
+  pub filled-few : length (wayTo (parentAt (parentsIn (length left) over)) (lastOf left)) ≤ length left
+  filled-few = omega (arith, way-few (parentAt (parentsIn (length left) over)) (lastOf left) (filled-parents .falling), last-inside)

@@ -38,6 +38,22 @@ lowest-unique {test} {score} i k p q a b = elim (lt-or-le i k) [
     beaten : (i k : ℕ) → T (nonneg (score i .cost)) → T (nonneg (score k .cost)) → T (lessThan (score k) (score i)) → T (atMost (score i) (score k)) → ⊥
     beaten i k p q l m = T-not (atMost (score i) (score k)) (rw (less-than-is (score k) (score i) q p) at l) m
 
+-- scores that are equal in order choose the same
+pub lowest-same : {test : ℕ → Bool} {score score' : ℕ → Score} {from to i : ℕ}
+    → ((k : ℕ) → from ≤ k → k < to → T (atMost (score k) (score' k))) → ((k : ℕ) → from ≤ k → k < to → T (atMost (score' k) (score k)))
+    → LowestLeast test score from to i → LowestLeast test score' from to i
+lowest-same {test} {score} {score'} {from} {to} {i} up down c = record {
+  low = c .low;
+  high = c .high;
+  passed = c .passed;
+  least = λ k h m t.
+      at-most-trans (score' i) (score i) (score' k) (down i (c .low) (c .high)) (at-most-trans (score i) (score k) (score' k) (c .least k h m t) (up k h m));
+  lowest = λ k h m t.
+      score-le-lt-trans (score' i .over) (score' i .cost) (score i .over) (score i .cost) (score' k .over) (score' k .cost) (down i (c .low) (c .high))
+      (score-lt-le-trans (score i .over) (score i .cost) (score k .over) (score k .cost) (score' k .over) (score' k .cost) (c .lowest k h m t)
+      (up k h (omega (arith, c .high))));
+}
+
 -- ---- one path
 
 -- a path of at least one piece, taken apart at its last piece
@@ -87,25 +103,26 @@ module _ (rule : ℕ → ℕ → Type 0) (rises : (i j : ℕ) → rule i j → i
 -- ---- own best scores
 
 module _ {l : Lengths} {left right : List ℕ} {cut : List Float} (ok : Lent l left right cut) where
-  run-nonneg : (s : Score) (i : ℕ) (rest : List ℕ) (last : ℕ) → last < length left → Run (Allowed (l .limit) left right) i rest last → T (nonneg (s .cost))
-      → T (nonneg (scoreFrom l left right cut s i rest .cost))
-  unfolding scoreFrom
-  run-nonneg s i [] last h e p = p
-  run-nonneg s i (j ∷ rest) last h (r, q) p =
-      let up = run-rises (Allowed (l .limit) left right) (λ m n a. a .0) j rest last q in
-      run-nonneg (step l left right cut s i j) j rest last h q
-      (cut-at-nonneg (ok .costs) j (omega arith) (withPiece l s (pieceLength left right i j))
-      (piece-nonneg (ok .preferred) s (pieceLength left right i j) (piece-bounded (ok .candidates) i j (omega arith)) p))
+  module _ (rule : ℕ → ℕ → Type 0) (rises : (i j : ℕ) → rule i j → i < j) where
+    run-nonneg : (s : Score) (i : ℕ) (rest : List ℕ) (last : ℕ) → last < length left → Run rule i rest last → T (nonneg (s .cost))
+        → T (nonneg (scoreFrom l left right cut s i rest .cost))
+    unfolding scoreFrom
+    run-nonneg s i [] last h e p = p
+    run-nonneg s i (j ∷ rest) last h (r, q) p =
+        let up = run-rises rule rises j rest last q in
+        run-nonneg (step l left right cut s i j) j rest last h q
+        (cut-at-nonneg (ok .costs) j (omega arith) (withPiece l s (pieceLength left right i j))
+        (piece-nonneg (ok .preferred) s (pieceLength left right i j) (piece-bounded (ok .candidates) i j (omega arith)) p))
 
-  -- an allowed path's score is no NaN
-  pub path-nonneg : (path : List ℕ) (j : ℕ) → j < length left → Path (Allowed (l .limit) left right) path j → T (nonneg (pathScore l left right cut path .cost))
-  unfolding pathScore
-  path-nonneg [] j h p = absurd p
-  path-nonneg (i ∷ rest) j h (e, r) = run-nonneg noScore i rest j h r nought-nonneg
+    -- the score of a path by a rule that rises is no NaN
+    pub path-nonneg : (path : List ℕ) (j : ℕ) → j < length left → Path rule path j → T (nonneg (pathScore l left right cut path .cost))
+    unfolding pathScore
+    path-nonneg [] j h p = absurd p
+    path-nonneg (i ∷ rest) j h (e, r) = run-nonneg noScore i rest j h r nought-nonneg
 
   module _ {own : ℕ → Score} (best : OwnBest l left right cut own) where
     own-nonneg : (j : ℕ) → j < length left → T (nonneg (own j .cost))
-    own-nonneg j h = rw (← best .attained j h) (path-nonneg (best .path j) j h (best .allowed j h))
+    own-nonneg j h = rw (← best .attained j h) (path-nonneg (Allowed (l .limit) left right) (λ i k a. a .0) (best .path j) j h (best .allowed j h))
 
     arrival-fine : (i j : ℕ) → i < j → j < length left → T (nonneg (arrival l left right own j i .cost))
     arrival-fine i j h g = piece-nonneg (ok .preferred) (own i) (pieceLength left right i j) (piece-bounded (ok .candidates) i j g) (own-nonneg i (omega arith))
@@ -130,18 +147,4 @@ module _ {l : Lengths} {left right : List ℕ} {cut : List Float} (ok : Lent l l
   module _ {own own' : ℕ → Score} (best : OwnBest l left right cut own) (best' : OwnBest l left right cut own') where
     -- so they choose the same
     pub chosen-same : (i j : ℕ) → j < length left → Chosen l left right own i j → Chosen l left right own' i j
-    chosen-same i j g c =
-        let at = arrival l left right own j in
-        let at' = arrival l left right own' j in
-        record {
-          low = c .low;
-          high = c .high;
-          passed = c .passed;
-          least = λ k h m t.
-              at-most-trans (at' i) (at i) (at' k) (arrival-at-most best' best i j (c .high) g)
-              (at-most-trans (at i) (at k) (at' k) (c .least k h m t) (arrival-at-most best best' k j m g));
-          lowest = λ k h m t.
-              let below : k < j = omega (arith, c .high) in
-              score-le-lt-trans (at' i .over) (at' i .cost) (at i .over) (at i .cost) (at' k .over) (at' k .cost) (arrival-at-most best' best i j (c .high) g)
-              (score-lt-le-trans (at i .over) (at i .cost) (at k .over) (at k .cost) (at' k .over) (at' k .cost) (c .lowest k h m t) (arrival-at-most best best' k j below g));
-        }
+    chosen-same i j g c = lowest-same (λ k h m. arrival-at-most best best' k j m g) (λ k h m. arrival-at-most best' best k j m g) c

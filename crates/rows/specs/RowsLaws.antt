@@ -7,8 +7,8 @@ use native.Mathlib.Nat.{le-refl, le-trans}
 use native.Mathlib.Omega.{arith}
 use lib.Dec.{T}
 use lib.Ieee.{Float, nan, binary64, ofBits}
-use lib.ListN.{length, getD, set}
-use lib.Seq.{getD-set-same, getD-set-other}
+use lib.ListN.{length, getD, take, drop, set, length-drop, length-set}
+use lib.Seq.{getD-set-same, getD-set-other, getD-take, getD-drop, length-take-le, ext-getD}
 use Rattle.laws.specs.Tests.{lt-or-le}
 use Rattle.laws.specs.Nonneg.{nonneg, nought-is, nought-nonneg}
 use Rattle.pieces.specs.Limits.{maxIndex}
@@ -23,10 +23,10 @@ use Rattle.search.specs.Least.{leastOf, leastIn, IsLeast}
 use Rattle.search.specs.LeastLaws.{least-is}
 use Rattle.search.specs.Starts.{arrivalAt, Starts}
 use Rattle.rows.specs.FirstLaws.{first-start-high}
-use Rattle.search.specs.Tree.{noLeaf, Leaves, Filled}
-use Rattle.search.specs.TreeLaws.{Sound, covers-all}
-use Rattle.search.specs.Fill.{written, kept}
-use Rattle.rows.specs.Rows.{startOf, predecessorOf, firstScore, Row, FirstRow, NextRow, leafScore, Planted}
+use Rattle.search.specs.Tree.{noLeaf}
+use Rattle.search.specs.TreeLaws.{Sound, Front, covers-all, covers-front}
+use Rattle.search.specs.Fill.{written, kept, Padded, Linked}
+use Rattle.rows.specs.Rows.{startOf, predecessorOf, firstScore, leafScore, behind, Laid, Kept, Row, FirstRow, NextRow, FirstWritten, NextWritten, Planted, RowReady}
 
 -- ---- where the last piece may start
 
@@ -56,24 +56,72 @@ module _ (l : Lengths) (left right : List ℕ) where
   unfolding predecessorOf pieceLength
   predecessor-by leaves over cost k j from b e h = rw e at h
 
+-- ---- what stands behind the tree
+
+-- an entry of it
+pub behind-at : {A : Type 0} (n : ℕ) (xs : List A) (j : ℕ) (z : A) → j < n → getD (behind n xs) j z ≡ getD xs (n * 4 + j) z
+unfolding behind
+behind-at n xs j z h = getD-take n (drop (n * 4) xs) j z h ∙ getD-drop (n * 4) xs j z
+
+pub behind-length : {A : Type 0} (n : ℕ) (xs : List A) → n * 5 ≤ length xs → length (behind n xs) ≡ n
+unfolding behind
+behind-length n xs h = length-take-le n (drop (n * 4) xs) (rw length-drop (omega arith))
+
+-- the part that the code hands on
+pub behind-part : {A : Type 0} (n : ℕ) (xs : List A) → take (n * 5 - n * 4) (drop (n * 4) xs) ≡ behind n xs
+unfolding behind
+behind-part n xs = let e : n * 5 - n * 4 ≡ n = omega arith in rw e
+
+-- it stays where its entries do
+pub behind-kept : (n : ℕ) {from : ℕ} {over₀ over : List ℕ} {cost₀ cost : List Float} → from ≤ n * 4 → n * 5 ≤ length cost₀ → Kept from over₀ cost₀ over cost
+    → behind n cost ≡ behind n cost₀
+behind-kept n {from} {over₀} {over} {cost₀} {cost} h g k =
+    ext-getD nan (behind n cost) (behind n cost₀) (behind-length n cost (omega (arith, k .costs)) ∙ sym (behind-length n cost₀ g))
+    (λ i m. let b : i < n = omega (arith, behind-length n cost (omega (arith, k .costs))) in
+    behind-at n cost i nan b ∙ ap (λ (s : Score). s .cost) (k .after (n * 4 + i) (omega arith)) ∙ sym (behind-at n cost₀ i nan b))
+
+pub kept-later : {from to : ℕ} {over₀ over : List ℕ} {cost₀ cost : List Float} → from ≤ to → Kept from over₀ cost₀ over cost → Kept to over₀ cost₀ over cost
+kept-later h k = record { overs = k .overs; costs = k .costs; after = λ m g. k .after m (le-trans h g) }
+
+pub kept-trans : {from : ℕ} {over₀ over₁ over₂ : List ℕ} {cost₀ cost₁ cost₂ : List Float} → Kept from over₁ cost₁ over₂ cost₂ → Kept from over₀ cost₀ over₁ cost₁
+    → Kept from over₀ cost₀ over₂ cost₂
+kept-trans a b = record { overs = a .overs ∙ b .overs; costs = a .costs ∙ b .costs; after = λ m g. a .after m g ∙ b .after m g }
+
+-- so do candidates, first starts and cuts
+pub laid-kept : {l : Lengths} {left right : List ℕ} {leaves from : ℕ} {over₀ over : List ℕ} {cost₀ cost : List Float} → Laid l left right leaves over₀ cost₀
+    → from ≤ length left * 4 → Kept from over₀ cost₀ over cost → Laid l left right leaves over cost
+laid-kept {l} {left} {right} {leaves} {from} {over₀} {over} {cost₀} {cost} x h k = record {
+  lent = rw (behind-kept (length left) h (x .costs) k) (x .lent);
+  tree = x .tree;
+  overs = omega (arith, x .overs, k .overs);
+  costs = omega (arith, x .costs, k .costs);
+  firsts = λ j g. ap (λ (s : Score). s .over) (k .after (length left * 4 + j) (omega arith)) ∙ x .firsts j g;
+}
+
 -- ---- what the search reads
 
-module _ {l : Lengths} {left right : List ℕ} (ok : Candidates left right) (likes : Preferred l) where
-  -- what the search reads of the tree
-  pub starts-of : {leaves : ℕ} {over : List ℕ} {cost : List Float} → Planted leaves (length left) over cost → (j : ℕ) → j < length left
-      → Starts l right over cost leaves j (getD left j 0)
-  starts-of {leaves} {over} {cost} t j h = record {
-    preferred = likes;
-    rights = omega (arith, ok .paired);
-    rise = λ i k a b. rights-rise ok i k a (omega arith);
-    behind = λ i a. ends-rise ok i j a h;
-    bounded = left-bounded ok j h;
-    overs = omega (arith, t .overs, t .enough);
-    costs = omega (arith, t .costs, t .enough);
-    few = λ i a. le-trans (t .few i (omega arith)) (omega (arith, ok .few));
-    fine = λ i a. t .fine i (omega arith);
-  }
+module _ {l : Lengths} {left right : List ℕ} {leaves : ℕ} {over : List ℕ} {cost : List Float} where
+  -- the tree's last leaf stands before the entries behind it
+  pub tree-size : Laid l left right leaves over cost → leaves * 2 ≤ length left * 4
+  tree-size x = omega (arith, x .tree .least)
 
+  -- what the search reads of the tree
+  pub starts-of : {k j : ℕ} → RowReady l left right leaves over cost k j → Starts l right over cost leaves j (getD left j 0)
+  starts-of {k} {j} x =
+      let ok = x .laid .lent .candidates in
+      record {
+        preferred = x .laid .lent .preferred;
+        rights = omega (arith, ok .paired, x .inside);
+        rise = λ i m a b. rights-rise ok i m a (omega (arith, x .inside));
+        behind = λ i a. ends-rise ok i j a (x .inside);
+        bounded = left-bounded ok j (x .inside);
+        overs = omega (arith, x .laid .overs, tree-size (x .laid), x .laid .tree .enough, x .inside);
+        costs = omega (arith, x .laid .costs, tree-size (x .laid), x .laid .tree .enough, x .inside);
+        few = λ i a. le-trans (x .few i a) (omega (arith, ok .few, x .inside));
+        fine = λ i a. x .fine i a;
+      }
+
+module _ {l : Lengths} {left right : List ℕ} (ok : Candidates left right) (likes : Preferred l) where
   -- the score through a candidate is not negative
   pub arrival-fine : (own : ℕ → Score) {n : ℕ} → ((i : ℕ) → i < n → T (nonneg (own i .cost))) → (j i : ℕ) → j < length left → i < n
       → T (nonneg (arrival l left right own j i .cost))
@@ -86,153 +134,255 @@ module _ {l : Lengths} {left right : List ℕ} (ok : Candidates left right) (lik
   predecessor-is own k j fine h g m =
       least-is (arrival l left right own j) j (λ i a. arrival-fine own fine j i m a) (startOf (l .limit) left right k j) (start-below l left right k j h g)
 
--- ---- each row is one again
+-- it comes before the candidate
+pub predecessor-high : {l : Lengths} {left right : List ℕ} {leaves : ℕ} {over : List ℕ} {cost : List Float} {k j : ℕ} (b : Best) → RowReady l left right leaves over cost k j
+    → b ≡ predecessorOf l left right (leafScore leaves over cost) k j → b .at < j
+predecessor-high {l} {left} {right} {leaves} {over} {cost} {k} {j} b x e =
+    rw e (predecessor-is (x .laid .lent .candidates) (x .laid .lent .preferred) (leafScore leaves over cost) k j (x .fine) (x .some) (x .reached) (x .inside) .high)
+
+-- ---- each score of a row is one again
+
+-- no more pieces over the limit than candidates before j, at a cost that is not negative
+abbrev pub Fair : ℕ → Score → Type 0
+Fair j s = (s .over ≤ j) × T (nonneg (s .cost))
 
 module _ {l : Lengths} {left right : List ℕ} {cut : List Float} (ok : Lent l left right cut) where
-  piece-over : (s : Score) (len i j : ℕ) → s .over ≤ i → i < j → withPiece l s len .over ≤ j
+  fair-piece : (s : Score) (i j : ℕ) → Fair i s → i < j → j < length left → Fair j (withPiece l s (pieceLength left right i j))
   unfolding withPiece
-  piece-over s len i j h g = omega (arith, over-one (l .limit) len)
+  fair-piece s i j f g h =
+      (omega (arith, f .0, over-one (l .limit) (pieceLength left right i j)), unfold withPiece in piece-nonneg (ok .preferred) s (pieceLength left right i j) (piece-bounded (ok .candidates) i j h) (f .1))
 
-  pub first-row-is : {over : List ℕ} {cost : List Float} {row : List ℕ} → length over ≡ length left → length cost ≡ length left
-      → FirstRow l left right cut over cost row (length left) → Row over cost (length left)
-  first-row-is {over} {cost} {row} eo ec x = record {
-    overs = eo;
-    costs = ec;
-    few = λ i h. elim (lt-or-le 0 i) [
-      | inl p ↦ rw (ap (λ (s : Score). s .over) (x .score i p h) ∙ cut-at-over cut i (withPiece l noScore (pieceLength left right 0 i)))
-          (piece-over noScore (pieceLength left right 0 i) 0 i (le-refl 0) p)
-      | inr z ↦ let e : i ≡ 0 = omega arith in rw e (omega (arith, ap (λ (s : Score). s .over) (x .start)))
-    ];
-    fine = λ i h. elim (lt-or-le 0 i) [
-      | inl p ↦ subst (λ (s : Score). T (nonneg (s .cost))) (sym (x .score i p h))
-          (cut-at-nonneg (ok .costs) i h (withPiece l noScore (pieceLength left right 0 i))
-          (piece-nonneg (ok .preferred) noScore (pieceLength left right 0 i) (piece-bounded (ok .candidates) 0 i h) nought-nonneg))
-      | inr z ↦ let e : 0 ≡ i = omega arith in
-          rw (← e) (subst (λ (s : Score). T (nonneg (s .cost))) (sym (x .start)) nought-nonneg)
-    ];
-  }
+  fair-cut : (s : Score) (j : ℕ) → Fair j s → j < length left → Fair j (withCutAt cut j s)
+  fair-cut s j f h = (rw (cut-at-over cut j s) (f .0), cut-at-nonneg (ok .costs) j h s (f .1))
 
-  pub next-row-is : {k : ℕ} {over₀ over : List ℕ} {cost₀ cost : List Float} {row₀ row : List ℕ} → 0 < k → length over ≡ length left → length cost ≡ length left
-      → Row over₀ cost₀ (length left) → NextRow l left right cut k (scoreAt over₀ cost₀) over₀ cost₀ row₀ over cost row (length left) → Row over cost (length left)
-  next-row-is {k} {over₀} {over} {cost₀} {cost} p eo ec r x = record {
-    overs = eo;
-    costs = ec;
-    few = λ j h. elim (lt-or-le j k) [
-      | inl m ↦ rw (ap (λ (s : Score). s .over) (x .kept j m)) (r .few j h)
-      | inr m ↦
-          let b = predecessorOf l left right (scoreAt over₀ cost₀) k j in
-          let is = predecessor-is (ok .candidates) (ok .preferred) (scoreAt over₀ cost₀) k j (λ i a. r .fine i (omega arith)) p m h in
-          rw (ap (λ (s : Score). s .over) (x .score j m h) ∙ cut-at-over cut j (b .score) ∙ ap (λ (s : Score). s .over) (is .is))
-          (piece-over (scoreAt over₀ cost₀ (b .at)) (pieceLength left right (b .at) j) (b .at) j (r .few (b .at) (omega (arith, is .high))) (is .high))
-    ];
-    fine = λ j h. elim (lt-or-le j k) [
-      | inl m ↦ rw (ap (λ (s : Score). s .cost) (x .kept j m)) (r .fine j h)
-      | inr m ↦
-          let b = predecessorOf l left right (scoreAt over₀ cost₀) k j in
-          let is = predecessor-is (ok .candidates) (ok .preferred) (scoreAt over₀ cost₀) k j (λ i a. r .fine i (omega arith)) p m h in
-          subst (λ (s : Score). T (nonneg (s .cost))) (sym (x .score j m h))
-          (cut-at-nonneg (ok .costs) j h (b .score) (subst (λ (s : Score). T (nonneg (s .cost))) (sym (is .is))
-          (arrival-fine (ok .candidates) (ok .preferred) (scoreAt over₀ cost₀) (r .fine) j (b .at) h (omega (arith, is .high)))))
-    ];
-  }
+  -- of the first row
+  pub first-fair : (j : ℕ) → j < length left → Fair j (firstScore l left right cut j)
+  unfolding firstScore
+  first-fair zero h = (le-refl 0, nought-nonneg)
+  first-fair (suc j) h =
+      fair-cut (withPiece l noScore (pieceLength left right 0 (suc j))) (suc j) (fair-piece noScore 0 (suc j) (le-refl 0, nought-nonneg) (omega arith) h) h
+
+  -- and of a later one
+  pub next-fair : (own : ℕ → Score) (k j : ℕ) → ((i : ℕ) → i < j → Fair i (own i)) → 0 < k → k ≤ j → j < length left
+      → Fair j (withCutAt cut j (predecessorOf l left right own k j .score))
+  next-fair own k j f p m h =
+      let b = predecessorOf l left right own k j in
+      let is = predecessor-is (ok .candidates) (ok .preferred) own k j (λ i a. f i a .1) p m h in
+      fair-cut (b .score) j (subst (Fair j) (sym (is .is)) (fair-piece (own (b .at)) (b .at) j (f (b .at) (is .high)) (is .high) h)) h
 
 -- ---- the tree of a row
 
-pub planted : {leaves n : ℕ} {over tree-over : List ℕ} {cost tree-cost : List Float} → n ≤ suc maxIndex → Row over cost n → Leaves n leaves
-    → leaves * 2 ≤ length tree-over → leaves * 2 ≤ length tree-cost → Filled leaves over cost tree-over tree-cost → Planted leaves n tree-over tree-cost
-planted {leaves} {n} {over} {tree-over} {cost} {tree-cost} small r t lo lc f =
-    let leaf : (i : ℕ) → i < n → scoreAt tree-over tree-cost (leaves + i) ≡ scoreAt over cost i = λ i h. f .leaf i (omega (arith, r .overs)) in
-    let none : (i : ℕ) → n ≤ i → i < leaves → scoreAt tree-over tree-cost (leaves + i) ≡ noLeaf = λ i h g. f .beyond i (omega (arith, r .overs)) g in
-    let sound : Sound leaves tree-over tree-cost = record {
-      overs = lo;
-      costs = lc;
-      few = λ i h. elim (lt-or-le i n) [
-        | inl m ↦ rw (ap (λ (s : Score). s .over) (leaf i m)) (le-trans (r .few i m) (omega arith))
-        | inr m ↦ rw (ap (λ (s : Score). s .over) (none i m h)) (le-refl (suc maxIndex))
-      ];
-      fine = λ i h. elim (lt-or-le i n) [
-        | inl m ↦ rw (ap (λ (s : Score). s .cost) (leaf i m)) (r .fine i m)
-        | inr m ↦ rw (ap (λ (s : Score). s .cost) (none i m h), nought-is) nought-nonneg
-      ];
-      inner = f .inner;
-    } in
-    record {
-      covers = covers-all sound (t .power);
-      enough = t .enough;
-      overs = lo;
-      costs = lc;
-      few = λ i h. rw (ap (λ (s : Score). s .over) (leaf i h)) (r .few i h);
-      fine = λ i h. rw (ap (λ (s : Score). s .cost) (leaf i h)) (r .fine i h);
-    }
+row-fair : {leaves n : ℕ} {over : List ℕ} {cost : List Float} → Row leaves n over cost → (i : ℕ) → i < n → Fair i (leafScore leaves over cost i)
+row-fair r i h = (r .few i h, r .fine i h)
+
+linked-kept : {leaves : ℕ} {over₀ over : List ℕ} {cost₀ cost : List Float} → length over ≡ length over₀ → length cost ≡ length cost₀
+    → Linked over₀ cost₀ leaves over cost 1 → Kept leaves over₀ cost₀ over cost
+linked-kept eo ec x = record { overs = eo; costs = ec; after = x .after }
+
+module _ (leaves n : ℕ) (over : List ℕ) (cost : List Float) where
+  -- what is fair of the candidates' leaves, and nothing at the others, suits the tree
+  leaf-few : n ≤ suc maxIndex → ((i : ℕ) → i < n → Fair i (leafScore leaves over cost i))
+      → ((i : ℕ) → n ≤ i → i < leaves → leafScore leaves over cost i ≡ noLeaf) → (i : ℕ) → i < leaves → getD over (leaves + i) 0 ≤ suc maxIndex
+  leaf-few small f none i h = elim (lt-or-le i n) [
+    | inl m ↦ le-trans (f i m .0) (omega arith)
+    | inr m ↦ rw (ap (λ (s : Score). s .over) (none i m h)) (le-refl (suc maxIndex))
+  ]
+
+  leaf-fine : ((i : ℕ) → i < n → Fair i (leafScore leaves over cost i))
+      → ((i : ℕ) → n ≤ i → i < leaves → leafScore leaves over cost i ≡ noLeaf) → (i : ℕ) → i < leaves → T (nonneg (getD cost (leaves + i) nan))
+  leaf-fine f none i h = elim (lt-or-le i n) [
+    | inl m ↦ f i m .1
+    | inr m ↦ rw (ap (λ (s : Score). s .cost) (none i m h), nought-is) nought-nonneg
+  ]
+
+module _ {l : Lengths} {left right : List ℕ} {leaves : ℕ} where
+  -- linked anew, a row has its tree
+  pub planted : {over₀ over : List ℕ} {cost₀ cost : List Float} → Laid l left right leaves over₀ cost₀ → Row leaves (length left) over₀ cost₀
+      → length over ≡ length over₀ → length cost ≡ length cost₀ → Linked over₀ cost₀ leaves over cost 1 → Planted l left right leaves over cost
+  planted {over₀} {over} {cost₀} {cost} x r eo ec k =
+      let keeps = linked-kept eo ec k in
+      let laid = laid-kept x (omega (arith, tree-size x)) keeps in
+      let same : (i : ℕ) → leafScore leaves over cost i ≡ leafScore leaves over₀ cost₀ i = λ i. k .after (leaves + i) (omega arith) in
+      let row : Row leaves (length left) over cost = record {
+        few = λ i h. rw (ap (λ (s : Score). s .over) (same i)) (r .few i h);
+        fine = λ i h. rw (ap (λ (s : Score). s .cost) (same i)) (r .fine i h);
+        beyond = λ i h g. same i ∙ r .beyond i h g;
+      } in
+      let sound : Sound leaves over cost = record {
+        overs = omega (arith, laid .overs, tree-size laid);
+        costs = omega (arith, laid .costs, tree-size laid);
+        few = leaf-few leaves (length left) over cost (x .lent .candidates .few) (row-fair row) (row .beyond);
+        fine = leaf-fine leaves (length left) over cost (row-fair row) (row .beyond);
+        inner = λ node p h. k .inner node p p h;
+      } in
+      record { laid = laid; is-row = row; covers = covers-all sound (x .tree .power) }
 
 -- ---- a row while it is written
 
-module _ {l : Lengths} {left right : List ℕ} {cut : List Float} where
-  -- the score of the first candidate
-  pub first-row-start : (over : List ℕ) (cost : List Float) (row : List ℕ) → 0 < length over → 0 < length cost → 0 < length row
-      → FirstRow l left right cut (set over 0 0) (set cost 0 (ofBits binary64 0)) (set row 0 0) 1
-  first-row-start over cost row h g m = record {
-    start = written over cost 0 (record { over = 0; cost = ofBits binary64 0 }) h g ∙ ap (λ (c : Float). record { over = 0; cost = c }) (nought-is binary64);
-    score = λ j p z. absurd (omega arith);
-    parent = λ j z. let e : 0 ≡ j = omega arith in rw (← e) (getD-set-same row 0 0 0 m);
+module _ {l : Lengths} {left right : List ℕ} {leaves : ℕ} {over₀ : List ℕ} {cost₀ : List Float} where
+  -- nothing of the first row yet
+  pub first-start : (row : List ℕ) → FirstWritten l left right leaves over₀ cost₀ over₀ cost₀ row 0
+  first-start row = record {
+    score = λ j h. absurd (omega arith);
+    parent = λ j h. absurd (omega arith);
+    rest = record { overs = refl; costs = refl; after = λ m g. refl };
   }
 
   -- one more
-  pub first-row-more : {over : List ℕ} {cost : List Float} {row : List ℕ} {n : ℕ} (s : Score) → 0 < n → n < length over → n < length cost → n < length row
-      → s ≡ firstScore l left right cut n → FirstRow l left right cut over cost row n
-      → FirstRow l left right cut (set over n (s .over)) (set cost n (s .cost)) (set row n 0) (n + 1)
-  first-row-more {over} {cost} {row} {n} s p h g m e x = record {
-    start = kept over cost n s 0 (λ (q : 0 ≡ n). omega arith) ∙ x .start;
-    score = λ j a b. elim (lt-or-le j n) [
-      | inl i ↦ kept over cost n s j (λ (q : j ≡ n). omega arith) ∙ x .score j a i
-      | inr i ↦ let q : n ≡ j = omega arith in rw (← q) (written over cost n s h g ∙ e)
+  pub first-more : {over : List ℕ} {cost : List Float} {row : List ℕ} {n : ℕ} (s : Score) → n < length left → leaves + n < length over → leaves + n < length cost
+      → n < length row → s ≡ firstScore l left right (behind (length left) cost₀) n → FirstWritten l left right leaves over₀ cost₀ over cost row n
+      → FirstWritten l left right leaves over₀ cost₀ (set over (leaves + n) (s .over)) (set cost (leaves + n) (s .cost)) (set row n 0) (n + 1)
+  first-more {over} {cost} {row} {n} s inside h g m e x = record {
+    score = λ j b. elim (lt-or-le j n) [
+      | inl i ↦ kept over cost (leaves + n) s (leaves + j) (λ (q : leaves + j ≡ leaves + n). omega arith) ∙ x .score j i
+      | inr i ↦ let q : n ≡ j = omega arith in rw (← q) (written over cost (leaves + n) s h g ∙ e)
     ];
     parent = λ j b. elim (lt-or-le j n) [
       | inl i ↦ getD-set-other row n j 0 0 (λ (q : j ≡ n). omega arith) ∙ x .parent j i
       | inr i ↦ let q : n ≡ j = omega arith in rw (← q) (getD-set-same row n 0 0 m)
     ];
+    rest = record {
+      overs = length-set over (leaves + n) (s .over) ∙ x .rest .overs;
+      costs = length-set cost (leaves + n) (s .cost) ∙ x .rest .costs;
+      after = λ k a. kept over cost (leaves + n) s k (λ (q : k ≡ leaves + n). omega arith) ∙ x .rest .after k a;
+    };
   }
+
+  -- the cuts are where they were
+  pub first-cuts : {over : List ℕ} {cost : List Float} {row : List ℕ} {n : ℕ} → Laid l left right leaves over₀ cost₀
+      → FirstWritten l left right leaves over₀ cost₀ over cost row n → behind (length left) cost ≡ behind (length left) cost₀
+  first-cuts x w = behind-kept (length left) (omega (arith, tree-size x, x .tree .enough)) (x .costs) (w .rest)
+
+  -- padded, it is the first row
+  pub first-done : {over₁ over : List ℕ} {cost₁ cost : List Float} {row : List ℕ} → Laid l left right leaves over₀ cost₀
+      → FirstWritten l left right leaves over₀ cost₀ over₁ cost₁ row (length left) → length over ≡ length over₁ → length cost ≡ length cost₁
+      → Padded over₁ cost₁ (leaves + length left) over cost (leaves * 2) → FirstRow l left right leaves over₀ cost₀ over cost row
+  first-done {over₁} {over} {cost₁} {cost} {row} x w eo ec p =
+      let size = tree-size x in
+      let pad : Kept (length left * 4) over₁ cost₁ over cost = record { overs = eo; costs = ec; after = λ m g. p .after m (omega arith) } in
+      let keeps : Kept (length left * 4) over₀ cost₀ over cost = kept-trans pad (kept-later (omega (arith, x .tree .enough)) (w .rest)) in
+      let cuts = behind-kept (length left) (omega arith) (x .costs) keeps in
+      let same : (i : ℕ) → i < length left → leafScore leaves over cost i ≡ leafScore leaves over₁ cost₁ i = λ i h. p .before (leaves + i) (omega arith) in
+      let score : (j : ℕ) → j < length left → leafScore leaves over cost j ≡ firstScore l left right (behind (length left) cost) j =
+      λ j h. rw cuts (same j h ∙ w .score j h) in
+      let fair : (i : ℕ) → i < length left → Fair i (leafScore leaves over cost i) = λ i h. subst (Fair i) (sym (score i h)) (rw cuts (first-fair (x .lent) i h)) in
+      record {
+        score = score;
+        parent = w .parent;
+        laid = laid-kept x (omega arith) keeps;
+        is-row = record { few = λ i h. fair i h .0; fine = λ i h. fair i h .1; beyond = λ i h g. p .beyond (leaves + i) (omega arith) (omega arith) };
+        cuts = cuts;
+      }
 
   -- nothing of row k yet
-  pub next-row-start : {k : ℕ} {own : ℕ → Score} (over : List ℕ) (cost : List Float) (row : List ℕ) → NextRow l left right cut k own over cost row over cost row k
-  next-row-start over cost row = record {
+  pub next-start : {k : ℕ} (row : List ℕ) → NextWritten l left right leaves over₀ cost₀ over₀ cost₀ row k (length left)
+  next-start row = record {
     score = λ j a b. absurd (omega arith);
     parent = λ j a b. absurd (omega arith);
-    kept = λ j a. refl;
-    kept-parent = λ j a. refl;
+    before = λ m a. refl;
+    rest = record { overs = refl; costs = refl; after = λ m g. refl };
   }
 
-  -- one more
-  pub next-row-more : {k n : ℕ} {own : ℕ → Score} {over₀ over : List ℕ} {cost₀ cost : List Float} {row₀ row : List ℕ} (b : Best) (s : Score) → k ≤ n
-      → n < length over → n < length cost → n < length row → b ≡ predecessorOf l left right own k n → s ≡ withCutAt cut n (b .score)
-      → NextRow l left right cut k own over₀ cost₀ row₀ over cost row n
-      → NextRow l left right cut k own over₀ cost₀ row₀ (set over n (s .over)) (set cost n (s .cost)) (set row n (b .at)) (n + 1)
-  next-row-more {k} {n} {own} {over₀} {over} {cost₀} {cost} {row₀} {row} b s p h g m eb es x =
-      let e : s ≡ withCutAt cut n (predecessorOf l left right own k n .score) = es ∙ ap (λ (c : Best). withCutAt cut n (c .score)) eb in
-      let d : b .at ≡ predecessorOf l left right own k n .at = ap (λ (c : Best). c .at) eb in
-      record {
-        score = λ j a z. elim (lt-or-le j n) [
-          | inl i ↦ kept over cost n s j (λ (q : j ≡ n). omega arith) ∙ x .score j a i
-          | inr i ↦ let q : n ≡ j = omega arith in rw (← q) (written over cost n s h g ∙ e)
-        ];
-        parent = λ j a z. elim (lt-or-le j n) [
-          | inl i ↦ getD-set-other row n j (b .at) 0 (λ (q : j ≡ n). omega arith) ∙ x .parent j a i
-          | inr i ↦ let q : n ≡ j = omega arith in rw (← q) (getD-set-same row n (b .at) 0 m ∙ d)
-        ];
-        kept = λ j a. kept over cost n s j (λ (q : j ≡ n). omega arith) ∙ x .kept j a;
-        kept-parent = λ j a. getD-set-other row n j (b .at) 0 (λ (q : j ≡ n). omega arith) ∙ x .kept-parent j a;
-      }
+  module _ {over : List ℕ} {cost : List Float} {row : List ℕ} {k n : ℕ} (t : Planted l left right leaves over₀ cost₀) (some : 0 < k) (reached : k ≤ n)
+      (w : NextWritten l left right leaves over₀ cost₀ over cost row k n) where
+    -- the scores are fair, before and after
+    written-fair : (i : ℕ) → i < length left → Fair i (leafScore leaves over cost i)
+    written-fair i h = elim (lt-or-le i n) [
+      | inl a ↦ subst (Fair i) (sym (w .before (leaves + i) (omega arith))) (row-fair (t .is-row) i h)
+      | inr a ↦ subst (Fair i) (sym (w .score i a h))
+          (next-fair (t .laid .lent) (leafScore leaves over₀ cost₀) k i (λ m b. row-fair (t .is-row) m (omega arith)) some (omega arith) h)
+    ]
 
-  -- the same row from equal scores
-  pub next-row-same : {k : ℕ} {over₀ over : List ℕ} {cost₀ cost : List Float} {row₀ row : List ℕ} (own own' : ℕ → Score) (n : ℕ) → 0 < k
-      → ((i : ℕ) → i < n → own i ≡ own' i) → NextRow l left right cut k own over₀ cost₀ row₀ over cost row n
-      → NextRow l left right cut k own' over₀ cost₀ row₀ over cost row n
-  next-row-same {k} own own' n p f x =
-      let same : (j : ℕ) → k ≤ j → j < n → predecessorOf l left right own k j ≡ predecessorOf l left right own' k j =
-      λ j a b. predecessor-same l left right own own' k j p a (λ i m. f i (omega arith)) in
-      record {
-        score = λ j a b. x .score j a b ∙ ap (λ (c : Best). withCutAt cut j (c .score)) (same j a b);
-        parent = λ j a b. x .parent j a b ∙ ap (λ (c : Best). c .at) (same j a b);
-        kept = x .kept;
-        kept-parent = x .kept-parent;
-      }
+    written-none : (i : ℕ) → length left ≤ i → i < leaves → leafScore leaves over cost i ≡ noLeaf
+    written-none i h g = w .rest .after (leaves + i) (omega arith) ∙ t .is-row .beyond i h g
+
+    -- what the search for the next one down reads
+    pub written-ready : (j : ℕ) → suc j ≡ n → k ≤ j → j < length left → RowReady l left right leaves over cost k j
+    written-ready j e r h =
+        let size = tree-size (t .laid) in
+        record {
+          laid = laid-kept (t .laid) (omega (arith, t .laid .tree .enough)) (w .rest);
+          some = some;
+          reached = r;
+          inside = h;
+          covers = covers-front (t .covers) (omega arith) (omega (arith, t .laid .tree .enough)) (record {
+            overs = w .rest .overs;
+            costs = w .rest .costs;
+            few = leaf-few leaves (length left) over cost (t .laid .lent .candidates .few) written-fair written-none;
+            fine = leaf-fine leaves (length left) over cost written-fair written-none;
+            same = λ m g. w .before m (omega arith);
+          });
+          few = λ i a. written-fair i (omega arith) .0;
+          fine = λ i a. written-fair i (omega arith) .1;
+        }
+
+    -- the row before, at the candidates that are left
+    same-own : (i : ℕ) → i < n → leafScore leaves over cost i ≡ leafScore leaves over₀ cost₀ i
+    same-own i h = w .before (leaves + i) (omega arith)
+
+    -- the cuts are where they were
+    pub written-cuts : behind (length left) cost ≡ behind (length left) cost₀
+    written-cuts = behind-kept (length left) (omega (arith, tree-size (t .laid), t .laid .tree .enough)) (t .laid .costs) (w .rest)
+
+    -- one more
+    pub next-more : (j : ℕ) (b : Best) (s : Score) → suc j ≡ n → k ≤ j → j < length left → leaves + j < length over → leaves + j < length cost → j < length row
+        → b ≡ predecessorOf l left right (leafScore leaves over cost) k j → s ≡ withCutAt (behind (length left) cost₀) j (b .score)
+        → NextWritten l left right leaves over₀ cost₀ (set over (leaves + j) (s .over)) (set cost (leaves + j) (s .cost)) (set row j (b .at)) k j
+    next-more j b s e r inside h g m eb es =
+        let same = predecessor-same l left right (leafScore leaves over cost) (leafScore leaves over₀ cost₀) k j some r (λ i a. same-own i (omega arith)) in
+        let d : b ≡ predecessorOf l left right (leafScore leaves over₀ cost₀) k j = eb ∙ same in
+        record {
+          score = λ i a z. elim (lt-or-le j i) [
+            | inl x ↦ kept over cost (leaves + j) s (leaves + i) (λ (q : leaves + i ≡ leaves + j). omega arith) ∙ w .score i (omega arith) z
+            | inr x ↦ let q : j ≡ i = omega arith in
+                rw (← q) (written over cost (leaves + j) s h g ∙ es ∙ ap (λ (c : Best). withCutAt (behind (length left) cost₀) j (c .score)) d)
+          ];
+          parent = λ i a z. elim (lt-or-le j i) [
+            | inl x ↦ getD-set-other row j i (b .at) 0 (λ (q : i ≡ j). omega arith) ∙ w .parent i (omega arith) z
+            | inr x ↦ let q : j ≡ i = omega arith in rw (← q) (getD-set-same row j (b .at) 0 m ∙ ap (λ (c : Best). c .at) d)
+          ];
+          before = λ i a. kept over cost (leaves + j) s i (λ (q : i ≡ leaves + j). omega arith) ∙ w .before i (omega arith);
+          rest = record {
+            overs = length-set over (leaves + j) (s .over) ∙ w .rest .overs;
+            costs = length-set cost (leaves + j) (s .cost) ∙ w .rest .costs;
+            after = λ i a. kept over cost (leaves + j) s i (λ (q : i ≡ leaves + j). omega arith) ∙ w .rest .after i a;
+          };
+        }
+
+-- the whole row, by the scores before the tree was linked
+pub next-done : {l : Lengths} {left right : List ℕ} {leaves k : ℕ} {over₀ over₁ over : List ℕ} {cost₀ cost₁ cost : List Float} {row : List ℕ}
+    → Planted l left right leaves over₁ cost₁ → 0 < k → Laid l left right leaves over₀ cost₀ → length over₁ ≡ length over₀ → length cost₁ ≡ length cost₀
+    → Linked over₀ cost₀ leaves over₁ cost₁ 1 → NextWritten l left right leaves over₁ cost₁ over cost row k k
+    → NextRow l left right leaves over₀ cost₀ over cost row k
+next-done {l} {left} {right} {leaves} {k} {over₀} {over₁} {over} {cost₀} {cost₁} {cost} t some x eo ec n w =
+    let size = tree-size x in
+    let cuts = written-cuts t some (le-refl k) w in
+    let linked : behind (length left) cost₁ ≡ behind (length left) cost₀ = behind-kept (length left) (omega arith) (x .costs) (linked-kept eo ec n) in
+    let own₀ = leafScore leaves over₀ cost₀ in
+    let own₁ = leafScore leaves over₁ cost₁ in
+    let same : (j : ℕ) → k ≤ j → predecessorOf l left right own₁ k j ≡ predecessorOf l left right own₀ k j =
+    λ j a. predecessor-same l left right own₁ own₀ k j some a (λ i b. n .after (leaves + i) (omega arith)) in
+    record {
+      score = λ j a h. rw cuts (w .score j a h ∙ ap (λ (c : Best). withCutAt (behind (length left) cost₁) j (c .score)) (same j a));
+      parent = λ j a h. w .parent j a h ∙ ap (λ (c : Best). c .at) (same j a);
+      laid = laid-kept (t .laid) (omega (arith, t .laid .tree .enough)) (w .rest);
+      is-row = record {
+        few = λ i h. written-fair t some (le-refl k) w i h .0;
+        fine = λ i h. written-fair t some (le-refl k) w i h .1;
+        beyond = written-none t some (le-refl k) w;
+      };
+      cuts = cuts ∙ linked;
+    }
+
+-- ---- the score of one piece, as the code finds it
+
+module _ (l : Lengths) (left right : List ℕ) (cut : List Float) where
+  pub first-none : (j : ℕ) → j ≡ 0 → noScore ≡ firstScore l left right cut j
+  unfolding firstScore
+  first-none zero e = refl
+  first-none (suc j) e = absurd (omega arith)
+
+  pub first-one : (j : ℕ) → 0 < j → withCutAt cut j (withPiece l noScore (pieceLength left right 0 j)) ≡ firstScore l left right cut j
+  unfolding firstScore
+  first-one zero h = absurd (omega arith)
+  first-one (suc j) h = refl

@@ -7,18 +7,15 @@ use search::least;
 use search::range;
 use search::tree;
 ghost use mathlib.Core.Path.{_≡_};
-ghost use Prim.Native.Nat.{_*_, _≤_, _<_};
+ghost use Prim.Native.Nat.{_≤_, _<_};
 ghost use lib.ListN.{length};
 ghost use Rattle.pieces.specs.Domain.{Lent};
-ghost use Rattle.pieces.specs.Pieces.{scoreAt};
-ghost use Rattle.rows.specs.First.{FirstStarts};
-ghost use Rattle.rows.specs.Rows.{predecessorOf, firstScore, Row, FirstRow, NextRow, leafScore, RowReady};
+ghost use Rattle.rows.specs.Rows.{predecessorOf, firstScore, leafScore, behind, Laid, Row, FirstRow, NextRow, FirstWritten, NextWritten, Planted, RowReady};
 
 // The best predecessor of candidate j in row k.
 fn predecessor(
     left: &[u64],
     right: &[u64],
-    first: &[u32],
     over: &[u32],
     cost: &[f64],
     leaves: usize,
@@ -26,23 +23,19 @@ fn predecessor(
     k: usize,
     j: usize,
 ) -> Best
-    requires { ⌜ RowReady lengths (now left) (now right) (now first) leaves (now over) (now cost) k ⌝ }
-    requires { ⌜ k ≤ j ⌝ }
-    requires { ⌜ j < length (now left) ⌝ }
+    requires { ⌜ RowReady lengths (now left) (now right) leaves (now over) (now cost) k j ⌝ }
     ensures { λ r. ⌜ r ≡ predecessorOf lengths (now (left .entry)) (now (right .entry)) (leafScore leaves (now (over .entry)) (now (cost .entry))) k j ⌝ }
 {
-    let from = range::larger(first[j] as usize, k - 1);
+    let first = over[left.len() * 4 + j] as usize;
+    let from = range::larger(first, k - 1);
     least::least_predecessor(right, over, cost, leaves, lengths, left[j], from, j)
 }
 
-// Writes row k from the tree of the row before. Scores are compared before the cut at the piece's end is added.
+// Writes row k over the row before, from the last candidate down: a score depends on earlier candidates alone, and the inner nodes of the tree still bound these.
+// Scores are compared before the cut at the piece's end is added.
 fn write_row(
     left: &[u64],
     right: &[u64],
-    cut: &[f64],
-    first: &[u32],
-    tree_over: &[u32],
-    tree_cost: &[f64],
     leaves: usize,
     lengths: Lengths,
     k: usize,
@@ -50,63 +43,45 @@ fn write_row(
     cost: &mut [f64],
     row: &mut [u32],
 )
-    requires { ⌜ RowReady lengths (now left) (now right) (now first) leaves (now «tree_over») (now «tree_cost») k ⌝ }
-    requires { ⌜ k ≤ length (now left) ⌝ }
-    requires { ⌜ length (now cut) ≡ length (now left) ⌝ }
-    requires { ⌜ (length (now over) ≡ length (now left)) × (length (now cost) ≡ length (now left)) × (length (now row) ≡ length (now left)) ⌝ }
-    ensures { λ _. ⌜ NextRow lengths (now (left .entry)) (now (right .entry)) (now (cut .entry)) k (leafScore leaves (now («tree_over» .entry)) (now («tree_cost» .entry))) (now (over .entry)) (now (cost .entry)) (now (row .entry)) (now (over .exit)) (now (cost .exit)) (now (row .exit)) (length (now (left .entry))) ⌝ }
+    requires { ⌜ Planted lengths (now left) (now right) leaves (now over) (now cost) ⌝ }
+    requires { ⌜ (0 < k) × (k ≤ length (now left)) ⌝ }
+    requires { ⌜ length (now row) ≡ length (now left) ⌝ }
+    ensures { λ _. ⌜ NextWritten lengths (now (left .entry)) (now (right .entry)) leaves (now (over .entry)) (now (cost .entry)) (now (over .exit)) (now (cost .exit)) (now (row .exit)) k k ⌝ }
 {
-    for j in k..left.len() {
-        let best = predecessor(
-            left,
-            right,
-            first,
-            tree_over,
-            tree_cost,
-            leaves,
-            lengths,
-            k,
-            j,
-        );
-        let score = score::add_cut_at(best.score, cut, j);
-        over[j] = score.over;
-        cost[j] = score.cost;
+    let n = left.len();
+    let mut j = n;
+    while k < j {
+        j -= 1;
+        let best = predecessor(left, right, &*over, &*cost, leaves, lengths, k, j);
+        let score = score::add_cut_at(best.score, &cost[n * 4..n * 5], j);
+        over[leaves + j] = score.over;
+        cost[leaves + j] = score.cost;
         row[j] = best.at as u32;
     }
 }
 
 // Row k of the table, for k of 2 or more: the scores of the row before become those of this one, and each best predecessor is written to the row's part of the
-// parent list. The tree is rebuilt from the row before; what it held is of no account.
+// parent list. The tree is linked anew for it.
 pub fn next_row(
     left: &[u64],
     right: &[u64],
-    cut: &[f64],
-    first: &[u32],
+    leaves: usize,
     lengths: Lengths,
     k: usize,
     over: &mut [u32],
     cost: &mut [f64],
-    tree_over: &mut [u32],
-    tree_cost: &mut [f64],
     row: &mut [u32],
 )
-    requires { ⌜ Lent lengths (now left) (now right) (now cut) ⌝ }
-    requires { ⌜ FirstStarts (lengths .limit) (now left) (now right) (now first) ⌝ }
+    requires { ⌜ Laid lengths (now left) (now right) leaves (now over) (now cost) ⌝ }
+    requires { ⌜ Row leaves (length (now left)) (now over) (now cost) ⌝ }
     requires { ⌜ (0 < k) × (k ≤ length (now left)) ⌝ }
-    requires { ⌜ Row (now over) (now cost) (length (now left)) ⌝ }
-    requires { ⌜ (length (now left) * 4 ≤ length (now «tree_over»)) × (length (now left) * 4 ≤ length (now «tree_cost»)) ⌝ }
     requires { ⌜ length (now row) ≡ length (now left) ⌝ }
-    ensures { λ _. ⌜ NextRow lengths (now (left .entry)) (now (right .entry)) (now (cut .entry)) k (scoreAt (now (over .entry)) (now (cost .entry))) (now (over .entry)) (now (cost .entry)) (now (row .entry)) (now (over .exit)) (now (cost .exit)) (now (row .exit)) (length (now (left .entry))) ⌝ }
+    ensures { λ _. ⌜ NextRow lengths (now (left .entry)) (now (right .entry)) leaves (now (over .entry)) (now (cost .entry)) (now (over .exit)) (now (cost .exit)) (now (row .exit)) k ⌝ }
 {
-    let leaves = tree::leaves_for(left.len());
-    tree::fill_tree(&*over, &*cost, &mut *tree_over, &mut *tree_cost, leaves);
+    tree::link_nodes(&mut *over, &mut *cost, leaves);
     write_row(
         left,
         right,
-        cut,
-        first,
-        &*tree_over,
-        &*tree_cost,
         leaves,
         lengths,
         k,
@@ -116,39 +91,65 @@ pub fn next_row(
     );
 }
 
-// The score of a path of one piece to candidate j.
+// The score of a path of one piece to candidate j; to the first there is none.
 fn first_score(left: &[u64], right: &[u64], cut: &[f64], lengths: Lengths, j: usize) -> Score
     requires { ⌜ Lent lengths (now left) (now right) (now cut) ⌝ }
-    requires { ⌜ 0 < j ⌝ }
     requires { ⌜ j < length (now left) ⌝ }
     ensures { λ r. ⌜ r ≡ firstScore lengths (now (left .entry)) (now (right .entry)) (now (cut .entry)) j ⌝ }
 {
     let none = Score { over: 0, cost: 0.0 };
+    if j == 0 {
+        return none;
+    }
     let score = score::piece_score(none, lengths, left[j] - right[0]);
     score::add_cut_at(score, cut, j)
+}
+
+// Writes one piece from the first candidate to each of the others.
+fn write_first(
+    left: &[u64],
+    right: &[u64],
+    leaves: usize,
+    lengths: Lengths,
+    over: &mut [u32],
+    cost: &mut [f64],
+    row: &mut [u32],
+)
+    requires { ⌜ Laid lengths (now left) (now right) leaves (now over) (now cost) ⌝ }
+    requires { ⌜ length (now row) ≡ length (now left) ⌝ }
+    ensures { λ _. ⌜ FirstWritten lengths (now (left .entry)) (now (right .entry)) leaves (now (over .entry)) (now (cost .entry)) (now (over .exit)) (now (cost .exit)) (now (row .exit)) (length (now (left .entry))) ⌝ }
+{
+    let n = left.len();
+    for j in 0..n {
+        let score = first_score(left, right, &cost[n * 4..n * 5], lengths, j);
+        over[leaves + j] = score.over;
+        cost[leaves + j] = score.cost;
+        row[j] = 0;
+    }
 }
 
 // The first row of the table: one piece from the first candidate, of any length.
 pub fn first_row(
     left: &[u64],
     right: &[u64],
-    cut: &[f64],
+    leaves: usize,
     lengths: Lengths,
     over: &mut [u32],
     cost: &mut [f64],
     row: &mut [u32],
 )
-    requires { ⌜ Lent lengths (now left) (now right) (now cut) ⌝ }
-    requires { ⌜ (length (now over) ≡ length (now left)) × (length (now cost) ≡ length (now left)) × (length (now row) ≡ length (now left)) ⌝ }
-    ensures { λ _. ⌜ FirstRow lengths (now (left .entry)) (now (right .entry)) (now (cut .entry)) (now (over .exit)) (now (cost .exit)) (now (row .exit)) (length (now (left .entry))) ⌝ }
+    requires { ⌜ Laid lengths (now left) (now right) leaves (now over) (now cost) ⌝ }
+    requires { ⌜ length (now row) ≡ length (now left) ⌝ }
+    ensures { λ _. ⌜ FirstRow lengths (now (left .entry)) (now (right .entry)) leaves (now (over .entry)) (now (cost .entry)) (now (over .exit)) (now (cost .exit)) (now (row .exit)) ⌝ }
 {
-    over[0] = 0;
-    cost[0] = 0.0;
-    row[0] = 0;
-    for j in 1..left.len() {
-        let score = first_score(left, right, cut, lengths, j);
-        over[j] = score.over;
-        cost[j] = score.cost;
-        row[j] = 0;
-    }
+    write_first(
+        left,
+        right,
+        leaves,
+        lengths,
+        &mut *over,
+        &mut *cost,
+        &mut *row,
+    );
+    tree::pad_leaves(&mut *over, &mut *cost, leaves + left.len(), leaves * 2);
 }

@@ -1,4 +1,4 @@
--- The tree while it is filled: the row copied to the leaves, the leaves after it padded, the nodes linked from the leaves up.
+-- The tree while it is filled: the leaves after the row padded, the nodes linked from the leaves up.
 use mathlib.Core.Path.{_≡_, refl, _∙_}
 use mathlib.Core.Logic.{inl, inr}
 use mathlib.Core.List.{List}
@@ -11,7 +11,7 @@ use Rattle.laws.specs.Tests.{lt-or-le}
 use Rattle.pieces.specs.Limits.{maxIndex}
 use Rattle.pieces.specs.declared.score.Score.{Score}
 use Rattle.pieces.specs.Pieces.{scoreAt}
-use Rattle.search.specs.Tree.{lesserScore, noLeaf, Filled}
+use Rattle.search.specs.Tree.{lesserScore, noLeaf}
 
 -- ---- a score written to two lists
 
@@ -24,34 +24,16 @@ module _ (over : List ℕ) (cost : List Float) (i : ℕ) (s : Score) where
   pub kept : (j : ℕ) → (j ≡ i → ⊥) → scoreAt (set over i (s .over)) (set cost i (s .cost)) j ≡ scoreAt over cost j
   kept j n = rw (getD-set-other over i j (s .over) 0 n, getD-set-other cost i j (s .cost) nan n)
 
--- ---- the row copied to the leaves, up to candidate i
-
-pub record Copied (leaves : ℕ) (over : List ℕ) (cost : List Float) (tree-over : List ℕ) (tree-cost : List Float) (i : ℕ) : Type 0 where
-  pub leaf : (k : ℕ) → k < i → scoreAt tree-over tree-cost (leaves + k) ≡ scoreAt over cost k
-
-module _ {leaves : ℕ} {over : List ℕ} {cost : List Float} where
-  pub copied-none : (tree-over : List ℕ) (tree-cost : List Float) → Copied leaves over cost tree-over tree-cost 0
-  copied-none tree-over tree-cost = record { leaf = λ k h. absurd (omega arith) }
-
-  pub copied-next : {tree-over : List ℕ} {tree-cost : List Float} {i : ℕ} → leaves + i < length tree-over → leaves + i < length tree-cost
-      → Copied leaves over cost tree-over tree-cost i
-      → Copied leaves over cost (set tree-over (leaves + i) (getD over i 0)) (set tree-cost (leaves + i) (getD cost i nan)) (i + 1)
-  copied-next {tree-over} {tree-cost} {i} h k c = record {
-    leaf = λ j l. elim (lt-or-le j i) [
-      | inl m ↦ kept tree-over tree-cost (leaves + i) (scoreAt over cost i) (leaves + j) (λ (e : leaves + j ≡ leaves + i). omega arith) ∙ c .leaf j m
-      | inr m ↦ let e : i ≡ j = omega arith in rw (← e) (written tree-over tree-cost (leaves + i) (scoreAt over cost i) h k)
-    ];
-  }
-
--- ---- the leaves after it, up to node i
+-- ---- the leaves after the row, up to node i
 
 pub record Padded (over₀ : List ℕ) (cost₀ : List Float) (from : ℕ) (over : List ℕ) (cost : List Float) (i : ℕ) : Type 0 where
   pub beyond : (k : ℕ) → from ≤ k → k < i → scoreAt over cost k ≡ noLeaf
   pub before : (k : ℕ) → k < from → scoreAt over cost k ≡ scoreAt over₀ cost₀ k
+  pub after : (k : ℕ) → i ≤ k → scoreAt over cost k ≡ scoreAt over₀ cost₀ k
 
 module _ {over₀ : List ℕ} {cost₀ : List Float} {from : ℕ} where
   pub padded-none : Padded over₀ cost₀ from over₀ cost₀ from
-  padded-none = record { beyond = λ k g h. absurd (omega arith); before = λ k h. refl }
+  padded-none = record { beyond = λ k g h. absurd (omega arith); before = λ k h. refl; after = λ k h. refl }
 
   pub padded-next : {over : List ℕ} {cost : List Float} {i : ℕ} → from ≤ i → i < length over → i < length cost → Padded over₀ cost₀ from over cost i
       → Padded over₀ cost₀ from (set over i (suc maxIndex)) (set cost i (ofBits binary64 0)) (i + 1)
@@ -61,6 +43,7 @@ module _ {over₀ : List ℕ} {cost₀ : List Float} {from : ℕ} where
       | inr m ↦ let e : i ≡ k = omega arith in rw (← e) (written over cost i noLeaf h g)
     ];
     before = λ k a. kept over cost i noLeaf k (λ (e : k ≡ i). omega arith) ∙ c .before k a;
+    after = λ k a. kept over cost i noLeaf k (λ (e : k ≡ i). omega arith) ∙ c .after k (omega arith);
   }
 
 -- ---- the nodes linked, from `leaves` down to node i
@@ -92,17 +75,3 @@ module _ {over₀ : List ℕ} {cost₀ : List Float} {leaves : ℕ} where
   -- down to the root
   pub linked-done : {over : List ℕ} {cost : List Float} {i : ℕ} → i ≤ 1 → Linked over₀ cost₀ leaves over cost i → Linked over₀ cost₀ leaves over cost 1
   linked-done h c = record { inner = λ node p a b. c .inner node p (omega arith) b; after = c .after }
-
--- ---- the whole
-
--- the three steps one after the other fill the tree
-pub filled-by : {leaves : ℕ} {over : List ℕ} {cost : List Float} {over₁ over₂ over₃ : List ℕ} {cost₁ cost₂ cost₃ : List Float}
-    → Copied leaves over cost over₁ cost₁ (length over)
-    → Padded over₁ cost₁ (leaves + length over) over₂ cost₂ (leaves * 2)
-    → Linked over₂ cost₂ leaves over₃ cost₃ 1
-    → Filled leaves over cost over₃ cost₃
-filled-by {leaves} a b c = record {
-  leaf = λ i h. c .after (leaves + i) (omega arith) ∙ b .before (leaves + i) (omega arith) ∙ a .leaf i h;
-  beyond = λ i h k. c .after (leaves + i) (omega arith) ∙ b .beyond (leaves + i) (omega arith) (omega arith);
-  inner = λ node p h. c .inner node p p h;
-}

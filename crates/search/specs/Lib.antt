@@ -14,15 +14,15 @@ pub mod Starts
 --   start-at, arrival-nonneg; scan-first, scan-next, scan-done   the plain search
 pub mod StartsLaws
 -- Tree: the tree of least scores
---   Power, Leaves; lesserScore, noLeaf, Filled   its size and its scores
+--   Power, Leaves; lesserScore, noLeaf   its size and its scores
 --   Bound, Covers         a node bounds its leaves, and so do all below it
 pub mod Tree
---   Sound, covers-all     a filled tree covers all its leaves
+--   Sound, covers-all     a filled tree covers all its leaves; Front, covers-front   and while those of the next row are written, the leaves that are left
 --   power-positive, lesser-either, lesser-below; bound-of, not-empty, leaf-of, lower-half, upper-half
 pub mod TreeLaws
 -- Fill: the tree while it is filled
 --   written, kept         a score written to two lists
---   Copied, Padded, Linked and their laws; filled-by
+--   Padded, Linked and their laws
 pub mod Fill
 -- Bound: the least score that a range can give
 --   lengthBoundOf, withBound, boundOf

@@ -39,25 +39,18 @@ lesserScore a b = pickScore (atMost a b) a b
 abbrev pub noLeaf : Score
 noLeaf = record { over = suc maxIndex; cost = ofBits binary64 0 }
 
--- the tree of a row: what stands in it
-pub record Filled (leaves : ℕ) (over : List ℕ) (cost : List Float) (tree-over : List ℕ) (tree-cost : List Float) : Type 0 where
-  pub leaf : (i : ℕ) → i < length over → scoreAt tree-over tree-cost (leaves + i) ≡ scoreAt over cost i
-  pub beyond : (i : ℕ) → length over ≤ i → i < leaves → scoreAt tree-over tree-cost (leaves + i) ≡ noLeaf
-  pub inner : (node : ℕ) → 0 < node → node < leaves
-      → scoreAt tree-over tree-cost node ≡ lesserScore (scoreAt tree-over tree-cost (node * 2)) (scoreAt tree-over tree-cost (node * 2 + 1))
-
 -- ---- what the search asks of it
 
--- the node's score is at most that of each leaf from lo up to hi
-pub record Bound (leaves : ℕ) (over : List ℕ) (cost : List Float) (node lo hi : ℕ) : Type 0 where
+-- the node's score is at most that of each leaf from lo up to hi; the leaves from `to` on do not count, since they may be those of the next row already
+pub record Bound (leaves to : ℕ) (over : List ℕ) (cost : List Float) (node lo hi : ℕ) : Type 0 where
   pub in-over : node < length over
   pub in-cost : node < length cost
   pub few : getD over node 0 ≤ suc maxIndex
   pub fine : T (nonneg (getD cost node nan))
-  pub below : (i : ℕ) → lo ≤ i → i < hi → T (atMost (scoreAt over cost node) (scoreAt over cost (leaves + i)))
+  pub below : (i : ℕ) → lo ≤ i → i < hi → i < to → T (atMost (scoreAt over cost node) (scoreAt over cost (leaves + i)))
 
 -- a node, with all below it, bounds its leaves
-pub data Covers (leaves : ℕ) (over : List ℕ) (cost : List Float) : ℕ → ℕ → ℕ → Type 0 where
-  one : {node lo hi : ℕ} → hi ≡ lo + 1 → node ≡ leaves + lo → Bound leaves over cost node lo hi → Covers leaves over cost node lo hi
-  two : {node lo hi : ℕ} → lo + 1 < hi → Bound leaves over cost node lo hi → Covers leaves over cost (node * 2) lo (lo + (hi - lo) / 2)
-      → Covers leaves over cost (node * 2 + 1) (lo + (hi - lo) / 2) hi → Covers leaves over cost node lo hi
+pub data Covers (leaves to : ℕ) (over : List ℕ) (cost : List Float) : ℕ → ℕ → ℕ → Type 0 where
+  one : {node lo hi : ℕ} → hi ≡ lo + 1 → node ≡ leaves + lo → Bound leaves to over cost node lo hi → Covers leaves to over cost node lo hi
+  two : {node lo hi : ℕ} → lo + 1 < hi → node < leaves → Bound leaves to over cost node lo hi → Covers leaves to over cost (node * 2) lo (lo + (hi - lo) / 2)
+      → Covers leaves to over cost (node * 2 + 1) (lo + (hi - lo) / 2) hi → Covers leaves to over cost node lo hi

@@ -45,30 +45,34 @@ lesser-below a b p q = go (atMost a b) (passes (atMost a b)) refl
 
 -- ---- what covering gives
 
-module _ {leaves : ℕ} {over : List ℕ} {cost : List Float} where
-  pub bound-of : {node lo hi : ℕ} → Covers leaves over cost node lo hi → Bound leaves over cost node lo hi
+module _ {leaves to : ℕ} {over : List ℕ} {cost : List Float} where
+  pub bound-of : {node lo hi : ℕ} → Covers leaves to over cost node lo hi → Bound leaves to over cost node lo hi
   bound-of (Covers.one e f b) = b
-  bound-of (Covers.two l b x y) = b
+  bound-of (Covers.two l g b x y) = b
 
-  pub not-empty : {node lo hi : ℕ} → Covers leaves over cost node lo hi → lo < hi
+  pub not-empty : {node lo hi : ℕ} → Covers leaves to over cost node lo hi → lo < hi
   not-empty (Covers.one e f b) = omega arith
-  not-empty (Covers.two l b x y) = omega arith
+  not-empty (Covers.two l g b x y) = omega arith
 
   -- a leaf's node
-  pub leaf-of : {node lo hi : ℕ} → Covers leaves over cost node lo hi → hi - lo ≡ 1 → node ≡ leaves + lo
+  pub leaf-of : {node lo hi : ℕ} → Covers leaves to over cost node lo hi → hi - lo ≡ 1 → node ≡ leaves + lo
   leaf-of (Covers.one e f b) h = f
-  leaf-of (Covers.two l b x y) h = absurd (omega arith)
+  leaf-of (Covers.two l g b x y) h = absurd (omega arith)
 
   -- the halves, at the middle that the code computes
-  pub lower-half : {node lo hi mid : ℕ} → Covers leaves over cost node lo hi → (hi - lo ≡ 1 → ⊥) → mid ≡ lo + (hi - lo) / 2 → Covers leaves over cost (node * 2) lo mid
+  pub lower-half : {node lo hi mid : ℕ} → Covers leaves to over cost node lo hi → (hi - lo ≡ 1 → ⊥) → mid ≡ lo + (hi - lo) / 2 → Covers leaves to over cost (node * 2) lo mid
   lower-half (Covers.one e f b) n m = absurd (n (omega arith))
-  lower-half (Covers.two l b x y) n m = rw m x
+  lower-half (Covers.two l g b x y) n m = rw m x
 
-  pub upper-half : {node lo hi mid : ℕ} → Covers leaves over cost node lo hi → (hi - lo ≡ 1 → ⊥) → mid ≡ lo + (hi - lo) / 2 → Covers leaves over cost (node * 2 + 1) mid hi
+  pub upper-half : {node lo hi mid : ℕ} → Covers leaves to over cost node lo hi → (hi - lo ≡ 1 → ⊥) → mid ≡ lo + (hi - lo) / 2 → Covers leaves to over cost (node * 2 + 1) mid hi
   upper-half (Covers.one e f b) n m = absurd (n (omega arith))
-  upper-half (Covers.two l b x y) n m = rw m y
+  upper-half (Covers.two l g b x y) n m = rw m y
 
 -- ---- a filled tree covers its leaves
+
+above-zero : (leaves node size lo : ℕ) → 0 < leaves → node * size ≡ leaves + lo → 0 < node
+above-zero leaves zero size lo p e = let z : 0 * size ≡ 0 = zero-mul size in absurd (omega arith)
+above-zero leaves (suc n) size lo p e = omega arith
 
 -- the tree's lists hold two times as many nodes as leaves, and each leaf's score is not negative
 pub record Sound (leaves : ℕ) (over : List ℕ) (cost : List Float) : Type 0 where
@@ -78,10 +82,10 @@ pub record Sound (leaves : ℕ) (over : List ℕ) (cost : List Float) : Type 0 w
   pub fine : (i : ℕ) → i < leaves → T (nonneg (getD cost (leaves + i) nan))
   pub inner : (node : ℕ) → 0 < node → node < leaves → scoreAt over cost node ≡ lesserScore (scoreAt over cost (node * 2)) (scoreAt over cost (node * 2 + 1))
 
-module _ {leaves : ℕ} {over : List ℕ} {cost : List Float} (s : Sound leaves over cost) where
+module _ {leaves to : ℕ} {over : List ℕ} {cost : List Float} (s : Sound leaves over cost) where
   -- from the leaves up: the node bounds what both its children bound
-  join : (node lo mid hi : ℕ) → 0 < node → node < leaves → Bound leaves over cost (node * 2) lo mid → Bound leaves over cost (node * 2 + 1) mid hi
-      → Bound leaves over cost node lo hi
+  join : (node lo mid hi : ℕ) → 0 < node → node < leaves → Bound leaves to over cost (node * 2) lo mid → Bound leaves to over cost (node * 2 + 1) mid hi
+      → Bound leaves to over cost node lo hi
   join node lo mid hi p h x y =
       let a = scoreAt over cost (node * 2) in
       let b = scoreAt over cost (node * 2 + 1) in
@@ -93,30 +97,26 @@ module _ {leaves : ℕ} {over : List ℕ} {cost : List Float} (s : Sound leaves 
         in-cost = omega (arith, s .costs);
         few = subst (λ (z : Score). z .over ≤ suc maxIndex) (sym e) (lesser-either (λ (z : Score). z .over ≤ suc maxIndex) a b (x .few) (y .few));
         fine = subst (λ (z : Score). T (nonneg (z .cost))) (sym e) (lesser-either (λ (z : Score). T (nonneg (z .cost))) a b (x .fine) (y .fine));
-        below = λ i l u. elim (lt-or-le i mid) [
-          | inl m ↦ at-most-trans (scoreAt over cost node) a (scoreAt over cost (leaves + i)) (below .0) (x .below i l m)
-          | inr m ↦ at-most-trans (scoreAt over cost node) b (scoreAt over cost (leaves + i)) (below .1) (y .below i m u)
+        below = λ i l u t. elim (lt-or-le i mid) [
+          | inl m ↦ at-most-trans (scoreAt over cost node) a (scoreAt over cost (leaves + i)) (below .0) (x .below i l m t)
+          | inr m ↦ at-most-trans (scoreAt over cost node) b (scoreAt over cost (leaves + i)) (below .1) (y .below i m u t)
         ];
       }
 
   -- a leaf bounds itself
-  alone : (node lo : ℕ) → lo < leaves → node ≡ leaves + lo → Bound leaves over cost node lo (lo + 1)
+  alone : (node lo : ℕ) → lo < leaves → node ≡ leaves + lo → Bound leaves to over cost node lo (lo + 1)
   alone node lo h e = rw e (record {
     in-over = omega (arith, s .overs);
     in-cost = omega (arith, s .costs);
     few = s .few lo h;
     fine = s .fine lo h;
-    below = λ i l u. let q : lo ≡ i = omega arith in
+    below = λ i l u t. let q : lo ≡ i = omega arith in
         subst (λ (k : ℕ). T (atMost (scoreAt over cost (leaves + lo)) (scoreAt over cost (leaves + k)))) q
         (at-most-refl (scoreAt over cost (leaves + lo)) (s .fine lo h));
   })
 
-  above-zero : (node size lo : ℕ) → 0 < leaves → node * size ≡ leaves + lo → 0 < node
-  above-zero zero size lo p e = let z : 0 * size ≡ 0 = zero-mul size in absurd (omega arith)
-  above-zero (suc n) size lo p e = omega arith
-
   -- a node whose leaves start at lo, and all below it, from the leaves up
-  covers : {size : ℕ} → Power size → (node lo : ℕ) → 0 < leaves → node * size ≡ leaves + lo → lo + size ≤ leaves → Covers leaves over cost node lo (lo + size)
+  covers : {size : ℕ} → Power size → (node lo : ℕ) → 0 < leaves → node * size ≡ leaves + lo → lo + size ≤ leaves → Covers leaves to over cost node lo (lo + size)
   covers Power.one node lo p e h =
       let f : node ≡ leaves + lo = sym (mul-one node) ∙ e in Covers.one refl f (alone node lo (omega arith) f)
   covers {size} (Power.twice {m} q d) node lo p e h =
@@ -127,13 +127,47 @@ module _ {leaves : ℕ} {over : List ℕ} {cost : List Float} (s : Sound leaves 
       let g : node * 2 ≤ node * size = mul-le-mul-left node (omega (arith, power-positive q)) in
       let mid : lo + ((lo + size) - lo) / 2 ≡ lo + m = omega arith in
       let end : lo + m + m ≡ lo + size = omega arith in
-      let low : Covers leaves over cost (node * 2) lo (lo + m) = covers q (node * 2) lo p (omega arith) (omega arith) in
-      let up : Covers leaves over cost (node * 2 + 1) (lo + m) (lo + m + m) = covers q (node * 2 + 1) (lo + m) p (omega arith) (omega arith) in
-      let up' : Covers leaves over cost (node * 2 + 1) (lo + m) (lo + size) = rw end at up in
-      Covers.two {node = node} {lo = lo} {hi = lo + size} (omega (arith, power-positive q))
-      (join node lo (lo + m) (lo + size) (above-zero node size lo p e) (omega (arith, power-positive q)) (bound-of low) (bound-of up'))
+      let low : Covers leaves to over cost (node * 2) lo (lo + m) = covers q (node * 2) lo p (omega arith) (omega arith) in
+      let up : Covers leaves to over cost (node * 2 + 1) (lo + m) (lo + m + m) = covers q (node * 2 + 1) (lo + m) p (omega arith) (omega arith) in
+      let up' : Covers leaves to over cost (node * 2 + 1) (lo + m) (lo + size) = rw end at up in
+      Covers.two {node = node} {lo = lo} {hi = lo + size} (omega (arith, power-positive q)) (omega (arith, power-positive q))
+      (join node lo (lo + m) (lo + size) (above-zero leaves node size lo p e) (omega (arith, power-positive q)) (bound-of low) (bound-of up'))
       (rw mid low) (rw mid up')
 
   -- from the root: all leaves
-  pub covers-all : Power leaves → Covers leaves over cost 1 0 leaves
+  pub covers-all : Power leaves → Covers leaves to over cost 1 0 leaves
   covers-all p = rw zero-add at (covers p 1 0 (power-positive p) (omega (arith, one-mul leaves)) (omega arith))
+
+-- ---- the leaves of the next row, written from the last one down
+
+-- inner nodes and the leaves before `to` are as they were
+pub record Front (leaves to : ℕ) (over₀ : List ℕ) (cost₀ : List Float) (over : List ℕ) (cost : List Float) : Type 0 where
+  pub overs : length over ≡ length over₀
+  pub costs : length cost ≡ length cost₀
+  pub few : (i : ℕ) → i < leaves → getD over (leaves + i) 0 ≤ suc maxIndex
+  pub fine : (i : ℕ) → i < leaves → T (nonneg (getD cost (leaves + i) nan))
+  pub same : (k : ℕ) → k < leaves + to → scoreAt over cost k ≡ scoreAt over₀ cost₀ k
+
+-- the nodes bound the leaves that are left
+pub covers-front : {leaves to : ℕ} {over₀ over : List ℕ} {cost₀ cost : List Float} {node lo hi : ℕ} → Covers leaves leaves over₀ cost₀ node lo hi → hi ≤ leaves
+    → to ≤ leaves → Front leaves to over₀ cost₀ over cost → Covers leaves to over cost node lo hi
+covers-front {leaves} {to} {over₀} {over} {cost₀} {cost} {node} {lo} {hi} (Covers.one e f b) h t x =
+    Covers.one e f (rw f (record {
+      in-over = omega (arith, b .in-over, x .overs, f);
+      in-cost = omega (arith, b .in-cost, x .costs, f);
+      few = x .few lo (omega arith);
+      fine = x .fine lo (omega arith);
+      below = λ i l u m. let q : lo ≡ i = omega arith in
+          subst (λ (k : ℕ). T (atMost (scoreAt over cost (leaves + lo)) (scoreAt over cost (leaves + k)))) q
+          (at-most-refl (scoreAt over cost (leaves + lo)) (x .fine lo (omega arith)));
+    }))
+covers-front {leaves} {to} {over₀} {over} {cost₀} {cost} {node} {lo} {hi} (Covers.two l g b y z) h t x =
+    Covers.two l g (record {
+      in-over = omega (arith, b .in-over, x .overs);
+      in-cost = omega (arith, b .in-cost, x .costs);
+      few = rw (ap (λ (s : Score). s .over) (x .same node (omega arith))) (b .few);
+      fine = rw (ap (λ (s : Score). s .cost) (x .same node (omega arith))) (b .fine);
+      below = λ i a u m.
+          subst (λ (s : Score). T (atMost s (scoreAt over cost (leaves + i)))) (sym (x .same node (omega arith)))
+          (subst (λ (s : Score). T (atMost (scoreAt over₀ cost₀ node) s)) (sym (x .same (leaves + i) (omega arith))) (b .below i a u (omega arith)));
+    }) (covers-front y (omega arith) t x) (covers-front z h t x)

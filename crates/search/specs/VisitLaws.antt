@@ -35,7 +35,7 @@ pub ranged-at : {right over : List ℕ} {cost : List Float} {q : Query} {node lo
 ranged-at {right} {over} {cost} {q} {node} {lo} {hi} a e x p z h = rw (p, z) (x .ranged (omega arith))
 
 module _ (q : Query) {right over : List ℕ} {cost : List Float} (s : Starts (q .lengths) right over cost (q .leaves) (q .to) (q .end)) where
-  pub looks : {node lo hi : ℕ} → Bound (q .leaves) over cost node lo hi → Looks right over cost q node lo hi
+  pub looks : {node lo hi : ℕ} → Bound (q .leaves) (q .to) over cost node lo hi → Looks right over cost q node lo hi
   looks {node} {lo} {hi} b = record {
     ranged = λ h. record {
       in-over = b .in-over;
@@ -51,7 +51,7 @@ module _ (q : Query) {right over : List ℕ} {cost : List Float} (s : Starts (q 
 
   -- ---- the bound of a range is at most each of its scores
 
-  low-bound : (node lo hi i : ℕ) → Bound (q .leaves) over cost node lo hi → lo ≤ i → i < hi → q .from ≤ i → i < q .to
+  low-bound : (node lo hi i : ℕ) → Bound (q .leaves) (q .to) over cost node lo hi → lo ≤ i → i < hi → q .from ≤ i → i < q .to
       → T (nonneg (activeBound q right over cost node lo hi .cost))
       × T (atMost (activeBound q right over cost node lo hi) (through q right over cost i))
   low-bound node lo hi i b a z f t =
@@ -62,12 +62,12 @@ module _ (q : Query) {right over : List ℕ} {cost : List Float} (s : Starts (q 
       let e : q .end - getD right first 0 ≤ maxEnd = omega (arith, s .bounded) in (
         bound-nonneg (s .preferred) (scoreAt over cost node) (q .end - getD right last 0) (q .end - getD right first 0) (omega arith) e (b .fine),
         bound-least (s .preferred) (scoreAt over cost node) (scoreAt over cost (q .leaves + i)) (q .end - getD right last 0) (q .end - getD right i 0)
-            (q .end - getD right first 0) (omega arith) (omega arith) e (b .fine) (b .below i a z),
+            (q .end - getD right first 0) (omega arith) (omega arith) e (b .fine) (b .below i a z t),
       )
 
   -- ---- a range is left out: nothing of it comes before the best so far
 
-  pub none-better : {node lo hi : ℕ} {best : Best} → Covers (q .leaves) over cost node lo hi → T (nonneg (best .score .cost))
+  pub none-better : {node lo hi : ℕ} {best : Best} → Covers (q .leaves) (q .to) over cost node lo hi → T (nonneg (best .score .cost))
       → mayImprove q right over cost node lo hi best ≡ false
       → FirstIn (through q right over cost) lo hi (q .from) (q .to) best best
   unfolding mayImprove

@@ -23,7 +23,7 @@ pub fn least_predecessor(
     to: usize,
 ) -> Best
     requires { ⌜ Starts lengths (now right) (now over) (now cost) leaves to end ⌝ }
-    requires { ⌜ Covers leaves (now over) (now cost) 1 0 leaves ⌝ }
+    requires { ⌜ Covers leaves to (now over) (now cost) 1 0 leaves ⌝ }
     requires { ⌜ from < to ⌝ }
     requires { ⌜ to ≤ leaves ⌝ }
     ensures { λ r. ⌜ r ≡ leastIn (arrivalAt lengths (now (right .entry)) (now (over .entry)) (now (cost .entry)) leaves end) from to ⌝ }

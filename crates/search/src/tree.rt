@@ -2,10 +2,10 @@
 use pieces::score;
 use pieces::score::Score;
 ghost use mathlib.Core.Path.{_≡_};
-ghost use Prim.Native.Nat.{_+_, _*_, _≤_, _<_};
+ghost use Prim.Native.Nat.{_*_, _≤_, _<_};
 ghost use lib.ListN.{length};
-ghost use Rattle.search.specs.Tree.{Leaves, lesserScore, Filled};
-ghost use Rattle.search.specs.Fill.{Copied, Padded, Linked};
+ghost use Rattle.search.specs.Tree.{Leaves, lesserScore};
+ghost use Rattle.search.specs.Fill.{Padded, Linked};
 
 // The number of leaves for n candidates: the least power of two that is at least n.
 pub fn leaves_for(n: usize) -> usize
@@ -27,27 +27,8 @@ fn lesser_score(a: Score, b: Score) -> Score
     if score::score_le(a, b) { a } else { b }
 }
 
-// Copies the row to the leaves.
-fn copy_leaves(
-    over: &[u32],
-    cost: &[f64],
-    tree_over: &mut [u32],
-    tree_cost: &mut [f64],
-    leaves: usize,
-)
-    requires { ⌜ length (now cost) ≡ length (now over) ⌝ }
-    requires { ⌜ leaves + length (now over) ≤ length (now «tree_over») ⌝ }
-    requires { ⌜ leaves + length (now over) ≤ length (now «tree_cost») ⌝ }
-    ensures { λ _. ⌜ Copied leaves (now (over .entry)) (now (cost .entry)) (now («tree_over» .exit)) (now («tree_cost» .exit)) (length (now (over .entry))) ⌝ }
-{
-    for i in 0..over.len() {
-        tree_over[leaves + i] = over[i];
-        tree_cost[leaves + i] = cost[i];
-    }
-}
-
 // No candidate stands at the nodes from..to: more pieces over the limit than a path can have.
-fn pad_leaves(tree_over: &mut [u32], tree_cost: &mut [f64], from: usize, to: usize)
+pub fn pad_leaves(tree_over: &mut [u32], tree_cost: &mut [f64], from: usize, to: usize)
     requires { ⌜ from ≤ to ⌝ }
     requires { ⌜ to ≤ length (now «tree_over») ⌝ }
     requires { ⌜ to ≤ length (now «tree_cost») ⌝ }
@@ -60,7 +41,7 @@ fn pad_leaves(tree_over: &mut [u32], tree_cost: &mut [f64], from: usize, to: usi
 }
 
 // Each node's score is the lesser of its children's, from the leaves up.
-fn link_nodes(tree_over: &mut [u32], tree_cost: &mut [f64], leaves: usize)
+pub fn link_nodes(tree_over: &mut [u32], tree_cost: &mut [f64], leaves: usize)
     requires { ⌜ leaves * 2 ≤ length (now «tree_over») ⌝ }
     requires { ⌜ leaves * 2 ≤ length (now «tree_cost») ⌝ }
     ensures { λ _. ⌜ Linked (now («tree_over» .entry)) (now («tree_cost» .entry)) leaves (now («tree_over» .exit)) (now («tree_cost» .exit)) 1 ⌝ }
@@ -80,24 +61,4 @@ fn link_nodes(tree_over: &mut [u32], tree_cost: &mut [f64], leaves: usize)
         tree_over[node] = least.over;
         tree_cost[node] = least.cost;
     }
-}
-
-// Fills the tree from a row, whatever it held.
-pub fn fill_tree(
-    over: &[u32],
-    cost: &[f64],
-    tree_over: &mut [u32],
-    tree_cost: &mut [f64],
-    leaves: usize,
-)
-    requires { ⌜ length (now cost) ≡ length (now over) ⌝ }
-    requires { ⌜ length (now over) ≤ leaves ⌝ }
-    requires { ⌜ leaves * 2 ≤ length (now «tree_over») ⌝ }
-    requires { ⌜ leaves * 2 ≤ length (now «tree_cost») ⌝ }
-    ensures { λ _. ⌜ Filled leaves (now (over .entry)) (now (cost .entry)) (now («tree_over» .exit)) (now («tree_cost» .exit)) ⌝ }
-{
-    let n = over.len();
-    copy_leaves(over, cost, &mut *tree_over, &mut *tree_cost, leaves);
-    pad_leaves(&mut *tree_over, &mut *tree_cost, leaves + n, leaves * 2);
-    link_nodes(&mut *tree_over, &mut *tree_cost, leaves);
 }

@@ -128,7 +128,7 @@ pub fn visit(
     best: Best,
 ) -> Best
     requires { ⌜ Starts (query .lengths) (now right) (now over) (now cost) (query .leaves) (query .to) (query .end) ⌝ }
-    requires { ⌜ Covers (query .leaves) (now over) (now cost) node lo hi ⌝ }
+    requires { ⌜ Covers (query .leaves) (query .to) (now over) (now cost) node lo hi ⌝ }
     requires { ⌜ T (nonneg (best .score .cost)) ⌝ }
     ensures { λ r. ⌜ FirstIn (through query (now (right .entry)) (now (over .entry)) (now (cost .entry))) lo hi (query .from) (query .to) best r ⌝ }
 {

@@ -1,75 +1,58 @@
--- `row::next_row` plants the tree of the row before, whose leaves are that row's scores, and writes the next row from it.
 use denote.Ref.{now}
-use Rattle.pieces.specs.Pieces.{scoreAt}
-use Rattle.rows.specs.Rows.{leafScore}
-use Rattle.rows.specs.RowsLaws.{planted, next-row-same}
+use Rattle.rows.specs.RowsLaws.{planted, next-done}
 use borrow.Author.Needs.{needs}
 use native.Mathlib.Omega.{arith}
-use mathlib.Core.Path.{sym, _∙_}
-use lib.ListN.{length}
+use mathlib.Core.Path.{_≡_, refl, sym, ap, subst, _∙_}
+use mathlib.Core.Logic.{⊎-elim}
+use mathlib.Core.List.{List, [], _∷_, _++_}
+use Prim.Native.Nat.{ℕ, zero, suc, _+_, _-_, _*_, _≤_, _<_, min}
+use native.Mathlib.Numerals.{add-one}
+use lib.ListN.{length, getD, take, drop, set, replicate, length-append, length-take, length-drop, length-set, length-replicate}
 use Rattle.rows.proofs.row.next_row.Statement.{statement}
 use Rattle.rows.proofs.row.next_row.Tie as tie
+use Rattle.rows.proofs.row.next_row.Reads as reads
+use Rattle.rows.proofs.row.next_row.Lts as lts
+use Rattle.rows.proofs.row.write_row.Reads as write-row-reads
+use Rattle.search.proofs.tree.link_nodes.Reads as link-nodes-reads
 
-leaves-for-requires : tie.Need-leaves-for-requires
-leaves-for-requires c κs = let ok = c .before .before .before .before .before .before .before .before .before .pre .0 in (ok .candidates .some, ok .candidates .few)
+-- src/row.rt:81:5
+link-nodes-requires : tie.Need-link-nodes-requires
+link-nodes-requires c κs = search needs
 
-fill-tree-requires : tie.Need-fill-tree-requires
-fill-tree-requires c κs =
-    let start = c .before .before .before .before .before .before .before .before .before .before .before .before .before .before in
-    let row = start .pre .1 .1 .1 .0 in
-    let leaves = c .before .before .before .before .leaves-for .ensures in (
-      row .costs ∙ sym (row .overs),
-      (
-        omega (arith, row .overs, leaves .enough),
-        (omega (arith, leaves .least, start .pre .1 .1 .1 .1 .0 .0), omega (arith, leaves .least, start .pre .1 .1 .1 .1 .0 .1)),
-      ),
-    )
-
+-- src/row.rt:82:5
 write-row-requires : tie.Need-write-row-requires
 write-row-requires c κs =
-    let start = c .before .before .before .before .before .before .before .before .before .before .before .before .before .before .before .before .before .before .before .before .before .before .before .before in
-    let ok = start .pre .0 in
-    let row = start .pre .1 .1 .1 .0 in
-    let leaves = c .before .before .before .before .before .before .before .before .before .before .before .before .before .before .leaves-for .ensures in
-    let tree = planted (ok .candidates .few) row leaves (omega (arith, leaves .least, start .pre .1 .1 .1 .1 .0 .0, c .before .before .before .before .before .before .before .before .tree-over .given))
-    (omega (arith, leaves .least, start .pre .1 .1 .1 .1 .0 .1, c .before .before .before .before .before .before .tree-cost .given)) (c .before .before .before .before .before .before .before .before .before .fill-tree .ensures) in (
-      record { candidates = ok .candidates; preferred = ok .preferred; firsts = start .pre .1 .0; tree = tree; some = start .pre .1 .1 .0 .0 },
-      (start .pre .1 .1 .0 .1, (ok .costs .each, (row .overs, row .costs, start .pre .1 .1 .1 .1 .1))),
-    )
+    let start = c .before .before .before .before .before .before .before .before .before .before .before .before .before .before .before in
+    (planted (start .pre .0) (start .pre .1 .0) (c .before .before .before .before .before .before .over .given) (c .before .before .before .before .cost .given) (c .before .before .before .before .before .before .before .link-nodes .ensures), (start .pre .1 .1 .0, start .pre .1 .1 .1))
 
+-- src/row.rt:65:1
 same-length : tie.Need-same-length
 same-length c = search needs
 
+-- src/row.rt:65:1
 same-length-2 : tie.Need-same-length-2
 same-length-2 c = search needs
 
+-- src/row.rt:65:1
 same-length-3 : tie.Need-same-length-3
 same-length-3 c = search needs
 
-same-length-4 : tie.Need-same-length-4
-same-length-4 c = search needs
-
-same-length-5 : tie.Need-same-length-5
-same-length-5 c = search needs
-
+-- src/row.rt:65:1
 returns : tie.Need-returns
 returns c =
-    let start = c .before .before .before .before .before .before .before .before .before .before .before .before .before .before .before .before .before .before .before .before .before .before .before .before .before .before .before .before .before .before .before in
-    let row = start .pre .1 .1 .1 .0 in
-    next-row-same (leafScore (c .before .before .before .before .before .before .before .before .before .before .before .before .before .before .before .before .before .before .before .before .before .leaves-for .result) (c .before .before .before .before .before .before .before .before .before .before .before .before .before .before .before .before .fill-tree .last .1 .1 .0) (c .before .before .before .before .before .before .before .before .before .before .before .before .before .before .before .before .fill-tree .last .1 .1 .1 .0))
-    (scoreAt (now (start .args .over)) (now (start .args .cost))) (length (now (start .args .left))) (start .pre .1 .1 .0 .0)
-    (λ i h. c .before .before .before .before .before .before .before .before .before .before .before .before .before .before .before .before .fill-tree .ensures .leaf i (omega (arith, row .overs))) (c .before .before .before .before .before .before .write-row .ensures)
+    let start = c .before .before .before .before .before .before .before .before .before .before .before .before .before .before .before .before .before .before .before .before .before .before in
+    let linked = c .before .before .before .before .before .before .before .before .before .before .before .before .before .before .link-nodes .ensures in
+    let overs = c .before .before .before .before .before .before .before .before .before .before .before .before .before .over .given in
+    let costs = c .before .before .before .before .before .before .before .before .before .before .before .cost .given in
+    next-done (planted (start .pre .0) (start .pre .1 .0) overs costs linked) (start .pre .1 .1 .0 .0) (start .pre .0) overs costs linked (c .before .before .before .before .before .before .write-row .ensures)
 
 pub next-row-spec : {M : Type 1} → statement M
 next-row-spec =
     tie.close
     (tie.spec
-    leaves-for-requires
-    fill-tree-requires
+    link-nodes-requires
     write-row-requires
     same-length
     same-length-2
     same-length-3
-    same-length-4
-    same-length-5
     returns)

@@ -1,47 +1,74 @@
--- `row::predecessor` searches where a piece may start; the leaves of the tree are the scores of the row before.
 use denote.Ref.{now}
-use Rattle.rows.specs.RowsLaws.{starts-of, start-below, predecessor-by}
+use Rattle.rows.specs.Rows.{leafScore, behind, FirstWritten, NextWritten}
+use Rattle.rows.specs.RowsLaws.{starts-of, start-below, predecessor-by, tree-size, behind-part, behind-length, first-start, first-more, next-start, next-more, written-ready, written-cuts}
 use borrow.Author.Needs.{needs}
 use native.Mathlib.Omega.{arith}
+use mathlib.Core.Path.{_≡_, refl, sym, ap, subst, _∙_}
+use mathlib.Core.Logic.{⊎-elim}
+use mathlib.Core.List.{List, [], _∷_, _++_}
+use Prim.Native.Nat.{ℕ, zero, suc, _+_, _-_, _*_, _≤_, _<_, min}
+use native.Mathlib.Numerals.{add-one}
+use lib.ListN.{length, getD, take, drop, set, replicate, length-append, length-take, length-drop, length-set, length-replicate}
 use Rattle.rows.proofs.row.predecessor.Statement.{statement}
 use Rattle.rows.proofs.row.predecessor.Tie as tie
+use Rattle.rows.proofs.row.predecessor.Reads as reads
+use Rattle.rows.proofs.row.predecessor.Lts as lts
+use Rattle.search.proofs.least.least_predecessor.Reads as least-predecessor-reads
+use Rattle.search.proofs.range.larger.Reads as larger-reads
 
-mul-larger : tie.Need-mul-larger
-mul-larger c = search needs
+-- src/row.rt:29:22
+mul-first : tie.Need-mul-first
+mul-first c = search needs
 
-shared-slice-read-larger : tie.Need-shared-slice-read-larger
-shared-slice-read-larger c = search needs
+-- src/row.rt:29:22
+add-first : tie.Need-add-first
+add-first c = search needs
 
-cast-larger : tie.Need-cast-larger
-cast-larger c = omega (arith, c .shared-slice-known6 .given (c .before .before .before .before .before .before .args .j))
+-- src/row.rt:29:17
+mul-first-2 : tie.Need-mul-first-2
+mul-first-2 c = search needs
 
+-- src/row.rt:29:17
+shared-slice-read-first : tie.Need-shared-slice-read-first
+shared-slice-read-first c = search needs
+
+-- src/row.rt:29:17
+cast-first : tie.Need-cast-first
+cast-first c = omega (arith, c .shared-slice-known5 .given (length (now (c .before .before .before .before .before .args .left)) * 4 + c .before .before .before .before .before .args .j))
+
+-- src/row.rt:30:37
 sub-larger : tie.Need-sub-larger
 sub-larger c = search needs
 
+-- src/row.rt:30:9
 larger-requires : tie.Need-larger-requires
 larger-requires c κs = search needs
 
+-- src/row.rt:31:66
 mul-least-predecessor : tie.Need-mul-least-predecessor
 mul-least-predecessor c = search needs
 
+-- src/row.rt:31:66
 shared-slice-read-least-predecessor : tie.Need-shared-slice-read-least-predecessor
 shared-slice-read-least-predecessor c = search needs
 
+-- src/row.rt:31:5
 least-predecessor-requires : tie.Need-least-predecessor-requires
 least-predecessor-requires c κs =
-    let start = c .before .before .before .before .before .before .before .before in
-    let ready = start .pre .0 in
-    let e = ready .firsts .start (start .args .j) (start .pre .1 .1) in
-    let below = start-below (start .args .lengths) (now (start .args .left)) (now (start .args .right)) (start .args .k) (start .args .j) (ready .some) (start .pre .1 .0) in (
-      starts-of (ready .candidates) (ready .preferred) (ready .tree) (start .args .j) (start .pre .1 .1),
-      (ready .tree .covers, (omega (arith, c .before .larger .ensures, e, below), omega (arith, ready .tree .enough, start .pre .1 .1))),
+    let start = c .before .before .before .before .before .before .before in
+    let ready = start .pre in
+    let e = ready .laid .firsts (start .args .j) (ready .inside) in
+    let below = start-below (start .args .lengths) (now (start .args .left)) (now (start .args .right)) (start .args .k) (start .args .j) (ready .some) (ready .reached) in (
+      starts-of ready,
+      (ready .covers, (omega (arith, c .before .larger .ensures, e, below), omega (arith, ready .laid .tree .enough, ready .inside))),
     )
 
+-- src/row.rt:16:1
 returns : tie.Need-returns
 returns c =
-    let start = c .before .before .before .before .before .before .before .before .before in
-    let ready = start .pre .0 in
-    let e = ready .firsts .start (start .args .j) (start .pre .1 .1) in
+    let start = c .before .before .before .before .before .before .before .before in
+    let ready = start .pre in
+    let e = ready .laid .firsts (start .args .j) (ready .inside) in
     predecessor-by (start .args .lengths) (now (start .args .left)) (now (start .args .right)) (start .args .leaves) (now (start .args .over)) (now (start .args .cost))
     (start .args .k) (start .args .j) (c .before .before .larger .result) (c .least-predecessor .result) (rw e at (c .before .before .larger .ensures)) (c .least-predecessor .ensures)
 
@@ -49,9 +76,11 @@ pub predecessor-spec : {M : Type 1} → statement M
 predecessor-spec =
     tie.close
     (tie.spec
-    mul-larger
-    shared-slice-read-larger
-    cast-larger
+    mul-first
+    add-first
+    mul-first-2
+    shared-slice-read-first
+    cast-first
     sub-larger
     larger-requires
     mul-least-predecessor
