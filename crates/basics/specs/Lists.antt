@@ -6,8 +6,8 @@ use Prim.Native.Nat.{ℕ, zero, suc, _+_, _≤_, _<_}
 use native.Mathlib.Nat.{not-suc-le-zero, le-of-suc-le-suc}
 use native.Mathlib.Omega.{arith}
 use native.Mathlib.Numerals.{add-one}
-use lib.ListN.{length, getD, drop, set, replicate, length-set, drop-of-length-le}
-use lib.Seq.{drop-cons, drop-length}
+use lib.ListN.{length, getD, take, drop, set, replicate, length-set, drop-of-length-le}
+use lib.Seq.{drop-cons, drop-length, take-suc, take-all}
 
 -- ---- a list filled with one value
 
@@ -63,3 +63,34 @@ module _ {A : Type 0} (p : A → Bool) where
   pub testing-done : (xs : List A) (end i : ℕ) → end ≤ i → Testing p xs end i → true ≡ allOf p xs
   unfolding allOf
   testing-done xs end i l (a, b, c) = sym (ap (allOf p) (drop-of-length-le xs {i = i} (omega arith))) ∙ c
+
+-- `ok` tells whether the first i elements pass: what holds while a loop that ends at `end` tests all of them, with no early exit
+abbrev pub Tested : {A : Type 0} → (A → Bool) → List A → ℕ → Bool → ℕ → Type 0
+Tested p xs end ok i = (i ≤ length xs) × (end ≡ length xs) × (ok ≡ allOf p (take i xs))
+
+and-true : (a : Bool) → (a && true) ≡ a
+and-true true = refl
+and-true false = refl
+
+and-assoc : (a b c : Bool) → (a && (b && c)) ≡ ((a && b) && c)
+and-assoc true b c = refl
+and-assoc false b c = refl
+
+module _ {A : Type 0} (p : A → Bool) where
+  all-snoc : (xs : List A) (x : A) → allOf p (xs ++ (x ∷ [])) ≡ (allOf p xs && p x)
+  unfolding allOf
+  all-snoc [] x = and-true (p x)
+  all-snoc (y ∷ xs) x = rw (all-snoc xs x) (and-assoc (p y) (allOf p xs) (p x))
+
+  -- no element is tested yet
+  pub tested-start : (xs : List A) → Tested p xs (length xs) true 0
+  unfolding allOf
+  tested-start xs = (omega arith, refl, refl)
+
+  -- the element at i is tested, with the result r
+  pub tested-next : (xs : List A) (end i : ℕ) (z : A) (ok r : Bool) → i < end → r ≡ p (getD xs i z) → Tested p xs end ok i → Tested p xs end (ok && r) (i + 1)
+  tested-next xs end i z ok r l e (a, b, c) = (omega arith, b, rw (c, e, add-one, take-suc xs i z (omega arith)) (sym (all-snoc (take i xs) (getD xs i z))))
+
+  -- every element is tested
+  pub tested-done : (xs : List A) (end i : ℕ) (ok : Bool) → end ≤ i → Tested p xs end ok i → ok ≡ allOf p xs
+  tested-done xs end i ok l (a, b, c) = c ∙ ap (allOf p) (take-all i xs (omega arith))

@@ -1,4 +1,6 @@
 // Tests of the values, levels and flags of a recording, one list each. A NaN is outside every range.
+// A loop goes through its whole list, with `&` and no early exit, so that it works on several elements at a time: almost
+// every list that is lent passes.
 ghost use mathlib.Core.Path.{_≡_};
 ghost use Rattle.basics.specs.Lists.{allOf};
 ghost use Rattle.grid.specs.Values.{isScore, isFinite, isFlag, isUnflagged};
@@ -14,12 +16,11 @@ pub fn is_score(x: f32) -> bool
 pub fn are_scores(values: &[f32]) -> bool
     ensures { λ r. ⌜ r ≡ allOf isScore (now (values .entry)) ⌝ }
 {
+    let mut ok = true;
     for i in 0..values.len() {
-        if !is_score(values[i]) {
-            return false;
-        }
+        ok = ok & is_score(values[i]);
     }
-    true
+    ok
 }
 
 // Whether x is finite.
@@ -33,12 +34,11 @@ pub fn is_finite_f32(x: f32) -> bool
 pub fn are_finite_f32(values: &[f32]) -> bool
     ensures { λ r. ⌜ r ≡ allOf isFinite (now (values .entry)) ⌝ }
 {
+    let mut ok = true;
     for i in 0..values.len() {
-        if !is_finite_f32(values[i]) {
-            return false;
-        }
+        ok = ok & is_finite_f32(values[i]);
     }
-    true
+    ok
 }
 
 // Whether x is finite.
@@ -52,12 +52,11 @@ pub fn is_finite_f64(x: f64) -> bool
 pub fn are_finite_f64(levels: &[f64]) -> bool
     ensures { λ r. ⌜ r ≡ allOf isFinite (now (levels .entry)) ⌝ }
 {
+    let mut ok = true;
     for i in 0..levels.len() {
-        if !is_finite_f64(levels[i]) {
-            return false;
-        }
+        ok = ok & is_finite_f64(levels[i]);
     }
-    true
+    ok
 }
 
 // Whether a flag byte is 0 or 1.
@@ -71,12 +70,11 @@ fn is_flag(b: u8) -> bool
 pub fn are_flags(flags: &[u8]) -> bool
     ensures { λ r. ⌜ r ≡ allOf isFlag (now (flags .entry)) ⌝ }
 {
+    let mut ok = true;
     for i in 0..flags.len() {
-        if !is_flag(flags[i]) {
-            return false;
-        }
+        ok = ok & is_flag(flags[i]);
     }
-    true
+    ok
 }
 
 // Whether a flag byte is 0.
@@ -90,10 +88,9 @@ fn is_unflagged(b: u8) -> bool
 pub fn are_unflagged(flags: &[u8]) -> bool
     ensures { λ r. ⌜ r ≡ allOf isUnflagged (now (flags .entry)) ⌝ }
 {
+    let mut ok = true;
     for i in 0..flags.len() {
-        if !is_unflagged(flags[i]) {
-            return false;
-        }
+        ok = ok & is_unflagged(flags[i]);
     }
-    true
+    ok
 }

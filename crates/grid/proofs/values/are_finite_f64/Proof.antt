@@ -1,22 +1,20 @@
--- `values::are_finite_f64` tests one level after another, and stops at the first that fails.
+-- `values::are_finite_f64` tests every level, and `ok` tells at each turn whether all of them have passed so far.
 use borrow.Author.Needs.{needs}
-use borrow.Author.Tests.{not-true, not-false}
-use mathlib.Core.Path.{sym, _∙_}
 use Prim.Native.Nat.{_-_}
 use lib.Ieee.{nan}
-use Rattle.basics.specs.Lists.{Testing, testing-next, testing-fails, testing-done}
+use Rattle.basics.specs.Lists.{Tested, tested-start, tested-next, tested-done}
 use Rattle.grid.specs.Values.{isFinite}
 use Rattle.grid.proofs.values.are_finite_f64.Statement.{statement}
 use Rattle.grid.proofs.values.are_finite_f64.Tie as tie
 
 abbrev Inv-loop : tie.InvT-loop
-Inv-loop levels i₀ i-end i = Testing isFinite levels i-end i
+Inv-loop levels ok₀ i₀ i-end ok i = Tested isFinite levels i-end ok i
 
 abbrev μ-loop : tie.MeasureT-loop
-μ-loop levels i₀ i-end i = i-end - i
+μ-loop levels ok₀ i₀ i-end ok i = i-end - i
 
 loop-holds : tie.Need-loop-holds Inv-loop μ-loop
-loop-holds c = search needs
+loop-holds c = tested-start isFinite (c .before .args .levels .now)
 
 mul-is-finite-f64 : tie.Need-mul-is-finite-f64 Inv-loop μ-loop
 mul-is-finite-f64 c = search needs
@@ -27,9 +25,6 @@ shared-slice-read-is-finite-f64 c = search needs
 is-finite-f64-requires : tie.Need-is-finite-f64-requires Inv-loop μ-loop
 is-finite-f64-requires c κs = search needs
 
-returns : tie.Need-returns Inv-loop μ-loop
-returns c = testing-fails isFinite _ _ _ nan (search needs) (sym (c .before .is-finite-f64 .ensures) ∙ not-true _ (c .if1 .taken)) (c .before .before .before .before .loop .inv)
-
 add-i : tie.Need-add-i Inv-loop μ-loop
 add-i c = search needs
 
@@ -37,10 +32,10 @@ loop-less : tie.Need-loop-less Inv-loop μ-loop
 loop-less c = search needs
 
 loop-again : tie.Need-loop-again Inv-loop μ-loop
-loop-again c = testing-next isFinite _ _ _ nan (search needs) (sym (c .before .is-finite-f64 .ensures) ∙ not-false _ (c .if1 .left)) (c .before .before .before .before .loop .inv)
+loop-again c = tested-next isFinite _ _ _ nan _ _ (search needs) (c .is-finite-f64 .ensures) (c .before .before .before .loop .inv)
 
-returns-2 : tie.Need-returns-2 Inv-loop μ-loop
-returns-2 c = testing-done isFinite _ _ _ (search needs) (c .before .loop .inv)
+returns : tie.Need-returns Inv-loop μ-loop
+returns c = tested-done isFinite _ _ _ _ (search needs) (c .before .loop .inv)
 
 pub are-finite-f64-spec : {M : Type 1} → statement M
 are-finite-f64-spec =
@@ -52,8 +47,7 @@ are-finite-f64-spec =
     mul-is-finite-f64
     shared-slice-read-is-finite-f64
     is-finite-f64-requires
-    returns
     add-i
     loop-less
     loop-again
-    returns-2)
+    returns)

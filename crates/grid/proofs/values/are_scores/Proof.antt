@@ -1,22 +1,20 @@
--- `values::are_scores` tests one value after another, and stops at the first that fails.
+-- `values::are_scores` tests every value, and `ok` tells at each turn whether all of them have passed so far.
 use borrow.Author.Needs.{needs}
-use borrow.Author.Tests.{not-true, not-false}
-use mathlib.Core.Path.{sym, _∙_}
 use Prim.Native.Nat.{_-_}
 use lib.Ieee.{nan}
-use Rattle.basics.specs.Lists.{Testing, testing-next, testing-fails, testing-done}
+use Rattle.basics.specs.Lists.{Tested, tested-start, tested-next, tested-done}
 use Rattle.grid.specs.Values.{isScore}
 use Rattle.grid.proofs.values.are_scores.Statement.{statement}
 use Rattle.grid.proofs.values.are_scores.Tie as tie
 
 abbrev Inv-loop : tie.InvT-loop
-Inv-loop values i₀ i-end i = Testing isScore values i-end i
+Inv-loop values ok₀ i₀ i-end ok i = Tested isScore values i-end ok i
 
 abbrev μ-loop : tie.MeasureT-loop
-μ-loop values i₀ i-end i = i-end - i
+μ-loop values ok₀ i₀ i-end ok i = i-end - i
 
 loop-holds : tie.Need-loop-holds Inv-loop μ-loop
-loop-holds c = search needs
+loop-holds c = tested-start isScore (c .before .args .values .now)
 
 mul-is-score : tie.Need-mul-is-score Inv-loop μ-loop
 mul-is-score c = search needs
@@ -27,9 +25,6 @@ shared-slice-read-is-score c = search needs
 is-score-requires : tie.Need-is-score-requires Inv-loop μ-loop
 is-score-requires c κs = search needs
 
-returns : tie.Need-returns Inv-loop μ-loop
-returns c = testing-fails isScore _ _ _ nan (search needs) (sym (c .before .is-score .ensures) ∙ not-true _ (c .if1 .taken)) (c .before .before .before .before .loop .inv)
-
 add-i : tie.Need-add-i Inv-loop μ-loop
 add-i c = search needs
 
@@ -37,10 +32,10 @@ loop-less : tie.Need-loop-less Inv-loop μ-loop
 loop-less c = search needs
 
 loop-again : tie.Need-loop-again Inv-loop μ-loop
-loop-again c = testing-next isScore _ _ _ nan (search needs) (sym (c .before .is-score .ensures) ∙ not-false _ (c .if1 .left)) (c .before .before .before .before .loop .inv)
+loop-again c = tested-next isScore _ _ _ nan _ _ (search needs) (c .is-score .ensures) (c .before .before .before .loop .inv)
 
-returns-2 : tie.Need-returns-2 Inv-loop μ-loop
-returns-2 c = testing-done isScore _ _ _ (search needs) (c .before .loop .inv)
+returns : tie.Need-returns Inv-loop μ-loop
+returns c = tested-done isScore _ _ _ _ (search needs) (c .before .loop .inv)
 
 pub are-scores-spec : {M : Type 1} → statement M
 are-scores-spec =
@@ -52,8 +47,7 @@ are-scores-spec =
     mul-is-score
     shared-slice-read-is-score
     is-score-requires
-    returns
     add-i
     loop-less
     loop-again
-    returns-2)
+    returns)
