@@ -10,8 +10,8 @@ use native.Mathlib.Omega.{arith}
 use lib.Dec.{ltb, eqb}
 use lib.ListN.{length, getD, take, drop, set, replicate, drop-of-length-le}
 use lib.Pow.{pow-pos, pow-add, shr-le}
-use lib.Seq.{take-suc, take-all, length-take-le}
-use borrow.Author.Tests.{lt-ltb, le-ltb, eq-eqb, ne-eqb}
+use lib.Seq.{set-getD, take-suc, take-all, length-take-le}
+use borrow.Author.Tests.{lt-ltb, le-ltb, eq-eqb, ne-eqb, eqb-true, eqb-false}
 use Rattle.laws.specs.Tests.{lt-or-le}
 use Rattle.levels.specs.declared.select.Place.{Place}
 use Rattle.levels.specs.declared.select.Block.{Block}
@@ -66,14 +66,15 @@ unfolding countOf
 count-more p [] x = omega arith
 count-more p (y ∷ ys) x = let h = count-more p ys x in omega arith
 
+-- what one key adds
+pub one-at-most : (b : Bool) → cond b 1 0 ≤ 1
+one-at-most true = omega arith
+one-at-most false = omega arith
+
 count-length : (p : ℕ → Bool) (xs : List ℕ) → countOf p xs ≤ length xs
 unfolding countOf
 count-length p [] = omega arith
-count-length p (x ∷ xs) = let h = count-length p xs in let o = one (p x) in omega arith
-  where
-    one : (b : Bool) → cond b 1 0 ≤ 1
-    one true = omega arith
-    one false = omega arith
+count-length p (x ∷ xs) = let h = count-length p xs in let o = one-at-most (p x) in omega arith
 
 module _ (shift : ℕ) where
   no-hits : (q n : ℕ) → replicate n 0 ≡ hitsFrom [] shift q n
@@ -156,6 +157,19 @@ module _ (keys : List ℕ) (shift prefix end : ℕ) where
     rw (add-one i, take-suc keys i 0 (omega arith), c)
         (hit shift (take i keys) (getD keys i 0) (prefix * 2048) 2048 (getD keys i 0 / 2 ^ shift % 2048) (omega arith)),
   )
+
+  -- it adds 1 or 0, by its prefix
+  pub counting-adds : (counts : List ℕ) (i r : ℕ) → i < end → r ≡ cond (eqb (getD keys i 0 / 2 ^ shift / 2048) prefix) 1 0
+      → Counting keys shift prefix end counts i
+      → Counting keys shift prefix end (set counts (getD keys i 0 / 2 ^ shift % 2048) (getD counts (getD keys i 0 / 2 ^ shift % 2048) 0 + r)) (i + 1)
+  counting-adds counts i r l e h = go (eqb (getD keys i 0 / 2 ^ shift / 2048) prefix) refl e
+    where
+      go : (b : Bool) → eqb (getD keys i 0 / 2 ^ shift / 2048) prefix ≡ b → r ≡ cond b 1 0
+          → Counting keys shift prefix end (set counts (getD keys i 0 / 2 ^ shift % 2048) (getD counts (getD keys i 0 / 2 ^ shift % 2048) 0 + r)) (i + 1)
+      go true q f = rw f (counting-hit counts i l (eqb-true (getD keys i 0 / 2 ^ shift / 2048) prefix q) h)
+      go false q f =
+          let same : getD counts (getD keys i 0 / 2 ^ shift % 2048) 0 + r ≡ getD counts (getD keys i 0 / 2 ^ shift % 2048) 0 = omega arith in
+          rw (same, set-getD) (counting-miss counts i l (eqb-false (getD keys i 0 / 2 ^ shift / 2048) prefix q) h)
 
   -- no count is larger than the number of keys
   pub counting-small : (counts : List ℕ) (i d : ℕ) → d < 2048 → i < end → Counting keys shift prefix end counts i → getD counts d 0 < length keys

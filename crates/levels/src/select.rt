@@ -1,5 +1,6 @@
 // The k-th smallest of a list of keys, found digit by digit from the top: three passes, none of which moves a key.
 ghost use mathlib.Core.Path.{_≡_};
+ghost use mathlib.Core.Bool.{cond};
 ghost use Prim.Native.Nat.{_≤_, _<_, _+_};
 ghost use lib.ListN.{length, getD};
 ghost use Rattle.levels.specs.Select.{countsOf, hits, total, Walked, Narrowed};
@@ -17,8 +18,9 @@ pub struct Block {
     pub rank: usize,
 }
 
-// How many keys have each next digit, among those whose bits above it are `prefix`.
-fn histogram(keys: &[u32], shift: u32, prefix: u32) -> [usize; 2048]
+// How many keys have each next digit, among those whose bits above it are `prefix`. The branch is guessed right where almost
+// all keys have that prefix, or almost none.
+fn histogram_branching(keys: &[u32], shift: u32, prefix: u32) -> [usize; 2048]
     requires { ⌜ shift < 32 ⌝ }
     ensures { λ r. ⌜ r ≡ countsOf (now (keys .entry)) shift prefix ⌝ }
 {
@@ -31,6 +33,38 @@ fn histogram(keys: &[u32], shift: u32, prefix: u32) -> [usize; 2048]
         }
     }
     counts
+}
+
+// What one key adds to a count.
+fn one_if(hit: bool) -> usize
+    ensures { λ r. ⌜ r ≡ cond hit 1 0 ⌝ }
+{
+    if hit { 1 } else { 0 }
+}
+
+// The same table with no branch, for keys of that prefix mixed with others: these add 0.
+fn histogram_adding(keys: &[u32], shift: u32, prefix: u32) -> [usize; 2048]
+    requires { ⌜ shift < 32 ⌝ }
+    ensures { λ r. ⌜ r ≡ countsOf (now (keys .entry)) shift prefix ⌝ }
+{
+    let mut counts = [0usize; 2048];
+    for i in 0..keys.len() {
+        let head = keys[i] >> shift;
+        let digit = (head % 2048) as usize;
+        counts[digit] += one_if(head / 2048 == prefix);
+    }
+    counts
+}
+
+// The table of a digit: all keys have the prefix at the first, often a part of them at the second, few at the last.
+fn histogram(keys: &[u32], shift: u32, prefix: u32) -> [usize; 2048]
+    requires { ⌜ shift < 32 ⌝ }
+    ensures { λ r. ⌜ r ≡ countsOf (now (keys .entry)) shift prefix ⌝ }
+{
+    if shift == 11 {
+        return histogram_adding(keys, shift, prefix);
+    }
+    histogram_branching(keys, shift, prefix)
 }
 
 // The digit at which the counts passed rise above the rank.

@@ -1,13 +1,13 @@
--- `select::histogram` counts one key after another; no count passes the number of keys.
-use Rattle.levels.specs.SelectLaws.{Counting, counting-starts, counting-miss, counting-hit, counting-small, counting-done}
+-- `select::histogram_adding` counts one key after another, with 0 for those of another prefix; no count passes the number of keys.
+use Rattle.levels.specs.SelectLaws.{Counting, counting-starts, counting-adds, counting-small, counting-done, one-at-most}
 use borrow.Author.Needs.{needs}
 use native.Mathlib.Omega.{arith}
 use mathlib.Core.Path.{refl}
-use mathlib.Core.Logic.{⊎-elim}
-use Prim.Native.Nat.{_-_, _/_, _%_, _^_}
+use Prim.Native.Nat.{_-_, _/_, _%_, _^_, _≤_}
+use lib.Dec.{eqb}
 use lib.ListN.{length, getD}
-use Rattle.levels.proofs.select.histogram.Statement.{statement}
-use Rattle.levels.proofs.select.histogram.Tie as tie
+use Rattle.levels.proofs.select.histogram_adding.Statement.{statement}
+use Rattle.levels.proofs.select.histogram_adding.Tie as tie
 
 abbrev Inv-loop : tie.InvT-loop
 Inv-loop keys shift prefix counts₀ i₀ i-end counts i = Counting keys shift prefix i-end counts i
@@ -16,7 +16,7 @@ abbrev μ-loop : tie.MeasureT-loop
 μ-loop keys shift prefix counts₀ i₀ i-end counts i = i-end - i
 
 loop-holds : tie.Need-loop-holds Inv-loop μ-loop
-loop-holds c = counting-starts (c .args .keys .now) (c .args .shift) (c .args .prefix) _ refl
+loop-holds c = let start = c .before .args in counting-starts (start .keys .now) (start .shift) (start .prefix) _ refl
 
 mul-head : tie.Need-mul-head Inv-loop μ-loop
 mul-head c = search needs
@@ -30,6 +30,9 @@ shr-head c = search needs
 cast-digit : tie.Need-cast-digit Inv-loop μ-loop
 cast-digit c = search needs
 
+one-if-requires : tie.Need-one-if-requires Inv-loop μ-loop
+one-if-requires c κs = search needs
+
 mul-counts : tie.Need-mul-counts Inv-loop μ-loop
 mul-counts c = search needs
 
@@ -38,9 +41,10 @@ array-read-counts c = search needs
 
 add-counts : tie.Need-add-counts Inv-loop μ-loop
 add-counts c =
-    let start = c .before .before .before .before .args in
+    let start = c .before .before .before .before .before .args in
     let at = c .before .before .before .loop .i in
     let l = counting-small (start .keys .now) (start .shift) (start .prefix) (length (start .keys .now)) (c .before .before .before .loop .counts) at (getD (start .keys .now) at 0 / 2 ^ start .shift % 2048) (omega arith) (search needs) (c .before .before .before .loop .inv) in
+    let m : c .one-if .result ≤ 1 = rw (c .one-if .ensures) (one-at-most (eqb (getD (start .keys .now) at 0 / 2 ^ start .shift / 2048) (start .prefix))) in
     omega arith
 
 array-write-counts : tie.Need-array-write-counts Inv-loop μ-loop
@@ -53,16 +57,13 @@ loop-less : tie.Need-loop-less Inv-loop μ-loop
 loop-less c = search needs
 
 loop-again : tie.Need-loop-again Inv-loop μ-loop
-loop-again c =
-    let start = c .before .before .before .before .args in
-    ⊎-elim (λ w. rw (w .1) (counting-hit _ _ _ _ _ _ (search needs) (w .0 .taken) (c .before .before .before .loop .inv)))
-    (λ w. rw (w .1) (counting-miss _ _ _ _ _ _ (search needs) (w .0 .left) (c .before .before .before .loop .inv))) (c .if1 .came)
+loop-again c = counting-adds _ _ _ _ _ _ _ (search needs) (c .one-if .ensures) (c .before .before .before .loop .inv)
 
 returns : tie.Need-returns Inv-loop μ-loop
 returns c = counting-done _ _ _ _ _ _ (search needs) (c .before .loop .inv)
 
-pub histogram-spec : {M : Type 1} → statement M
-histogram-spec =
+pub histogram-adding-spec : {M : Type 1} → statement M
+histogram-adding-spec =
     tie.close
     (tie.spec
     Inv-loop
@@ -72,6 +73,7 @@ histogram-spec =
     shared-slice-read-head
     shr-head
     cast-digit
+    one-if-requires
     mul-counts
     array-read-counts
     add-counts
