@@ -1,7 +1,7 @@
 -- What the search by count needs and leaves.
 use mathlib.Core.Path.{_≡_}
 use mathlib.Core.List.{List}
-use Prim.Native.Nat.{ℕ, _-_, _*_, _≤_}
+use Prim.Native.Nat.{ℕ, _*_, _≤_}
 use lib.Ieee.{Float}
 use lib.ListN.{length}
 use Rattle.basics.specs.Front.{onto}

@@ -1,23 +1,21 @@
 -- Laws of the search by count: its steps one after the other.
 use mathlib.Core.Path.{_≡_, refl, sym, ap, _∙_}
-use mathlib.Core.List.{List, [], _∷_, _++_}
-use Prim.Native.Nat.{ℕ, zero, suc, _+_, _-_, _*_, _≤_, _<_, min}
+use mathlib.Core.List.{List, []}
+use Prim.Native.Nat.{ℕ, _+_, _-_, _*_, _≤_, _<_}
 use native.Mathlib.Nat.{le-refl}
 use native.Mathlib.Omega.{arith}
 use borrow.Rule.Slice.PartMut.{putMid}
 use lib.Ieee.{Float, binary64, ofBits}
-use lib.ListN.{length, getD, set, drop}
+use lib.ListN.{length, getD, set}
 use Rattle.laws.specs.Nonneg.{nought-is}
 use Rattle.basics.specs.Front.{onto, onto-nil, onto-next}
-use Rattle.pieces.specs.Pieces.{noScore}
 use Rattle.pieces.specs.declared.lengths.Lengths.{Lengths}
 use Rattle.pieces.specs.declared.score.Score.{Score}
 use Rattle.path.specs.Paths.{piecesOf, lastOf}
 use Rattle.path.specs.ByCount.{bestWith, wayWith, bestPathByCount, bestScoreByCount}
-use Rattle.path.specs.declared.solve.Solved.{Solved}
 use Rattle.search.specs.Tree.{Leaves}
 use Rattle.rows.specs.First.{FirstStarts}
-use Rattle.rows.specs.Rows.{behind, Laid, leafScore}
+use Rattle.rows.specs.Rows.{Laid, leafScore}
 use Rattle.count.specs.Table.{RowsFilled}
 use Rattle.count.specs.TableLaws.{put-part}
 use Rattle.count.specs.Walk.{wayIn}

@@ -11,3 +11,5 @@ pub mod WalkLaws
 pub mod Counted
 --   room-laid, rows-sought, sought-solved, none-solved
 pub mod CountedLaws
+-- Theorems: solve-count-allowed, solve-count-score, solve-count-best, solve-count-is-best, solve-count-tie, solve-count-only
+pub mod Theorems

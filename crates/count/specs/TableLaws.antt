@@ -1,5 +1,5 @@
 -- Laws of the table by count: one row more.
-use mathlib.Core.Path.{_≡_, refl, sym, ap, subst, _∙_}
+use mathlib.Core.Path.{_≡_, sym, ap, subst, _∙_}
 use mathlib.Core.Logic.{inl, inr}
 use mathlib.Core.List.{List, _++_}
 use Prim.Native.Nat.{ℕ, zero, suc, _+_, _-_, _*_, _≤_, _<_}
@@ -8,12 +8,12 @@ use native.Mathlib.Numerals.{add-one}
 use native.Mathlib.Omega.{arith}
 use borrow.Rule.Slice.PartMut.{putMid}
 use lib.Ieee.{Float}
-use lib.ListN.{length, getD, take, drop, length-take, List·getD-append}
-use lib.Seq.{getD-take, getD-drop, length-take-le, getD-append-add}
+use lib.ListN.{length, getD, take, drop, List·getD-append}
+use lib.Seq.{getD-take, length-take-le, getD-append-add}
 use Rattle.laws.specs.Tests.{lt-or-le}
 use Rattle.pieces.specs.declared.lengths.Lengths.{Lengths}
 use Rattle.path.specs.ByCount.{bestWith, parentWith}
-use Rattle.rows.specs.Rows.{leafScore, behind, Laid, Row, FirstRow, NextRow}
+use Rattle.rows.specs.Rows.{leafScore, behind, FirstRow, NextRow}
 use Rattle.agree.specs.Agree.{first-row-agrees, next-row-agrees}
 use Rattle.count.specs.Table.{parentIn, RowsFilled}
 

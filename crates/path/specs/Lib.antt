@@ -57,5 +57,3 @@ pub mod Solved
 pub mod SolvedLaws
 -- Theorems: own-best, solve-allowed, solve-score, solve-best, solve-is-best, solve-tie, solve-only
 pub mod Theorems
--- Trials: document 01's starred trials of the path, by computation
-pub mod Trials

@@ -6,13 +6,13 @@ use Prim.Native.Nat.{ℕ, zero, suc, _+_, _-_, _*_, _≤_, _<_}
 use native.Mathlib.Nat.{le-refl, le-trans}
 use native.Mathlib.Omega.{arith}
 use lib.Dec.{T}
-use lib.Ieee.{Float, nan, binary64, ofBits}
+use lib.Ieee.{Float, nan}
 use lib.ListN.{length, getD, take, drop, set, length-drop, length-set}
 use lib.Seq.{getD-set-same, getD-set-other, getD-take, getD-drop, length-take-le, ext-getD}
 use Rattle.laws.specs.Tests.{lt-or-le}
 use Rattle.laws.specs.Nonneg.{nonneg, nought-is, nought-nonneg}
 use Rattle.pieces.specs.Limits.{maxIndex}
-use Rattle.pieces.specs.Pieces.{pieceLength, noScore, withPiece, withCutAt, arrival, scoreAt}
+use Rattle.pieces.specs.Pieces.{pieceLength, noScore, withPiece, withCutAt, arrival}
 use Rattle.pieces.specs.PiecesLaws.{over-one, cut-at-over}
 use Rattle.pieces.specs.Domain.{Candidates, Preferred, Lent}
 use Rattle.pieces.specs.DomainLaws.{rights-rise, ends-rise, left-bounded, piece-bounded, piece-nonneg, cut-at-nonneg}
@@ -24,7 +24,7 @@ use Rattle.search.specs.LeastLaws.{least-is}
 use Rattle.search.specs.Starts.{arrivalAt, Starts}
 use Rattle.rows.specs.FirstLaws.{first-start-high}
 use Rattle.search.specs.Tree.{noLeaf}
-use Rattle.search.specs.TreeLaws.{Sound, Front, covers-all, covers-front}
+use Rattle.search.specs.TreeLaws.{Sound, covers-all, covers-front}
 use Rattle.search.specs.Fill.{written, kept, Padded, Linked}
 use Rattle.rows.specs.Rows.{startOf, predecessorOf, firstScore, leafScore, behind, Laid, Kept, Row, FirstRow, NextRow, FirstWritten, NextWritten, Planted, RowReady}
 

@@ -1,4 +1,3 @@
 pub mod Silences
 pub mod SilencesLaws
-pub mod Trials
 pub mod Front

@@ -1,21 +1,15 @@
+-- `table::later_rows` fills one row more in each turn: row k + 1 stands in its own part of the parent list, behind the k rows that stay as they are.
 use denote.Ref.{now}
-use borrow.Rule.Slice.PartMut.{putMid}
 use Rattle.rows.specs.Rows.{behind}
 use Rattle.count.specs.Table.{RowsFilled}
 use Rattle.count.specs.TableLaws.{row-within, next-start, rows-more}
 use borrow.Author.Needs.{needs}
 use native.Mathlib.Omega.{arith}
-use mathlib.Core.Path.{_≡_, refl, sym, ap, subst, _∙_}
-use mathlib.Core.Logic.{⊎-elim}
-use mathlib.Core.List.{List, [], _∷_, _++_}
-use Prim.Native.Nat.{ℕ, zero, suc, _+_, _-_, _*_, _≤_, _<_, min}
-use native.Mathlib.Numerals.{add-one}
-use lib.ListN.{length, getD, take, drop, set, replicate, length-append, length-take, length-drop, length-set, length-replicate}
+use mathlib.Core.Path.{_≡_, _∙_}
+use Prim.Native.Nat.{_+_, _-_, _*_, _≤_, _<_}
+use lib.ListN.{length, length-take, length-drop}
 use Rattle.count.proofs.table.later_rows.Statement.{statement}
 use Rattle.count.proofs.table.later_rows.Tie as tie
-use Rattle.count.proofs.table.later_rows.Reads as reads
-use Rattle.count.proofs.table.later_rows.Lts as lts
-use Rattle.rows.proofs.row.next_row.Reads as next-row-reads
 
 abbrev Inv-loop : tie.InvT-loop
 Inv-loop left right leaves lengths pieces over₀ cost₀ parent₀ n k₀ start₀ over cost parent k start =
@@ -25,44 +19,36 @@ Inv-loop left right leaves lengths pieces over₀ cost₀ parent₀ n k₀ start
 abbrev μ-loop : tie.MeasureT-loop
 μ-loop left right leaves lengths pieces over₀ cost₀ parent₀ n k₀ start₀ over cost parent k start = pieces - k
 
--- src/table.rt:28:5
 loop-holds : tie.Need-loop-holds Inv-loop μ-loop
 loop-holds c = search needs
 
--- src/table.rt:29:19
 add-end : tie.Need-add-end Inv-loop μ-loop
 add-end c =
     let start = c .before .before .before .before .before .before .before in
     let at = c .before .loop in
     omega (arith, row-within (at .k) (start .args .pieces) (length (now (start .args .left))) (omega arith), start .pre .1 .1, at .inv .2, at .inv .3, start .good)
 
--- src/table.rt:30:9
 add-k : tie.Need-add-k Inv-loop μ-loop
 add-k c = search needs
 
--- src/table.rt:39:13
 mul-next-row : tie.Need-mul-next-row Inv-loop μ-loop
 mul-next-row c =
     let start = c .before .before .before .before .before .before .before .before .before in
     let at = c .before .before .before .loop in
     omega (arith, row-within (at .k) (start .args .pieces) (length (now (start .args .left))) (omega arith), start .pre .1 .1, at .inv .2, at .inv .3, start .good)
 
--- src/table.rt:39:13
 sub-next-row : tie.Need-sub-next-row Inv-loop μ-loop
 sub-next-row c = search needs
 
--- src/table.rt:39:13
 part-next-row-start : tie.Need-part-next-row-start Inv-loop μ-loop
 part-next-row-start c = search needs
 
--- src/table.rt:39:13
 part-next-row-end : tie.Need-part-next-row-end Inv-loop μ-loop
 part-next-row-end c =
     let start = c .before .before .before .before .before .before .before .before .before in
     let at = c .before .before .before .loop in
     omega (arith, row-within (at .k) (start .args .pieces) (length (now (start .args .left))) (omega arith), start .pre .1 .1, at .inv .2, at .inv .3, at .inv .6)
 
--- src/table.rt:31:9
 next-row-requires : tie.Need-next-row-requires Inv-loop μ-loop
 next-row-requires c κs =
     let start = c .before .before .before .before .before .before .before .before .before .before in
@@ -71,11 +57,9 @@ next-row-requires c κs =
     let within = row-within (at .k) (start .args .pieces) (length (now (start .args .left))) (omega arith) in
     (filled .laid, (filled .is-row, ((omega arith, omega (arith, start .pre .1 .0)), simp (length-take, length-drop) (omega (arith, within, start .pre .1 .1, at .inv .2, at .inv .3, at .inv .6)))))
 
--- src/table.rt:28:5
 loop-less : tie.Need-loop-less Inv-loop μ-loop
 loop-less c = search needs
 
--- src/table.rt:28:5
 loop-again : tie.Need-loop-again Inv-loop μ-loop
 loop-again c =
     let start = c .before .before .before .before .before .before .before .before .before .before .before .before .before .before .before .before .before in
@@ -85,26 +69,22 @@ loop-again c =
       omega arith,
       omega arith,
       at .inv .2,
-      rw (at .inv .3) (next-start (at .k) (length (now (start .args .left)))),
+      omega (arith, at .inv .3, next-start (at .k) (length (now (start .args .left)))),
       c .before .before .before .before .before .over .given ∙ at .inv .4,
       c .before .before .before .cost .given ∙ at .inv .5,
       c .before .parent .given .1 ∙ at .inv .6,
       rows-more (at .k) (at .start) (at .inv .0) (at .inv .3) (at .inv .7) (c .before .parent .given .0 ∙ simp (length-take, length-drop) (omega (arith, room))) room (c .before .before .before .before .before .before .next-row .ensures),
     )
 
--- src/table.rt:10:1
 same-length : tie.Need-same-length Inv-loop μ-loop
 same-length c = search needs
 
--- src/table.rt:10:1
 same-length-2 : tie.Need-same-length-2 Inv-loop μ-loop
 same-length-2 c = search needs
 
--- src/table.rt:10:1
 same-length-3 : tie.Need-same-length-3 Inv-loop μ-loop
 same-length-3 c = search needs
 
--- src/table.rt:10:1
 returns : tie.Need-returns Inv-loop μ-loop
 returns c = let at = c .before .loop in let e : at .k ≡ c .before .before .before .before .before .before .before .args .pieces = omega (arith, at .inv .1) in rw e at (at .inv .7)
 

@@ -1,43 +1,26 @@
-use denote.Ref.{now}
+-- `row::next_row` links the tree over the row before, whose scores the new row is then written from; the leaves of the tree are the scores.
 use Rattle.rows.specs.RowsLaws.{planted, next-done}
 use borrow.Author.Needs.{needs}
-use native.Mathlib.Omega.{arith}
-use mathlib.Core.Path.{_≡_, refl, sym, ap, subst, _∙_}
-use mathlib.Core.Logic.{⊎-elim}
-use mathlib.Core.List.{List, [], _∷_, _++_}
-use Prim.Native.Nat.{ℕ, zero, suc, _+_, _-_, _*_, _≤_, _<_, min}
-use native.Mathlib.Numerals.{add-one}
-use lib.ListN.{length, getD, take, drop, set, replicate, length-append, length-take, length-drop, length-set, length-replicate}
 use Rattle.rows.proofs.row.next_row.Statement.{statement}
 use Rattle.rows.proofs.row.next_row.Tie as tie
-use Rattle.rows.proofs.row.next_row.Reads as reads
-use Rattle.rows.proofs.row.next_row.Lts as lts
-use Rattle.rows.proofs.row.write_row.Reads as write-row-reads
-use Rattle.search.proofs.tree.link_nodes.Reads as link-nodes-reads
 
--- src/row.rt:81:5
 link-nodes-requires : tie.Need-link-nodes-requires
 link-nodes-requires c κs = search needs
 
--- src/row.rt:82:5
 write-row-requires : tie.Need-write-row-requires
 write-row-requires c κs =
     let start = c .before .before .before .before .before .before .before .before .before .before .before .before .before .before .before in
     (planted (start .pre .0) (start .pre .1 .0) (c .before .before .before .before .before .before .over .given) (c .before .before .before .before .cost .given) (c .before .before .before .before .before .before .before .link-nodes .ensures), (start .pre .1 .1 .0, start .pre .1 .1 .1))
 
--- src/row.rt:65:1
 same-length : tie.Need-same-length
 same-length c = search needs
 
--- src/row.rt:65:1
 same-length-2 : tie.Need-same-length-2
 same-length-2 c = search needs
 
--- src/row.rt:65:1
 same-length-3 : tie.Need-same-length-3
 same-length-3 c = search needs
 
--- src/row.rt:65:1
 returns : tie.Need-returns
 returns c =
     let start = c .before .before .before .before .before .before .before .before .before .before .before .before .before .before .before .before .before .before .before .before .before .before in

@@ -1,58 +1,40 @@
+-- `row::predecessor` searches the candidates from which an allowed piece starts and which one piece fewer reaches: a range, from the later of the two firsts.
 use denote.Ref.{now}
-use Rattle.rows.specs.Rows.{leafScore, behind, FirstWritten, NextWritten}
-use Rattle.rows.specs.RowsLaws.{starts-of, start-below, predecessor-by, tree-size, behind-part, behind-length, first-start, first-more, next-start, next-more, written-ready, written-cuts}
+use Rattle.rows.specs.RowsLaws.{starts-of, start-below, predecessor-by}
 use borrow.Author.Needs.{needs}
 use native.Mathlib.Omega.{arith}
-use mathlib.Core.Path.{_≡_, refl, sym, ap, subst, _∙_}
-use mathlib.Core.Logic.{⊎-elim}
-use mathlib.Core.List.{List, [], _∷_, _++_}
-use Prim.Native.Nat.{ℕ, zero, suc, _+_, _-_, _*_, _≤_, _<_, min}
-use native.Mathlib.Numerals.{add-one}
-use lib.ListN.{length, getD, take, drop, set, replicate, length-append, length-take, length-drop, length-set, length-replicate}
+use Prim.Native.Nat.{_+_, _*_}
+use lib.ListN.{length}
 use Rattle.rows.proofs.row.predecessor.Statement.{statement}
 use Rattle.rows.proofs.row.predecessor.Tie as tie
-use Rattle.rows.proofs.row.predecessor.Reads as reads
-use Rattle.rows.proofs.row.predecessor.Lts as lts
-use Rattle.search.proofs.least.least_predecessor.Reads as least-predecessor-reads
-use Rattle.search.proofs.range.larger.Reads as larger-reads
 
--- src/row.rt:29:22
 mul-first : tie.Need-mul-first
 mul-first c = search needs
 
--- src/row.rt:29:22
 add-first : tie.Need-add-first
 add-first c = search needs
 
--- src/row.rt:29:17
 mul-first-2 : tie.Need-mul-first-2
 mul-first-2 c = search needs
 
--- src/row.rt:29:17
 shared-slice-read-first : tie.Need-shared-slice-read-first
 shared-slice-read-first c = search needs
 
--- src/row.rt:29:17
 cast-first : tie.Need-cast-first
 cast-first c = omega (arith, c .shared-slice-known5 .given (length (now (c .before .before .before .before .before .args .left)) * 4 + c .before .before .before .before .before .args .j))
 
--- src/row.rt:30:37
 sub-larger : tie.Need-sub-larger
 sub-larger c = search needs
 
--- src/row.rt:30:9
 larger-requires : tie.Need-larger-requires
 larger-requires c κs = search needs
 
--- src/row.rt:31:66
 mul-least-predecessor : tie.Need-mul-least-predecessor
 mul-least-predecessor c = search needs
 
--- src/row.rt:31:66
 shared-slice-read-least-predecessor : tie.Need-shared-slice-read-least-predecessor
 shared-slice-read-least-predecessor c = search needs
 
--- src/row.rt:31:5
 least-predecessor-requires : tie.Need-least-predecessor-requires
 least-predecessor-requires c κs =
     let start = c .before .before .before .before .before .before .before in
@@ -63,7 +45,6 @@ least-predecessor-requires c κs =
       (ready .covers, (omega (arith, c .before .larger .ensures, e, below), omega (arith, ready .laid .tree .enough, ready .inside))),
     )
 
--- src/row.rt:16:1
 returns : tie.Need-returns
 returns c =
     let start = c .before .before .before .before .before .before .before .before in
