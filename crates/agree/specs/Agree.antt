@@ -2,16 +2,16 @@
 -- and the candidates before the first start may not.
 use mathlib.Core.Path.{_≡_, refl, sym, ap, _∙_}
 use mathlib.Core.Logic.{inl, inr}
-use mathlib.Core.Bool.{Bool, true, false, not, cond, _||_}
+use mathlib.Core.Bool.{Bool, true, false, not, _||_}
 use mathlib.Core.List.{List}
 use Prim.Native.Nat.{ℕ, zero, suc, _+_, _-_, _≤_, _<_}
 use native.Mathlib.Nat.{le-refl, not-le-of-lt}
 use native.Mathlib.Omega.{arith}
-use lib.Dec.{T, not-T, ltb, eqb, eqb→eq}
-use lib.Ieee.{Float, nan}
+use lib.Dec.{T, not-T, eqb, eqb→eq}
+use lib.Ieee.{Float}
 use lib.ListN.{length, getD}
 use Rattle.laws.specs.Tests.{or-l, or-split}
-use Rattle.pieces.specs.Pieces.{pieceLength, isWithin, withPiece, withCutAt, arrival, scoreAt, atMost}
+use Rattle.pieces.specs.Pieces.{pieceLength, isWithin, withPiece, withCutAt, arrival, atMost}
 use Rattle.pieces.specs.Domain.{Candidates}
 use Rattle.pieces.specs.declared.lengths.Lengths.{Lengths}
 use Rattle.pieces.specs.declared.score.Score.{Score}

@@ -1,4 +1,5 @@
 // What C and Rust programs call. No function asks anything of its caller but what its types say.
+pub mod best_path;
 pub mod convert;
 pub mod recording;
 pub mod silence_list;
