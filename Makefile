@@ -13,7 +13,7 @@ SEED ?= 1
 SUBJECTS ?= all
 LARGE ?=
 PARTS ?= all
-FEATURES ?= silences
+FEATURES ?= silences,path
 PART ?= grid
 COUNT ?= 1024
 ifeq ($(PART),grid)

@@ -28,7 +28,7 @@ unsafe extern "C" {
         parent_len: usize,
         path: *mut u32,
         path_len: usize,
-        length: *mut u32,
+        length: *mut u64,
         over: *mut u32,
         score_cost: *mut f64,
     ) -> u32;
@@ -44,9 +44,10 @@ pub struct Answer<'a> {
 /// Document 01's refusal, or 0 with the answer in its places.
 pub fn path(job: &Job, work: Work<'_>, parent: &mut [u32], answer: Answer<'_>) -> u32 {
     let p = &job.preferences;
+    let mut length = u64::from(*answer.length);
     // SAFETY: each pointer comes with the length of its own list, no two lists overlap, and all
     // outlive the call.
-    unsafe {
+    let number = unsafe {
         buchawzer_path(
             job.left.as_ptr(),
             job.left.len(),
@@ -71,9 +72,11 @@ pub fn path(job: &Job, work: Work<'_>, parent: &mut [u32], answer: Answer<'_>) -
             parent.len(),
             answer.path.as_mut_ptr(),
             answer.path.len(),
-            answer.length,
+            &mut length,
             &mut answer.score.over,
             &mut answer.score.cost,
         )
-    }
+    };
+    *answer.length = u32::try_from(length).expect("a path has at most 1,048,577 candidates");
+    number
 }
