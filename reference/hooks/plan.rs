@@ -1,13 +1,12 @@
 
 // ---- Added for the comparison; everything above is the published source. ----
 
-/// What [`plan`] has found when it comes to completion: its first steps, in its order.
-#[must_use]
-pub fn hook_found(
-    analysis: &Analysis,
+/// The first steps of [`plan`], in its order: its context and where its grid candidates go.
+fn hook_context<'a>(
+    analysis: &'a Analysis,
     segment: &SegmentConfig,
-    config: &PlanConfig,
-) -> crate::candidates::Found {
+    config: &'a PlanConfig,
+) -> (Context<'a>, Grid) {
     let max = analysis.samples_floor(config.max);
     let block_time = (config.max.saturating_sub(config.min) / 2)
         .max(config.max / 8)
@@ -19,9 +18,33 @@ pub fn hook_found(
         block,
         edge_limit: Some(max.saturating_sub(2 * block_samples)),
     };
-    Context::new(analysis, segment, &config.weights, padding_cap).hook_found(
-        config.gap,
-        config.placement,
-        &grid,
-    )
+    let context = Context::new(analysis, segment, &config.weights, padding_cap);
+    (context, grid)
+}
+
+/// What [`plan`] has found when it comes to completion.
+#[must_use]
+pub fn hook_found(
+    analysis: &Analysis,
+    segment: &SegmentConfig,
+    config: &PlanConfig,
+) -> crate::candidates::Found {
+    let (context, grid) = hook_context(analysis, segment, config);
+    context.hook_found(config.gap, config.placement, &grid)
+}
+
+/// How many candidates [`plan`] has when it comes to completion, for their time alone: they are
+/// made as it makes them, and nothing is copied.
+#[must_use]
+#[inline(never)]
+pub fn hook_candidates(
+    analysis: &Analysis,
+    segment: &SegmentConfig,
+    config: &PlanConfig,
+) -> usize {
+    let (context, grid) = hook_context(analysis, segment, config);
+    let nodes = context.ends(config.gap).map(|(first, last)| {
+        context.candidates(config.gap, config.placement, &grid, first, last)
+    });
+    core::hint::black_box(nodes).map_or(0, |nodes| nodes.len())
 }

@@ -3,9 +3,15 @@
 //! A case asks one question of the port and the same of the Rust, each through a call; the printed
 //! times are of the whole case.
 
+#[cfg(feature = "candidates")]
+mod candidates;
+#[cfg(feature = "silences")]
+mod cleared;
 mod grid;
 #[cfg(feature = "path")]
 mod path;
+#[cfg(feature = "silences")]
+mod recordings;
 #[cfg(feature = "silences")]
 mod silences;
 mod validate;
@@ -25,6 +31,8 @@ const PARTS: &[Part] = &[
     ("validate", validate::run),
     #[cfg(feature = "silences")]
     ("silences", silences::run),
+    #[cfg(feature = "candidates")]
+    ("candidates", candidates::run),
     #[cfg(feature = "path")]
     ("path", path::run),
 ];

@@ -2,6 +2,8 @@
 
 #[cfg(any(feature = "silences", feature = "path"))]
 mod aims;
+#[cfg(feature = "candidates")]
+mod candidates;
 mod grid;
 #[cfg(any(feature = "silences", feature = "path"))]
 mod lists;
@@ -76,6 +78,8 @@ fn subjects() -> Vec<Subject> {
     let mut all: Vec<Subject> = grid::subjects().chain(validate::subjects()).collect();
     #[cfg(feature = "silences")]
     all.extend(silences::subjects());
+    #[cfg(feature = "candidates")]
+    all.extend(candidates::subjects());
     #[cfg(feature = "path")]
     all.extend(path::subjects());
     all

@@ -10,11 +10,14 @@ mod ours;
 // The stored sample alone needs less of it.
 #[cfg_attr(not(feature = "path"), allow(dead_code))]
 mod path_job;
+#[cfg(feature = "candidates")]
+mod plan_job;
 mod recording;
 mod rng;
 mod sample;
 mod silence_job;
 mod tally;
+mod weight;
 
 use std::process::ExitCode;
 

@@ -1,5 +1,7 @@
 //! The port's C functions. Those that take numbers alone are safe as they stand.
 
+#[cfg(feature = "candidates")]
+pub mod candidates;
 #[cfg(feature = "path")]
 pub mod path;
 #[cfg(feature = "silences")]

@@ -74,7 +74,12 @@ impl Job {
         } else {
             Recording::usual(rng, frames)
         };
-        let mut case = Case::silent_scores(&grid);
+        Self::on(rng, &grid)
+    }
+
+    /// The same on this grid.
+    pub fn on(rng: &mut Rng, grid: &Recording) -> Self {
+        let mut case = Case::silent_scores(grid);
         case.decibels = rng.one_in(2);
         values::fill(&mut case, rng);
         let (kind, few) = (rng.below(3) as u8, rng.one_in(2));
@@ -131,6 +136,11 @@ fn duration(rng: &mut Rng, case: &Case, few: bool) -> u64 {
         14 => return rng.magnitude(MOST_NANOS),
         _ => return rng.choose(&[0, 1, MOST_NANOS - 1, MOST_NANOS]),
     };
+    around(rng, case, whole)
+}
+
+/// A duration within half a frame of `whole` frames, within a nanosecond of a half or a whole one.
+pub fn around(rng: &mut Rng, case: &Case, whole: u64) -> u64 {
     let halves = (2 * whole + rng.below(3)).saturating_sub(1);
     let nanos = u128::from(halves) * u128::from(case.hop) * 500_000_000;
     let nanos = (nanos / u128::from(case.frame_rate)).min(MOST_NANOS.into());

@@ -1,6 +1,8 @@
 //! Lists as a caller may lend them: full of what earlier work left there, which a call must clear
 //! or leave alone, entry by entry.
 
+use std::fmt::Debug;
+
 use crate::ours;
 use crate::rng::Rng;
 
@@ -8,7 +10,7 @@ use crate::rng::Rng;
 const BEHIND: usize = 8;
 
 /// Entries that are compared by their bits, as one word.
-pub trait Entry: Copy {
+pub trait Entry: Copy + Debug {
     fn of(word: u64) -> Self;
     fn word(self) -> u64;
 }

@@ -1,6 +1,6 @@
 //! The silences: the same list as the Rust's, and every lent list as document 01 leaves it.
 
-mod refusals;
+pub(super) mod refusals;
 
 use super::lists::{List, Work, enough};
 use super::{Amount, Subject};
@@ -11,7 +11,7 @@ use crate::silence_job::Job;
 use crate::tally::Tally;
 
 /// Entries of each work list for a frame, and for one frame more.
-const WORK: usize = 16;
+pub(super) const WORK: usize = 16;
 
 pub fn subjects() -> [Subject; 3] {
     [
@@ -52,12 +52,17 @@ fn small(rng: &mut Rng) -> Job {
         _ => rng.below(48),
     };
     let mut job = Job::random(rng, frames);
+    vary(&mut job, rng);
+    job
+}
+
+/// Changes what no answer depends on.
+pub(super) fn vary(job: &mut Job, rng: &mut Rng) {
     job.case.channels = rng.choose(&[1, 2, u16::MAX]);
     // An automatic threshold has no number, so none is refused.
     if job.settings.kind == 0 && rng.one_in(2) {
         job.settings.threshold = rng.choose(&[f32::NAN, f32::INFINITY, f32::NEG_INFINITY]);
     }
-    job
 }
 
 /// Asks a job that stands, with work lists that are long enough and sometimes too short an output.
@@ -87,19 +92,19 @@ fn take(tally: &mut Tally, job: &Job, sizes: &Sizes, fault: Option<String>) {
 
 /// Entries of the lent lists.
 #[derive(Debug)]
-struct Sizes {
-    work: [usize; 3],
-    out: usize,
+pub(super) struct Sizes {
+    pub work: [usize; 3],
+    pub out: usize,
 }
 
 /// The lent lists, kept from call to call.
-struct Caller {
-    work: Work,
+pub(super) struct Caller {
+    pub work: Work,
     out: List<u32>,
 }
 
 impl Caller {
-    fn new() -> Self {
+    pub fn new() -> Self {
         Self {
             work: Work::new(),
             out: List::new(),
@@ -107,7 +112,7 @@ impl Caller {
     }
 
     /// Calls the port; what it did otherwise than document 01, if anything.
-    fn ask(
+    pub fn ask(
         &mut self,
         job: &Job,
         sizes: &Sizes,

@@ -3,20 +3,8 @@
 use super::Job;
 use crate::domain::{LEAST_TARGET, MOST_COUNT, MOST_SAMPLES, MOST_TARGET};
 use crate::rng::Rng;
+use crate::weight::{EVEN, EXTREME, part, weight};
 use silence_split::dp::Preferences;
-
-/// Weights and costs that add up exactly, so that ties come often.
-const EVEN: [f64; 5] = [0.0, 0.25, 0.5, 1.0, 4.0];
-/// Those at the ends of what is accepted, and those whose sums and products overflow.
-const EXTREME: [f64; 7] = [
-    0.0,
-    -0.0,
-    f64::from_bits(1),
-    f64::MIN_POSITIVE,
-    1e300,
-    f64::MAX / 2.0,
-    f64::MAX,
-];
 
 impl Job {
     /// An accepted job over so many candidates, at least one.
@@ -178,16 +166,4 @@ fn cost(rng: &mut Rng) -> f64 {
         1 => part(rng),
         _ => rng.choose(&EVEN),
     }
-}
-
-fn weight(rng: &mut Rng) -> f64 {
-    match rng.below(8) {
-        0 => rng.choose(&EXTREME),
-        1 | 2 => 10.0 * part(rng),
-        _ => rng.choose(&EVEN),
-    }
-}
-
-fn part(rng: &mut Rng) -> f64 {
-    rng.below(1 << 53) as f64 / (1u64 << 53) as f64
 }

@@ -35,7 +35,10 @@ pub fn refusals(amount: Amount, rng: &mut Rng, tally: &mut Tally) {
         } else {
             Vec::new()
         };
-        let sizes = sizes(rng, &job, silences.len(), &aims);
+        let sizes = Sizes {
+            work: work(rng, job.case.values.len(), &aims),
+            out: out(rng, silences.len(), &aims),
+        };
         let refusal = if refusal == 0 {
             by_lists(&job, &sizes, silences.len())
         } else {
@@ -47,7 +50,7 @@ pub fn refusals(amount: Amount, rng: &mut Rng, tally: &mut Tally) {
 }
 
 /// Brings a number of `job` to the limit of this refusal; the lent lists have their own sizes.
-fn change(job: &mut Job, rng: &mut Rng, number: u32) {
+pub fn change(job: &mut Job, rng: &mut Rng, number: u32) {
     match number {
         1..=6 => changes::apply(&mut job.case, rng, &[number.into()]),
         7 => {
@@ -71,7 +74,7 @@ fn change(job: &mut Job, rng: &mut Rng, number: u32) {
 }
 
 /// The first refusal for what the recording and the settings are, or 0.
-fn before_lists(job: &Job) -> u32 {
+pub fn before_lists(job: &Job) -> u32 {
     let s = &job.settings;
     let durations = [s.min_silence, s.min_sound, s.pre, s.tail];
     match expected::expected(&job.case) {
@@ -92,8 +95,8 @@ fn by_lists(job: &Job, sizes: &Sizes, answer: usize) -> u32 {
     }
 }
 
-fn sizes(rng: &mut Rng, job: &Job, answer: usize, aims: &[u32]) -> Sizes {
-    let frames = job.case.values.len();
+/// Entries of the work lists for so many frames.
+pub fn work(rng: &mut Rng, frames: usize, aims: &[u32]) -> [usize; 3] {
     // Large work lists are the large silences' matter; here they are then too short.
     let least = WORK * (frames.min(4_000) + 1);
     let mut work = enough(rng, least);
@@ -101,9 +104,13 @@ fn sizes(rng: &mut Rng, job: &Job, answer: usize, aims: &[u32]) -> Sizes {
         let short = rng.near(&[least as u64], u64::MAX) as usize;
         work[rng.below(3) as usize] = if rng.one_in(8) { 0 } else { short };
     }
-    let mut out = answer + rng.below(8) as usize;
+    work
+}
+
+/// Entries of an output whose answer has so many.
+pub fn out(rng: &mut Rng, answer: usize, aims: &[u32]) -> usize {
     if aims.contains(&12) {
-        out = rng.near(&[answer as u64, answer as u64, 0], u64::MAX) as usize;
+        return rng.near(&[answer as u64, answer as u64, 0], u64::MAX) as usize;
     }
-    Sizes { work, out }
+    answer + rng.below(8) as usize
 }
