@@ -61,6 +61,22 @@ module _ (test : ℕ → Bool) (score : ℕ → Score) where
           least-past from j (omega arith) (fails from (le-refl from) (omega arith))
           ∙ go d (suc from) (omega arith) (λ k a b. fails k (omega arith) b)
 
+  -- any number of candidates in front that are worse than what was found
+  pub least-worse : (from i j : ℕ) (s : Score) (b : ℕ) → from ≤ i → i ≤ j → At s b ≡ lowestLeast test score i (j - i)
+      → ((k : ℕ) → from ≤ k → k < i → T (not (atMost (score k) s))) → At s b ≡ lowestLeast test score from (j - from)
+  least-worse from i j s b h g found worse = go (i - from) from (omega arith) worse
+    where
+      go : (d from : ℕ) → from + d ≡ i → ((k : ℕ) → from ≤ k → k < i → T (not (atMost (score k) s))) → At s b ≡ lowestLeast test score from (j - from)
+      go zero from e worse = let q : from ≡ i = omega arith in rw q found
+      go (suc d) from e worse =
+          let after = go d (suc from) (omega arith) (λ k a l. worse k (omega arith) l) in
+          elim (passes (test from)) [
+            | inl t ↦
+                sym (least-front from j (omega arith) t ∙ rw (← after)
+                (pick-no (atMost (score from) s) (At (score from) from) (At s b) (worse from (le-refl from) (omega arith))))
+            | inr t ↦ after ∙ sym (least-past from j (omega arith) t)
+          ]
+
 -- nothing is found only where none passes
 never : (f : Found) (s : Score) (i : ℕ) → orBetter s i f ≡ Nothing → ⊥
 never Nothing s i e = let z : _≡_ {A = ℕ} 0 1 = cc in omega arith

@@ -2,7 +2,7 @@
 -- Least: the lowest candidate whose score is least
 --   foundScore, foundIndex, orBetter, lowestLeast, LowestLeast
 pub mod Least
---   least-none, least-front, least-past, least-skip   from a range to a longer one; least-nothing   nothing is found only where none passes
+--   least-none, least-front, least-past, least-skip, least-worse   from a range to a longer one; least-nothing   nothing is found only where none passes
 --   Walking, walking-start, walking-next, walking-stop, walking-done   a loop that walks back
 --   least-same            it looks at nothing outside its range
 --   Answers, least-answers   it is the lowest and the least
@@ -21,8 +21,15 @@ pub mod PathsLaws
 --   wayBack, wayTo, Falling, bestPath
 pub mod Table
 --   within-yes, within-is, within-none   pieces within the limit; start-next   the candidate just before
---   predecessor-within, predecessor-nearest, predecessor-found, predecessor-fallback, predecessor-nothing, predecessor-same
+--   predecessor-within, predecessor-nearest, predecessor-nothing, predecessor-same
 pub mod PredecessorLaws
+-- Backward: the walk back over the predecessors of one candidate
+--   heldOf, Costed, Walked, Long, isBeyond
+pub mod Backward
+--   cost-at-most, score-number   costs that are no NaN
+--   walked-first, walked-next, walked-stop, walked-done, walked-beyond, walked-from   the best of those passed
+--   long-over, long-met, long-none, long-part   the pieces below the minimum are passed
+pub mod BackwardLaws
 --   best-first, best-next   each best score by those before it
 --   least-settled         what is found where some candidate passes
 --   best-nonneg, best-step, best-least, best-few, parent-chosen, parent-below   in the domain
@@ -51,7 +58,7 @@ pub mod CountTheorems
 --   cutsIn, parentsIn, Room, Ready, Filled, parentAt, Parents, Solution
 pub mod Solved
 --   second-part           the parents, or the costs of the cuts, as a part that is lent
---   ready-scored, ready-found, ready-score, ready-parent, ready-below   one candidate
+--   ready-scored, ready-costed, ready-found, ready-score, ready-parent, ready-below   one candidate
 --   filled-ready, filled-next, room-first, filled-first, filled-over   one after another
 --   filled-score, filled-parents, filled-path, filled-few   the whole table
 pub mod SolvedLaws

@@ -1,5 +1,5 @@
 -- Laws of the best predecessor: walking back within the limit finds it, or else it is the candidate just before.
-use mathlib.Core.Path.{_≡_, refl, sym, ap, subst, _∙_}
+use mathlib.Core.Path.{_≡_, refl, ap, subst, _∙_}
 use mathlib.Core.Logic.{inl, inr}
 use mathlib.Core.Bool.{not}
 use mathlib.Core.List.{List}
@@ -11,13 +11,13 @@ use lib.ListN.{length}
 use Rattle.pieces.specs.Pieces.{pieceLength, withPiece, isWithin, arrival}
 use Rattle.pieces.specs.Domain.{Candidates}
 use Rattle.pieces.specs.DomainLaws.{piece-longer}
-use Rattle.laws.specs.Tests.{same-test, or-l, or-r, or-split, lt-or-le}
+use Rattle.laws.specs.Tests.{same-test, or-l, or-r, or-split}
 use Rattle.pieces.specs.declared.lengths.Lengths.{Lengths}
 use Rattle.pieces.specs.declared.score.Score.{Score}
 use Rattle.path.specs.declared.predecessor.Found.{Found}
 use Rattle.path.specs.declared.predecessor.Found.the-variants.{At, Nothing}
 use Rattle.path.specs.Least.{lowestLeast}
-use Rattle.path.specs.LeastLaws.{least-none, least-front, least-skip, least-same, least-nothing}
+use Rattle.path.specs.LeastLaws.{least-none, least-front, least-skip, least-same}
 use Rattle.path.specs.Paths.{mayStart}
 use Rattle.path.specs.Table.{predecessorOf}
 
@@ -83,33 +83,6 @@ module _ (l : Lengths) (left right : List ℕ) (own : ℕ → Score) (from j : �
       ]))
       ∙ least-front test score (j - 1) j (omega arith) (start-next (l .limit) left right j (j - 1) s)
       ∙ rw (s, ← least-none test score j)
-
-  -- and nothing is found within the limit then
-  within-nothing : l .limit < pieceLength left right (j - 1) j → found-within ≡ Nothing
-  unfolding lowestLeast
-  within-nothing g = elim (lt-or-le from j) [
-    | inl h ↦ least-skip (isWithin (l .limit) left right j) (arrival l left right own j) from j j (omega arith) (omega arith)
-        (λ k a b. within-none (l .limit) left right j (j - 1) ok (omega arith) g k (omega arith))
-        ∙ sym (least-none (isWithin (l .limit) left right j) (arrival l left right own j) j)
-    | inr h ↦ let z : j - from ≡ 0 = omega arith in rw z
-  ]
-
-  -- what is found within the limit is the best predecessor
-  pub predecessor-found : (s : Score) (i : ℕ) → At s i ≡ found-within → At s i ≡ predecessorOf l left right own from j
-  predecessor-found s i e = elim (lt-or-le (l .limit) (pieceLength left right (j - 1) j)) [
-    | inl g ↦ let n = within-nothing g in let z : _≡_ {A = ℕ} 0 1 = cc in absurd (omega arith)
-    | inr h ↦ e ∙ sym (predecessor-within h)
-  ]
-
-  -- where nothing is found within the limit, it is the candidate just before j
-  pub predecessor-fallback : from < j → Nothing ≡ found-within → At (arrival l left right own j (j - 1)) (j - 1) ≡ predecessorOf l left right own from j
-  predecessor-fallback h e = elim (lt-or-le (l .limit) (pieceLength left right (j - 1) j)) [
-    | inl g ↦ sym (predecessor-nearest h g)
-    | inr g ↦ absurd
-        (T-not (isWithin (l .limit) left right j (j - 1))
-        (least-nothing (isWithin (l .limit) left right j) (arrival l left right own j) from j (sym e) (j - 1) (omega arith) (omega arith))
-        (within-yes (l .limit) left right j (j - 1) g))
-  ]
 
   -- where there is no candidate, nothing is
   pub predecessor-nothing : j ≤ from → Nothing ≡ predecessorOf l left right own from j

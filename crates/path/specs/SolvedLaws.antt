@@ -18,9 +18,10 @@ use Rattle.path.specs.Least.{foundScore, foundIndex, lowestLeast}
 use Rattle.path.specs.LeastLaws.{least-nothing}
 use Rattle.path.specs.Paths.{mayStart, lastOf}
 use Rattle.path.specs.Table.{Scored, predecessorOf, bestScore, bestOver, bestCost, parentOf, wayTo, bestPath}
+use Rattle.path.specs.Backward.{Costed}
 use Rattle.path.specs.WayLaws.{way-few, way-same}
 use Rattle.path.specs.PredecessorLaws.{start-next, predecessor-same}
-use Rattle.path.specs.TableLaws.{best-first, best-next, best-few, parent-below}
+use Rattle.path.specs.TableLaws.{best-first, best-next, best-nonneg, best-few, parent-below}
 use Rattle.path.specs.Solved.{cutsIn, parentsIn, Room, Ready, Filled, parentAt, Parents}
 
 -- the part of a list from n to n + n, as it is lent
@@ -41,6 +42,13 @@ module _ {l : Lengths} {left right over : List ℕ} {cost : List Float} {j : ℕ
     overs = omega (arith, ok .inside, ok .room .overs);
     costs = omega (arith, ok .inside, ok .room .costs);
     few = λ k h. let e = ap (λ (s : Score). s .over) (ok .scores k h) in rw e (best-few (ok .room .lent) k (omega (arith, ok .inside)));
+  }
+
+  -- whose costs are no NaN
+  pub ready-costed : Costed l cost j
+  ready-costed = record {
+    preferred = ok .room .lent .preferred;
+    cost-nonneg = λ k h. let e = ap (λ (s : Score). s .cost) (ok .scores k h) in rw e (best-nonneg (ok .room .lent) k (omega (arith, ok .inside)));
   }
 
   -- it searches the best scores

@@ -2,5 +2,6 @@
 // Contracts cite specs/Table.antt and specs/Solved.antt; specs/Paths.antt says what a path, its score and the tie rule are, and specs/Theorems.antt
 // that the path found is the best.
 pub mod backtrack;
+pub mod backward;
 pub mod predecessor;
 pub mod solve;

@@ -1,26 +1,40 @@
 -- What the domain gives: ends and lengths are in order and within bounds, scores compare as a total preorder, and one more piece or cut keeps their order.
-use mathlib.Core.Path.{_≡_, ap}
+-- Past the minimum and the target the length cost rises: it is then the bound of all longer lengths.
+use mathlib.Core.Path.{_≡_, ap, subst}
 use mathlib.Core.Logic.{_⊎_, inl, inr}
 use mathlib.Core.Bool.{Bool, true, false, not, cond}
 use mathlib.Core.List.{List}
 use Prim.Native.Nat.{ℕ, zero, suc, _≤_, _<_}
 use native.Mathlib.Nat.{le-trans, le-of-eq, le-of-suc-le-suc}
 use native.Mathlib.Omega.{arith}
+use borrow.Author.Tests.{lt-ltb, le-ltb, eq-eqb}
 use lib.Dec.{T, lit≤, ltb}
-use lib.Ieee.{Float, nan, binary64}
+use lib.IntN.{pos}
+use lib.Ieee.{Float, nan, binary64, le, lt, ofInt}
 use lib.ListN.{length, getD}
-use Rattle.laws.specs.Tests.{lt-or-le}
-use Rattle.laws.specs.Nonneg.{nonneg, nonneg-number}
+use Rattle.laws.specs.Tests.{same-test, holds, lt-or-le}
+use Rattle.laws.specs.Order.{float-le-refl, float-le-lt-trans}
+use Rattle.laws.specs.Whole.{whole-mono}
+use Rattle.laws.specs.Nonneg.{nought, nonneg, nought-nonneg, nonneg-number}
+use Rattle.laws.specs.Clamp.{clamp-below}
 use Rattle.laws.specs.Sums.{float-add-nonneg}
-use Rattle.laws.specs.Lengths.{length-whole, length-cost-nonneg}
-use Rattle.laws.specs.Scores.{score-refl, score-total, score-trans, score-lt-is, score-lt-le, score-piece, score-cut}
+use Rattle.laws.specs.Lengths.{lengthCost, lengthBound, length-whole, length-cost-nonneg, length-bound-least}
+use Rattle.laws.specs.Scores.{scoreLe, score-bound, score-refl, score-total, score-trans, score-lt-is, score-lt-le, score-piece, score-cut}
 use Rattle.pieces.specs.Limits.{maxEnd}
-use Rattle.pieces.specs.Pieces.{pieceLength, lengthCostOf, overOf, withPiece, withCut, withCutAt, atMost, lessThan}
+use Rattle.pieces.specs.Pieces.{noScore, pieceLength, lengthCostOf, isShort, passesTarget, overOf, withPiece, withCut, withCutAt, atMost, lessThan}
+use Rattle.pieces.specs.PiecesLaws.{over-mono}
 use Rattle.pieces.specs.Domain.{Candidates, Costs, Preferred}
 use Rattle.pieces.specs.declared.lengths.Lengths.{Lengths}
 use Rattle.pieces.specs.declared.score.Score.{Score}
 
 -- ---- ends and lengths
+
+-- a length that is not below the minimum is followed by no longer one that is
+long-stays : (l : Lengths) (len more : ℕ) → len ≤ more → isShort l len ≡ false → isShort l more ≡ false
+long-stays l len more h e =
+    let x = ofInt binary64 (pos len) in
+    let y = ofInt binary64 (pos more) in
+    same-test (lt y (l .min)) false (λ t. subst T e (float-le-lt-trans x y (l .min) (whole-mono binary64 len more h) t)) (λ t. absurd t)
 
 module _ {left right : List ℕ} (ok : Candidates left right) where
   -- right ends are in order
@@ -49,6 +63,11 @@ module _ {left right : List ℕ} (ok : Candidates left right) where
   pub piece-longer : (i k j : ℕ) → i ≤ k → k < length left → pieceLength left right k j ≤ pieceLength left right i j
   unfolding pieceLength
   piece-longer i k j h l = omega (arith, rights-rise i k h l)
+
+  -- so where a piece is not below the minimum, none from further back is
+  pub piece-long : (l : Lengths) (i k j : ℕ) → i ≤ k → k < length left → isShort l (pieceLength left right k j) ≡ false
+      → isShort l (pieceLength left right i j) ≡ false
+  piece-long l i k j h g e = long-stays l (pieceLength left right k j) (pieceLength left right i j) (piece-longer i k j h g) e
 
 -- ---- scores in order: a score whose cost is not negative is a number's
 
@@ -92,6 +111,38 @@ module _ {l : Lengths} (ok : Preferred l) where
   unfolding withPiece
   piece-keeps s t len h p k =
       score-piece binary64 (s .over) (s .cost) (t .over) (t .cost) (overOf (l .limit) len) (lengthCostOf l len) p (length-nonneg len h) k
+
+  -- past the minimum and the target, a longer piece costs no less
+  pub length-rises : (len more : ℕ) → len ≤ more → more ≤ maxEnd → isShort l len ≡ false → passesTarget l len ≡ true
+      → T (le (lengthCostOf l len) (lengthCostOf l more))
+  unfolding lengthCostOf
+  length-rises len more h g e p =
+      let x = ofInt binary64 (pos len) in
+      let y = ofInt binary64 (pos more) in
+      let r : T (le x y) = whole-mono binary64 len more h in
+      let y-ok = length-whole binary64 more (le-trans g (lit≤ tt)) in
+      subst (λ (z : Float). T (le z (lengthCost binary64 (l .«target_weight») (l .«short_weight») (l .min) (l .target) y)))
+      (bound-is x y r e (long-stays l len more h e) p)
+      (length-bound-least (ok .preferences) x y y-ok r (float-le-refl y (nonneg-number y (y-ok .length-nonneg))))
+    where
+      bound-is : (x y : Float) → T (le x y) → lt x (l .min) ≡ false → lt y (l .min) ≡ false → lt (l .target) x ≡ true
+          → lengthBound binary64 (l .«target_weight») (l .«short_weight») (l .min) (l .target) x y
+          ≡ lengthCost binary64 (l .«target_weight») (l .«short_weight») (l .min) (l .target) x
+      bound-is x y r e e' p = unfold lengthBound lengthCost in rw (clamp-below (l .target) x y (holds p) r, e, e')
+
+  -- so the piece alone is at most any score with a longer one
+  pub piece-alone : (s : Score) (len more : ℕ) → T (nonneg (s .cost)) → len ≤ more → more ≤ maxEnd → isShort l len ≡ false → passesTarget l len ≡ true
+      → T (atMost (withPiece l noScore len) (withPiece l s more))
+  unfolding withPiece
+  piece-alone s len more q h g e p =
+      score-bound binary64 0 nought (s .over) (s .cost) (overOf (l .limit) len) (overOf (l .limit) more) (lengthCostOf l len) (lengthCostOf l more)
+      nought-nonneg (length-nonneg len (le-trans h g)) (over-mono (l .limit) len more h) (length-rises len more h g e p) none-least
+    where
+      none-least : T (scoreLe 0 nought (s .over) (s .cost))
+      none-least = elim (lt-or-le 0 (s .over)) [
+        | inl k ↦ rw (lt-ltb 0 (s .over) k) tt
+        | inr k ↦ let z : 0 ≡ s .over = omega arith in rw (le-ltb 0 (s .over) k, eq-eqb 0 (s .over) z) q
+      ]
 
 -- ---- one more cut
 

@@ -5,7 +5,7 @@ use mathlib.Core.Bool.{Bool, cond}
 use mathlib.Core.List.{List}
 use lib.Dec.{leb, ltb}
 use lib.IntN.{pos}
-use lib.Ieee.{Float, nan, binary64, add, ofInt}
+use lib.Ieee.{Float, nan, binary64, add, lt, ofInt}
 use lib.ListN.{length, getD}
 use Rattle.laws.specs.Nonneg.{nought}
 use Rattle.laws.specs.Lengths.{lengthCost}
@@ -22,6 +22,14 @@ pieceLength left right i j = getD left j 0 - getD right i 0
 -- document 01's "length cost": what a piece of this length costs
 unfoldable pub lengthCostOf : Lengths → ℕ → Float
 lengthCostOf l len = lengthCost binary64 (l .«target_weight») (l .«short_weight») (l .min) (l .target) (ofInt binary64 (pos len))
+
+-- document 01's "minimum" in the length cost: a piece of this length is below it
+abbrev pub isShort : Lengths → ℕ → Bool
+isShort l len = lt (ofInt binary64 (pos len)) (l .min)
+
+-- document 01's "target" in the length cost: a piece of this length is longer
+abbrev pub passesTarget : Lengths → ℕ → Bool
+passesTarget l len = lt (l .target) (ofInt binary64 (pos len))
 
 -- document 01's "over the limit": 1 for a piece that is longer than the limit, else 0
 unfoldable pub overOf : ℕ → ℕ → ℕ

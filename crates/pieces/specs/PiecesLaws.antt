@@ -5,9 +5,11 @@ use mathlib.Core.List.{List}
 use Prim.Native.Nat.{ℕ, suc, _≤_, _<_}
 use native.Mathlib.Omega.{arith}
 use borrow.Author.Tests.{lt-ltb, le-ltb}
+use mathlib.Core.Logic.{inl, inr}
 use lib.Dec.{ltb}
 use lib.Ieee.{Float, nan}
 use lib.ListN.{length, getD}
+use Rattle.laws.specs.Tests.{lt-or-le}
 use Rattle.pieces.specs.Pieces.{overOf, withCut, withCutAt}
 use Rattle.pieces.specs.declared.score.Score.{Score}
 
@@ -29,6 +31,13 @@ over-one limit len = go (ltb limit len)
     go : (b : Bool) → cond b 1 0 ≤ 1
     go true = omega arith
     go false = omega arith
+
+-- and no less for a longer piece
+pub over-mono : (limit len more : ℕ) → len ≤ more → overOf limit len ≤ overOf limit more
+over-mono limit len more h = elim (lt-or-le limit len) [
+  | inl l ↦ rw (over-longer limit len l, over-longer limit more (omega arith)) (omega arith)
+  | inr g ↦ rw (over-within limit len g) (omega arith)
+]
 
 -- ---- the cut at a candidate
 

@@ -2,10 +2,11 @@
 use crate::lengths;
 use crate::lengths::Lengths;
 ghost use mathlib.Core.Path.{_≡_};
+ghost use mathlib.Core.Bool.{false};
 ghost use Prim.Native.Nat.{_≤_, _<_};
 ghost use lib.ListN.{length};
 ghost use Rattle.pieces.specs.Limits.{maxEnd, maxIndex};
-ghost use Rattle.pieces.specs.Pieces.{withPiece, withCut, withCutAt, lessThan, atMost, equalTo};
+ghost use Rattle.pieces.specs.Pieces.{isShort, withPiece, withCut, withCutAt, lessThan, atMost, equalTo};
 
 pub struct Score {
     pub over: u32,
@@ -22,6 +23,20 @@ pub fn piece_score(prior: Score, lengths: Lengths, len: u64) -> Score
     Score {
         over: prior.over + lengths::is_over(len, limit),
         cost: prior.cost + lengths::length_cost(lengths, len),
+    }
+}
+
+// The same for a piece that is not below the minimum.
+pub fn long_score(prior: Score, lengths: Lengths, len: u64) -> Score
+    requires { ⌜ prior .over ≤ maxIndex ⌝ }
+    requires { ⌜ len ≤ maxEnd ⌝ }
+    requires { ⌜ isShort lengths len ≡ false ⌝ }
+    ensures { λ r. ⌜ r ≡ withPiece lengths prior len ⌝ }
+{
+    let limit = lengths.limit;
+    Score {
+        over: prior.over + lengths::is_over(len, limit),
+        cost: prior.cost + lengths::long_cost(lengths, len),
     }
 }
 

@@ -54,11 +54,6 @@ module _ {leaves to : ℕ} {over : List ℕ} {cost : List Float} where
   not-empty (Covers.one e f b) = omega arith
   not-empty (Covers.two l g b x y) = omega arith
 
-  -- a leaf's node
-  pub leaf-of : {node lo hi : ℕ} → Covers leaves to over cost node lo hi → hi - lo ≡ 1 → node ≡ leaves + lo
-  leaf-of (Covers.one e f b) h = f
-  leaf-of (Covers.two l g b x y) h = absurd (omega arith)
-
   -- the halves, at the middle that the code computes
   pub lower-half : {node lo hi mid : ℕ} → Covers leaves to over cost node lo hi → (hi - lo ≡ 1 → ⊥) → mid ≡ lo + (hi - lo) / 2 → Covers leaves to over cost (node * 2) lo mid
   lower-half (Covers.one e f b) n m = absurd (n (omega arith))

@@ -1,19 +1,19 @@
 -- What the search over the tree finds in a range of candidates, and when it looks there.
 use mathlib.Core.Path.{_≡_}
 use mathlib.Core.Logic.{_⊎_}
-use mathlib.Core.Bool.{Bool, _&&_}
+use mathlib.Core.Bool.{Bool}
 use mathlib.Core.List.{List}
-use Prim.Native.Nat.{ℕ, suc, _+_, _-_, _*_, _≤_, _<_, max, min}
+use Prim.Native.Nat.{ℕ, suc, _-_, _≤_, _<_, max, min}
 use lib.Dec.{ltb}
 use lib.Ieee.{Float}
 use lib.ListN.{length, getD}
 use Rattle.pieces.specs.Limits.{maxIndex, maxEnd}
-use Rattle.pieces.specs.Pieces.{lessThan}
 use Rattle.pieces.specs.declared.score.Score.{Score}
 use Rattle.search.specs.declared.best.Best.{Best}
 use Rattle.search.specs.declared.visit.Query.{Query}
-use Rattle.search.specs.Least.{entry, aheadOf, Before}
+use Rattle.search.specs.Least.{entry, pickBest, Before}
 use Rattle.search.specs.Starts.{arrivalAt}
+use Rattle.search.specs.Tree.{noLeaf}
 use Rattle.search.specs.Bound.{boundOf}
 
 -- what the bound of the candidates from lo up to hi reads
@@ -57,12 +57,7 @@ meets q lo hi = ltb (max lo (q .from)) (min hi (q .to))
 abbrev pub activeBound : Query → List ℕ → List ℕ → List Float → ℕ → ℕ → ℕ → Score
 activeBound q right over cost node lo hi = boundOf (q .lengths) right over cost (q .end) node (max lo (q .from)) (min hi (q .to))
 
--- whether one of them can come before the best so far, by the bound
-unfoldable pub mayImprove : Query → List ℕ → List ℕ → List Float → ℕ → ℕ → ℕ → Best → Bool
-mayImprove q right over cost node lo hi best =
-    meets q lo hi && aheadOf (record { score = activeBound q right over cost node lo hi; at = max lo (q .from) }) best
-
--- whether the upper half is looked at first: where its bound is better
-unfoldable pub upperFirst : Query → List ℕ → List ℕ → List Float → ℕ → ℕ → ℕ → ℕ → Bool
-upperFirst q right over cost node lo mid hi =
-    meets q lo mid && (meets q mid hi && lessThan (activeBound q right over cost (node * 2 + 1) mid hi) (activeBound q right over cost (node * 2) lo mid))
+-- the best that one of them can be: that bound, at the first of them; where there is none, more pieces over the limit than a path can have
+unfoldable pub outlookOf : Query → List ℕ → List ℕ → List Float → ℕ → ℕ → ℕ → Best
+outlookOf q right over cost node lo hi =
+    pickBest (meets q lo hi) (record { score = activeBound q right over cost node lo hi; at = max lo (q .from) }) (record { score = noLeaf; at = hi })

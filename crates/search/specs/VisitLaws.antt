@@ -1,31 +1,30 @@
 -- Why the pruned search finds the first: a range is left out only where its bound is not ahead of the best so far, and the bound is at most each of its scores.
-use mathlib.Core.Path.{_≡_, refl, sym, subst, _∙_}
+use mathlib.Core.Path.{_≡_, refl, sym, ap, subst, _∙_}
 use mathlib.Core.Logic.{_⊎_, inl, inr}
-use mathlib.Core.Bool.{Bool, true, false, not, _&&_}
+use mathlib.Core.Bool.{Bool, false, not}
 use mathlib.Core.List.{List}
-use Prim.Native.Nat.{ℕ, _+_, _-_, _*_, _≤_, _<_, max, min}
+use Prim.Native.Nat.{ℕ, _+_, _-_, _≤_, _<_, max, min}
 use native.Mathlib.Nat.{le-trans}
 use native.Mathlib.Omega.{arith}
-use lib.Dec.{T, ltb, ltb→lt, lt→ltb, T-not, not-T}
+use lib.Dec.{T}
 use lib.Ieee.{Float}
-use lib.Ieee.Fits.{and-l, and-i}
 use lib.ListN.{getD}
 use borrow.Author.Tests.{lt-ltb, le-ltb}
 use Rattle.laws.specs.Nonneg.{nonneg}
-use Rattle.laws.specs.Tests.{holds, passes, lt-or-le}
+use Rattle.laws.specs.Tests.{passes, lt-or-le}
 use Rattle.pieces.specs.Limits.{maxEnd}
-use Rattle.pieces.specs.Pieces.{atMost, lessThan, scoreAt}
+use Rattle.pieces.specs.Pieces.{atMost, scoreAt}
 use Rattle.pieces.specs.declared.score.Score.{Score}
 use Rattle.search.specs.declared.best.Best.{Best}
 use Rattle.search.specs.declared.visit.Query.{Query}
 use Rattle.search.specs.Least.{entry, aheadOf, firstOf, Before}
 use Rattle.search.specs.LeastLaws.{pick-yes, pick-no, before-refl, before-trans, ahead-before, not-ahead-before}
 use Rattle.search.specs.Starts.{Starts}
-use Rattle.search.specs.Tree.{Bound, Covers}
+use Rattle.search.specs.Tree.{noLeaf, Bound, Covers}
 use Rattle.search.specs.TreeLaws.{bound-of}
 use Rattle.search.specs.Bound.{boundOf}
 use Rattle.search.specs.BoundLaws.{bound-nonneg, bound-least}
-use Rattle.search.specs.Visit.{Ranged, Looks, Found, FirstIn, through, meets, activeBound, mayImprove, upperFirst}
+use Rattle.search.specs.Visit.{Ranged, Looks, Found, FirstIn, through, activeBound, outlookOf}
 
 -- ---- reading a bound
 
@@ -33,6 +32,21 @@ use Rattle.search.specs.Visit.{Ranged, Looks, Found, FirstIn, through, m
 pub ranged-at : {right over : List ℕ} {cost : List Float} {q : Query} {node lo hi : ℕ} (a e : ℕ) → Looks right over cost q node lo hi → a ≡ max lo (q .from)
     → e ≡ min hi (q .to) → a < e → Ranged right over cost (q .end) node a e
 ranged-at {right} {over} {cost} {q} {node} {lo} {hi} a e x p z h = rw (p, z) (x .ranged (omega arith))
+
+-- ---- an outlook, as the code computes it
+
+module _ (q : Query) (right over : List ℕ) (cost : List Float) (node lo hi : ℕ) (a e : ℕ) where
+  -- no candidate lies in the query
+  pub outlook-none : (b : Best) → a ≡ max lo (q .from) → e ≡ min hi (q .to) → e ≤ a → b ≡ record { score = noLeaf; at = hi }
+      → b ≡ outlookOf q right over cost node lo hi
+  unfolding outlookOf
+  outlook-none b p z h d = let l : min hi (q .to) ≤ max lo (q .from) = omega arith in rw (le-ltb (max lo (q .from)) (min hi (q .to)) l) d
+
+  -- some do
+  pub outlook-some : (s : Score) → a ≡ max lo (q .from) → e ≡ min hi (q .to) → a < e → s ≡ boundOf (q .lengths) right over cost (q .end) node a e
+      → _≡_ {A = Best} (record { score = s; at = a }) (outlookOf q right over cost node lo hi)
+  unfolding outlookOf
+  outlook-some s p z h d = let l : max lo (q .from) < min hi (q .to) = omega arith in rw (d, lt-ltb (max lo (q .from)) (min hi (q .to)) l, p, z)
 
 module _ (q : Query) {right over : List ℕ} {cost : List Float} (s : Starts (q .lengths) right over cost (q .leaves) (q .to) (q .end)) where
   pub looks : {node lo hi : ℕ} → Bound (q .leaves) (q .to) over cost node lo hi → Looks right over cost q node lo hi
@@ -68,67 +82,18 @@ module _ (q : Query) {right over : List ℕ} {cost : List Float} (s : Starts (q 
   -- ---- a range is left out: nothing of it comes before the best so far
 
   pub none-better : {node lo hi : ℕ} {best : Best} → Covers (q .leaves) (q .to) over cost node lo hi → T (nonneg (best .score .cost))
-      → mayImprove q right over cost node lo hi best ≡ false
+      → aheadOf (outlookOf q right over cost node lo hi) best ≡ false
       → FirstIn (through q right over cost) lo hi (q .from) (q .to) best best
-  unfolding mayImprove
   none-better {node} {lo} {hi} {best} c p no-more = record {
     source = inl refl;
     under = before-refl best p;
     all = λ i a z f t.
-        let lower = activeBound q right over cost node lo hi in
-        let x : Best = record { score = lower; at = max lo (q .from) } in
-        let m : T (ltb (max lo (q .from)) (min hi (q .to))) = lt→ltb (max lo (q .from)) (min hi (q .to)) (omega arith) in
+        let x : Best = record { score = activeBound q right over cost node lo hi; at = max lo (q .from) } in
+        let e : outlookOf q right over cost node lo hi ≡ x = sym (outlook-some q right over cost node lo hi (max lo (q .from)) (min hi (q .to)) _ refl refl (omega arith) refl) in
         let g = low-bound node lo hi i (bound-of c) a z f t in
-        let n : T (not (ltb (max lo (q .from)) (min hi (q .to)) && aheadOf x best)) = subst (λ (b : Bool). T (not b)) (sym no-more) tt in
-        let no : T (not (aheadOf x best)) = not-T (aheadOf x best) (λ (u : T (aheadOf x best)).
-        T-not (ltb (max lo (q .from)) (min hi (q .to)) && aheadOf x best) n (and-i (ltb (max lo (q .from)) (min hi (q .to))) (aheadOf x best) m u)) in
+        let no : T (not (aheadOf x best)) = subst (λ (b : Bool). T (not b)) (sym no-more ∙ ap (λ (y : Best). aheadOf y best) e) tt in
         before-trans (not-ahead-before x best (g .0) p no) (record { better = g .1; earlier = λ u. omega arith });
   }
-
--- ---- the tests, as the code makes them
-
-module _ (q : Query) (right over : List ℕ) (cost : List Float) (node lo hi : ℕ) (best : Best) where
-  -- what is looked at lies in the query
-  pub improve-meets : mayImprove q right over cost node lo hi best ≡ true → max lo (q .from) < min hi (q .to)
-  unfolding mayImprove
-  improve-meets t =
-      ltb→lt (max lo (q .from)) (min hi (q .to)) (and-l (meets q lo hi)
-      (aheadOf (record { score = activeBound q right over cost node lo hi; at = max lo (q .from) }) best) (holds t))
-
-  -- none does
-  pub improve-no : (a e : ℕ) → a ≡ max lo (q .from) → e ≡ min hi (q .to) → e ≤ a → false ≡ mayImprove q right over cost node lo hi best
-  unfolding mayImprove
-  improve-no a e p z h = let l : min hi (q .to) ≤ max lo (q .from) = omega arith in rw (le-ltb (max lo (q .from)) (min hi (q .to)) l)
-
-  -- some do
-  pub improve-yes : (a e : ℕ) (s : Score) → a ≡ max lo (q .from) → e ≡ min hi (q .to) → a < e → s ≡ boundOf (q .lengths) right over cost (q .end) node a e
-      → aheadOf (record { score = s; at = a }) best ≡ mayImprove q right over cost node lo hi best
-  unfolding mayImprove
-  improve-yes a e s p z h d = let l : max lo (q .from) < min hi (q .to) = omega arith in rw (d, lt-ltb (max lo (q .from)) (min hi (q .to)) l, p, z)
-
-module _ (q : Query) (right over : List ℕ) (cost : List Float) (node lo mid hi : ℕ) where
-  -- the lower half does not meet the query
-  pub upper-no : (a e : ℕ) → a ≡ max lo (q .from) → e ≡ min mid (q .to) → e ≤ a → false ≡ upperFirst q right over cost node lo mid hi
-  unfolding upperFirst
-  upper-no a e p z h = let l : min mid (q .to) ≤ max lo (q .from) = omega arith in rw (le-ltb (max lo (q .from)) (min mid (q .to)) l)
-
-  module _ (a e b f : ℕ) (ea : a ≡ max lo (q .from)) (ee : e ≡ min mid (q .to)) (eb : b ≡ max mid (q .from)) (ef : f ≡ min hi (q .to)) (h : a < e) where
-    -- the upper half does not
-    pub upper-not : f ≤ b → false ≡ upperFirst q right over cost node lo mid hi
-    unfolding upperFirst
-    upper-not g =
-        let l : max lo (q .from) < min mid (q .to) = omega arith in
-        let m : min hi (q .to) ≤ max mid (q .from) = omega arith in
-        rw (lt-ltb (max lo (q .from)) (min mid (q .to)) l, le-ltb (max mid (q .from)) (min hi (q .to)) m)
-
-    -- both do
-    pub upper-yes : (s t : Score) → b < f → s ≡ boundOf (q .lengths) right over cost (q .end) (node * 2) a e
-        → t ≡ boundOf (q .lengths) right over cost (q .end) (node * 2 + 1) b f → lessThan t s ≡ upperFirst q right over cost node lo mid hi
-    unfolding upperFirst
-    upper-yes s t g x y =
-        let l : max lo (q .from) < min mid (q .to) = omega arith in
-        let m : max mid (q .from) < min hi (q .to) = omega arith in
-        rw (x, y, lt-ltb (max lo (q .from)) (min mid (q .to)) l, lt-ltb (max mid (q .from)) (min hi (q .to)) m, ea, ee, eb, ef)
 
 -- ---- one candidate, and two ranges
 
@@ -154,7 +119,7 @@ module _ (score : ℕ → Score) where
   widen lo hi a z x = record { low = le-trans a (x .low); high = omega (arith, x .high); first = x .first; last = x .last; is = x .is }
 
   -- two ranges, one after the other, of which each candidate of lo .. hi is in one
-  join : (l1 h1 l2 h2 lo hi from to : ℕ) (b m r : Best) → FirstIn score l1 h1 from to b m → FirstIn score l2 h2 from to m r
+  pub join : (l1 h1 l2 h2 lo hi from to : ℕ) (b m r : Best) → FirstIn score l1 h1 from to b m → FirstIn score l2 h2 from to m r
       → ((i : ℕ) → lo ≤ i → i < hi → ((l1 ≤ i) × (i < h1)) ⊎ ((l2 ≤ i) × (i < h2))) → lo ≤ l1 → h1 ≤ hi → lo ≤ l2 → h2 ≤ hi
       → FirstIn score lo hi from to b r
   join l1 h1 l2 h2 lo hi from to b m r p q split a1 z1 a2 z2 = record {
@@ -172,19 +137,42 @@ module _ (score : ℕ → Score) where
     ];
   }
 
-  -- the lower half and then the upper
-  pub join-up : (lo mid hi from to : ℕ) (b m r : Best) → lo ≤ mid → mid ≤ hi → FirstIn score lo mid from to b m → FirstIn score mid hi from to m r
-      → FirstIn score lo hi from to b r
-  join-up lo mid hi from to b m r u v p q =
-      join lo mid mid hi lo hi from to b m r p q (λ i a z. elim (lt-or-le i mid) [ inl l ↦ inl (a, l) | inr l ↦ inr (l, z) ])
-      (omega arith) v u (omega arith)
+  -- ---- the candidates of a range one after the other, from `start` on
 
-  -- and the other way round
-  pub join-down : (lo mid hi from to : ℕ) (b m r : Best) → lo ≤ mid → mid ≤ hi → FirstIn score mid hi from to b m → FirstIn score lo mid from to m r
-      → FirstIn score lo hi from to b r
-  join-down lo mid hi from to b m r u v p q =
-      join mid hi lo mid lo hi from to b m r p q (λ i a z. elim (lt-or-le i mid) [ inl l ↦ inr (a, l) | inr l ↦ inl (l, z) ])
-      u (omega arith) (omega arith) v
+  -- none yet
+  pub none-first : (start from to : ℕ) (b : Best) → T (nonneg (b .score .cost)) → FirstIn score start start from to b b
+  none-first start from to b p = record { source = inl refl; under = before-refl b p; all = λ i a z f t. absurd (omega arith) }
+
+  -- one more
+  pub next-first : (start i from to : ℕ) (b m r : Best) → start ≤ i → from ≤ i → i < to → T (nonneg (score i .cost)) → T (nonneg (m .score .cost))
+      → FirstIn score start i from to b m → r ≡ firstOf (entry score i) m → FirstIn score start (i + 1) from to b r
+  next-first start i from to b m r a f t p q x e =
+      join start i i (i + 1) start (i + 1) from to b m r x (one-first i (i + 1) from to m r refl f t p q e)
+      (λ k l u. elim (lt-or-le k i) [ inl g ↦ inl (l, g) | inr g ↦ inr (g, u) ]) (omega arith) (omega arith) a (omega arith)
+
+  -- all that lie in the query
+  pub all-first : (start stop i lo hi from to : ℕ) (b r : Best) → start ≡ max lo from → stop ≡ min hi to → stop ≤ i → i ≤ max start stop
+      → FirstIn score start i from to b r → FirstIn score lo hi from to b r
+  all-first start stop i lo hi from to b r p z d u x = record {
+    source = elim (x .source) [
+      | inl e ↦ inl e
+      | inr f ↦ inr (record { low = omega (arith, f .low); high = omega (arith, f .low, f .high); first = f .first; last = f .last; is = f .is })
+    ];
+    under = x .under;
+    all = λ k a y f t. x .all k (omega arith) (omega arith) f t;
+  }
+
+  -- a range that holds the query is as good as all
+  pub whole-first : {lo hi from to : ℕ} {b r : Best} (leaves : ℕ) → lo ≤ from → to ≤ hi → to ≤ leaves → FirstIn score lo hi from to b r
+      → FirstIn score 0 leaves from to b r
+  whole-first leaves a z l x = record {
+    source = elim (x .source) [
+      | inl e ↦ inl e
+      | inr f ↦ inr (record { low = omega arith; high = omega (arith, f .last); first = f .first; last = f .last; is = f .is })
+    ];
+    under = x .under;
+    all = λ i g h f t. x .all i (omega arith) (omega arith) f t;
+  }
 
   -- what was found is a number's score again
   pub first-nonneg : {lo hi from to : ℕ} {b r : Best} → ((i : ℕ) → i < to → T (nonneg (score i .cost))) → T (nonneg (b .score .cost))

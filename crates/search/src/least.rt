@@ -1,7 +1,7 @@
 // The best predecessor of a range of candidates, by the quicker of two searches.
 use crate::best::Best;
+use crate::narrow;
 use crate::scan;
-use crate::visit;
 use crate::visit::Query;
 use pieces::lengths::Lengths;
 ghost use mathlib.Core.Path.{_≡_};
@@ -40,14 +40,5 @@ pub fn least_predecessor(
         to,
         leaves,
     };
-    visit::visit(
-        right,
-        over,
-        cost,
-        query,
-        1,
-        0,
-        leaves,
-        Best { score, at: last },
-    )
+    narrow::seek(right, over, cost, query, Best { score, at: last })
 }

@@ -33,12 +33,13 @@ const KINDS: [(&str, Change); 5] = [
 ];
 
 /// Candidates and pieces by count; the Rust takes about a microsecond for each candidate of a row.
-const COUNTS: [(usize, u32); 5] = [
+const COUNTS: [(usize, u32); 6] = [
     (1_000, 10),
     (1_000, 100),
     (2_000, 700),
     (5_000, 100),
     (20_000, 10),
+    (10_000, 700),
 ];
 
 pub fn run() {

@@ -1,43 +1,36 @@
--- `predecessor::best_predecessor` takes what is found within the limit; where nothing is, the only allowed piece starts just before j.
+-- `predecessor::best_predecessor` starts from the candidate just before j. Where the piece from there is over the limit it is the only one allowed; else
+-- the walk back holds the best of all that are within the limit.
 use borrow.Author.Needs.{needs}
 use native.Mathlib.Omega.{arith}
 use mathlib.Core.Path.{sym, _∙_}
 use Prim.Native.Nat.{_-_}
 use Rattle.pieces.specs.Pieces.{pieceLength, scoreAt}
 use Rattle.pieces.specs.DomainLaws.{ends-rise, piece-bounded}
-use Rattle.path.specs.PredecessorLaws.{predecessor-found, predecessor-fallback, predecessor-nothing}
+use Rattle.path.specs.PredecessorLaws.{predecessor-within, predecessor-nearest, predecessor-nothing}
+use Rattle.path.specs.BackwardLaws.{walked-first}
 use Rattle.path.proofs.predecessor.best_predecessor.Statement.{statement}
 use Rattle.path.proofs.predecessor.best_predecessor.Tie as tie
 
-within-limit-requires : tie.Need-within-limit-requires
-within-limit-requires c κs = search needs
-
-enum-known-found : tie.Need-enum-known-found
-enum-known-found c = search needs
-
-enum-told : tie.Need-enum-told
-enum-told c = search needs
-
 returns : tie.Need-returns
 returns c =
-    let start = c .before .before .before .before .before .before .before .before in
+    let start = c .before .before .before .before .before in
     predecessor-nothing (start .args .lengths) (start .args .left .now) (start .args .right .now) (scoreAt (start .args .over .now) (start .args .cost .now))
-    (start .args .from) (start .args .j) (start .pre .candidates) (start .pre .inside) (c .if1 .taken)
+    (start .args .from) (start .args .j) (start .pre .0 .candidates) (start .pre .0 .inside) (c .if1 .taken)
 
 sub-nearest : tie.Need-sub-nearest
 sub-nearest c = search needs
 
-mul-t16 : tie.Need-mul-t16
-mul-t16 c = search needs
+mul-t18 : tie.Need-mul-t18
+mul-t18 c = search needs
 
-shared-slice-read-t18 : tie.Need-shared-slice-read-t18
-shared-slice-read-t18 c = search needs
+shared-slice-read-t20 : tie.Need-shared-slice-read-t20
+shared-slice-read-t20 c = search needs
 
-mul-t19 : tie.Need-mul-t19
-mul-t19 c = search needs
+mul-t21 : tie.Need-mul-t21
+mul-t21 c = search needs
 
-shared-slice-read-t21 : tie.Need-shared-slice-read-t21
-shared-slice-read-t21 c = search needs
+shared-slice-read-t23 : tie.Need-shared-slice-read-t23
+shared-slice-read-t23 c = search needs
 
 mul-len : tie.Need-mul-len
 mul-len c = search needs
@@ -52,42 +45,54 @@ shared-slice-read-len-2 : tie.Need-shared-slice-read-len-2
 shared-slice-read-len-2 c = search needs
 
 sub-len : tie.Need-sub-len
-sub-len c = let start = c .before .before .before .before .before .before .before .before .before .before .before .before in ends-rise (start .pre .candidates) (start .args .j - 1) (start .args .j) (omega arith) (start .pre .inside)
+sub-len c = let start = c .before .before .before .before .before .before .before .before .before in ends-rise (start .pre .0 .candidates) (start .args .j - 1) (start .args .j) (omega arith) (start .pre .0 .inside)
 
 piece-score-requires : tie.Need-piece-score-requires
 unfolding pieceLength
 piece-score-requires c κs =
-    let start = c .before .before .before .before .before .before .before .before .before .before .before .before in
+    let start = c .before .before .before .before .before .before .before .before .before in
+    let ok = start .pre .0 in
     let k = start .args .j - 1 in
-    (omega (arith, start .pre .few k (omega arith), start .pre .candidates .few), piece-bounded (start .pre .candidates) k (start .args .j) (start .pre .inside))
+    (omega (arith, ok .few k (omega arith), ok .candidates .few), piece-bounded (ok .candidates) k (start .args .j) (ok .inside))
 
 returns-2 : tie.Need-returns-2
+unfolding pieceLength
 returns-2 c =
-    let start = c .before .before .before .before .before .before .before .before in
-    predecessor-found (start .args .lengths) (start .args .left .now) (start .args .right .now) (scoreAt (start .args .over .now) (start .args .cost .now))
-    (start .args .from) (start .args .j) (start .pre .candidates) (start .pre .inside) _ _ (sym (c .before .found .given .1) ∙ c .before .before .before .within-limit .ensures)
+    let start = c .before .before .before .before .before .before .before .before .before .before .before in
+    rw (c .before .piece-score .ensures)
+    (sym (predecessor-nearest (start .args .lengths) (start .args .left .now) (start .args .right .now) (scoreAt (start .args .over .now) (start .args .cost .now))
+    (start .args .from) (start .args .j) (start .pre .0 .candidates) (start .pre .0 .inside) (c .before .before .before .before .before .before .if1 .left) (c .if2 .taken)))
+
+short-pieces-requires : tie.Need-short-pieces-requires
+unfolding pieceLength
+short-pieces-requires c κs =
+    let start = c .before .before .before .before .before .before .before .before .before .before .before in
+    (start .pre .0, (start .pre .1, rw (c .before .piece-score .ensures) (walked-first (start .pre .0) (start .pre .1) (start .args .from) (c .before .before .before .before .before .before .if1 .left) (c .if2 .left))))
+
+long-parts-requires : tie.Need-long-parts-requires
+long-parts-requires c κs =
+    let start = c .before .before .before .before .before .before .before .before .before .before .before .before in
+    let walked = c .short-pieces .ensures in
+    (start .pre .0, (start .pre .1, (omega (arith, c .before .before .before .before .before .before .before .if1 .left), (walked .0, walked .1))))
 
 returns-3 : tie.Need-returns-3
 unfolding pieceLength
 returns-3 c =
-    let start = c .before .before .before .before .before .before .before .before .before .before .before .before .before in
-    rw (c .piece-score .ensures)
-    (predecessor-fallback (start .args .lengths) (start .args .left .now) (start .args .right .now) (scoreAt (start .args .over .now) (start .args .cost .now))
-    (start .args .from) (start .args .j) (start .pre .candidates) (start .pre .inside) (c .before .before .before .before .before .if1 .left) (sym (c .before .before .before .before .before .before .enum-told .given .1) ∙ c .before .before .before .before .before .before .before .before .within-limit .ensures))
+    let start = c .before .before .before .before .before .before .before .before .before .before .before .before .before .before in
+    c .before .long-parts .ensures .walking .2
+    ∙ sym (predecessor-within (start .args .lengths) (start .args .left .now) (start .args .right .now) (scoreAt (start .args .over .now) (start .args .cost .now))
+    (start .args .from) (start .args .j) (start .pre .0 .candidates) (start .pre .0 .inside) (c .before .before .before .if2 .left))
 
 pub best-predecessor-spec : {M : Type 1} → statement M
 best-predecessor-spec =
     tie.close
     (tie.spec
-    within-limit-requires
-    enum-known-found
-    enum-told
     returns
     sub-nearest
-    mul-t16
-    shared-slice-read-t18
-    mul-t19
-    shared-slice-read-t21
+    mul-t18
+    shared-slice-read-t20
+    mul-t21
+    shared-slice-read-t23
     mul-len
     shared-slice-read-len
     mul-len-2
@@ -95,4 +100,6 @@ best-predecessor-spec =
     sub-len
     piece-score-requires
     returns-2
+    short-pieces-requires
+    long-parts-requires
     returns-3)

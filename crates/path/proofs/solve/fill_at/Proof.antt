@@ -4,12 +4,12 @@ use borrow.Author.Needs.{needs}
 use native.Mathlib.Omega.{arith}
 use mathlib.Core.Path.{sym, _∙_}
 use lib.ListN.{length-set}
-use Rattle.path.specs.SolvedLaws.{second-part, ready-scored, ready-found, ready-score, ready-parent, ready-below}
+use Rattle.path.specs.SolvedLaws.{second-part, ready-scored, ready-costed, ready-found, ready-score, ready-parent, ready-below}
 use Rattle.path.proofs.solve.fill_at.Statement.{statement}
 use Rattle.path.proofs.solve.fill_at.Tie as tie
 
 best-predecessor-requires : tie.Need-best-predecessor-requires
-best-predecessor-requires c κs = ready-scored (c .before .before .before .before .before .before .pre)
+best-predecessor-requires c κs = let ready = c .before .before .before .before .before .before .pre in (ready-scored ready, ready-costed ready)
 
 enum-known-found : tie.Need-enum-known-found
 enum-known-found c = search needs

@@ -31,17 +31,17 @@ add-score-from c = let start = c .before .before .before .before in omega (arith
 score-from-requires : tie.Need-score-from-requires
 score-from-requires c κs = let start = c .before .before .before .before in start-at (start .pre .0) (start .args .to - 1) (omega arith)
 
-visit-requires : tie.Need-visit-requires
-visit-requires c κs =
+seek-requires : tie.Need-seek-requires
+seek-requires c κs =
     let start = c .before .before .before .before .before in
-    (start .pre .0, (start .pre .1 .0, subst (λ (s : Score). T (nonneg (s .cost))) (sym (c .score-from .ensures)) (arrival-nonneg (start .pre .0) (start .args .to - 1) (omega arith))))
+    (start .pre .0, (start .pre .1 .0, (start .pre .1 .1 .1, subst (λ (s : Score). T (nonneg (s .cost))) (sym (c .score-from .ensures)) (arrival-nonneg (start .pre .0) (start .args .to - 1) (omega arith)))))
 
 returns-2 : tie.Need-returns-2
 returns-2 c =
     let start = c .before .before .before .before .before .before in
     visit-is-least (arrivalAt (start .args .lengths) (now (start .args .right)) (now (start .args .over)) (now (start .args .cost)) (start .args .leaves) (start .args .end))
-    (start .args .leaves) (start .args .from) (start .args .to) (c .before .score-from .result) (c .visit .result) (arrival-nonneg (start .pre .0))
-    (start .pre .1 .1 .0) (start .pre .1 .1 .1) (c .before .score-from .ensures) (c .visit .ensures)
+    (start .args .leaves) (start .args .from) (start .args .to) (c .before .score-from .result) (c .seek .result) (arrival-nonneg (start .pre .0))
+    (start .pre .1 .1 .0) (start .pre .1 .1 .1) (c .before .score-from .ensures) (c .seek .ensures)
 
 pub least-predecessor-spec : {M : Type 1} → statement M
 least-predecessor-spec =
@@ -53,5 +53,5 @@ least-predecessor-spec =
     sub-last
     add-score-from
     score-from-requires
-    visit-requires
+    seek-requires
     returns-2)

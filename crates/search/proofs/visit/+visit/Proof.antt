@@ -1,10 +1,12 @@
--- `visit::visit` finds the first of the best so far and its range. A range is left out only where its bound is not ahead of the best so far; else a leaf is
--- compared, or the halves are visited one after the other in either order. The range's length falls.
+-- `visit::visit` finds the first of the best so far and its range: a few candidates are compared one after the other, and else the halves are visited one after
+-- the other, the one that promises more first. A half is left out only where its outlook is not ahead of the best so far. The range's length falls.
 use denote.Ref.{now}
-use Rattle.search.specs.StartsLaws.{start-at, arrival-nonneg}
-use Rattle.search.specs.TreeLaws.{bound-of, not-empty, leaf-of, lower-half, upper-half}
+use Rattle.search.specs.StartsLaws.{arrival-nonneg}
+use Rattle.search.specs.TreeLaws.{not-empty}
 use Rattle.search.specs.Visit.{through}
-use Rattle.search.specs.VisitLaws.{looks, improve-meets, none-better, one-first, join-up, join-down, first-nonneg}
+use Rattle.search.specs.VisitLaws.{first-nonneg}
+use Rattle.search.specs.HalvesLaws.{halved, halves-parts, left-out, join-parts}
+use borrow.Author.Needs.{needs}
 use native.Mathlib.Omega.{arith}
 use mathlib.Core.Path.{sym, _∙_}
 use Prim.Native.Nat.{ℕ, _-_, _<_}
@@ -13,10 +15,9 @@ use borrow.Fn.PlainCycle.{Measures, is, falls, and}
 use Rattle.search.proofs.visit.visit.Reads as visit
 use Rattle.search.proofs.visit.visit.Kinds as visit-kinds
 use Rattle.search.proofs.visit.+visit.Lts-visit as visit-lts
-use Rattle.search.proofs.visit.at_leaf.Reads as at-leaf-reads
-use Rattle.search.proofs.visit.may_improve.Reads as may-improve-reads
-use Rattle.search.proofs.range.middle.Reads as middle-reads
-use Rattle.search.proofs.visit.upper_first.Reads as upper-first-reads
+use Rattle.search.proofs.best.ahead.Reads as ahead-reads
+use Rattle.search.proofs.halves.halves.Reads as halves-reads
+use Rattle.search.proofs.visit.at_leaves.Reads as at-leaves-reads
 use Rattle.search.proofs.visit.+visit.{statement}
 use Rattle.search.proofs.visit.+visit.Tie.{close}
 
@@ -32,152 +33,105 @@ visit-below t = and 3 visit-kinds.ps (falls 3 visit-kinds.ps _<_ μ-visit t) vis
 -- what the callees ask and give; the recursive calls are below t
 abbrev callees : ℕ → visit-lts.Claims
 callees t = (
-  may-improve-reads.Asked,
-  may-improve-reads.Learnt,
-  at-leaf-reads.Asked,
-  at-leaf-reads.Learnt,
-  middle-reads.Asked,
-  middle-reads.Learnt,
-  upper-first-reads.Asked,
-  upper-first-reads.Learnt,
+  at-leaves-reads.Asked,
+  at-leaves-reads.Learnt,
+  halves-reads.Asked,
+  halves-reads.Learnt,
+  ahead-reads.Asked,
+  ahead-reads.Learnt,
   visit-below t,
   visit.Post,
 )
 
-visit-may-improve-requires : (t : ℕ) → visit-lts.Need-may-improve-requires (callees t) (visit-at t) visit.Post
-visit-may-improve-requires t c κs =
-    let start = c .before .before .before in
-    looks (start .args .query) (start .pre .1 .0) (bound-of (start .pre .1 .1 .0))
+visit-sub-if1 : (t : ℕ) → visit-lts.Need-sub-if1 (callees t) (visit-at t) visit.Post
+visit-sub-if1 t c = let start = c .before .before .before in omega (arith, not-empty (start .pre .1 .1 .0))
 
-visit-sub-if2 : (t : ℕ) → visit-lts.Need-sub-if2 (callees t) (visit-at t) visit.Post
-visit-sub-if2 t c = let start = c .before .before .before .before .before in omega (arith, not-empty (start .pre .1 .1 .0))
-
-visit-at-leaf-requires : (t : ℕ) → visit-lts.Need-at-leaf-requires (callees t) (visit-at t) visit.Post
-visit-at-leaf-requires t c κs =
-    let start = c .before .before .before .before .before .before in
-    let m = improve-meets (start .args .query) _ _ _ (start .args .node) (start .args .lo) (start .args .hi) (start .args .best) (sym (c .before .before .may-improve .ensures) ∙ c .before .if1 .taken) in
-    let e = leaf-of (start .pre .1 .1 .0) (c .if2 .taken) in
-    (rw e (start-at (start .pre .1 .0) (start .args .lo) (omega (arith, m))), e)
+visit-at-leaves-requires : (t : ℕ) → visit-lts.Need-at-leaves-requires (callees t) (visit-at t) visit.Post
+visit-at-leaves-requires t c κs = let start = c .before .before .before .before in (start .pre .1 .0, start .pre .1 .1 .1)
 
 visit-returns : (t : ℕ) → visit-lts.Need-returns (callees t) (visit-at t) visit.Post
-visit-returns t c =
-    let start = c .before .before .before .before .before .before .before in
-    let q = start .args .query in
-    let m = improve-meets q _ _ _ (start .args .node) (start .args .lo) (start .args .hi) (start .args .best) (sym (c .before .before .before .may-improve .ensures) ∙ c .before .before .if1 .taken) in
-    one-first (through q (now (start .args .right)) (now (start .args .over)) (now (start .args .cost))) (start .args .lo) (start .args .hi) (q .from) (q .to) (start .args .best) (c .at-leaf .result)
-    (omega (arith, not-empty (start .pre .1 .1 .0), c .before .if2 .taken)) (omega (arith, m, c .before .if2 .taken)) (omega (arith, m)) (arrival-nonneg (start .pre .1 .0) (start .args .lo) (omega (arith, m))) (start .pre .1 .1 .1) (c .at-leaf .ensures)
+visit-returns t c = c .at-leaves .ensures
 
-visit-middle-requires : (t : ℕ) → visit-lts.Need-middle-requires (callees t) (visit-at t) visit.Post
-visit-middle-requires t c κs = let start = c .before .before .before .before .before .before in omega (arith, not-empty (start .pre .1 .1 .0))
+visit-halves-requires : (t : ℕ) → visit-lts.Need-halves-requires (callees t) (visit-at t) visit.Post
+visit-halves-requires t c κs =
+    let start = c .before .before .before .before in
+    halved (start .args .query) (start .pre .1 .1 .0) (omega (arith, c .if1 .left)) (start .pre .1 .0)
 
-visit-upper-first-requires : (t : ℕ) → visit-lts.Need-upper-first-requires (callees t) (visit-at t) visit.Post
-visit-upper-first-requires t c κs =
-    let start = c .before .before .before .before .before .before .before in
-    let low = lower-half (start .pre .1 .1 .0) (c .before .if2 .left) (c .middle .ensures) in
-    let up = upper-half (start .pre .1 .1 .0) (c .before .if2 .left) (c .middle .ensures) in
-    (looks (start .args .query) (start .pre .1 .0) (bound-of low), looks (start .args .query) (start .pre .1 .0) (bound-of up))
-
-visit-mul-visit : (t : ℕ) → visit-lts.Need-mul-visit (callees t) (visit-at t) visit.Post
-visit-mul-visit t c =
-    let start = c .before .before .before .before .before .before .before .before .before in
-    omega (arith, bound-of (upper-half (start .pre .1 .1 .0) (c .before .before .before .if2 .left) (c .before .before .middle .ensures)) .in-over, start .good)
-
-visit-add-visit : (t : ℕ) → visit-lts.Need-add-visit (callees t) (visit-at t) visit.Post
-visit-add-visit t c =
-    let start = c .before .before .before .before .before .before .before .before .before in
-    omega (arith, bound-of (upper-half (start .pre .1 .1 .0) (c .before .before .before .if2 .left) (c .before .before .middle .ensures)) .in-over, start .good)
+visit-ahead-requires : (t : ℕ) → visit-lts.Need-ahead-requires (callees t) (visit-at t) visit.Post
+visit-ahead-requires t c κs = search needs
 
 visit-visit-requires : (t : ℕ) → visit-lts.Need-visit-requires (callees t) (visit-at t) visit.Post
 visit-visit-requires t c κs =
     let start = c .before .before .before .before .before .before .before .before .before in
-    let low = lower-half (start .pre .1 .1 .0) (c .before .before .before .if2 .left) (c .before .before .middle .ensures) in
-    let up = upper-half (start .pre .1 .1 .0) (c .before .before .before .if2 .left) (c .before .before .middle .ensures) in
-    (omega (arith, start .pre .0, not-empty low, not-empty up), (start .pre .1 .0, (up, start .pre .1 .1 .1)))
+    let q = start .args .query in
+    let p = halves-parts q (start .pre .1 .1 .0) (omega (arith, c .before .before .before .before .before .if1 .left)) (c .before .before .before .before .halves .ensures) in
+    (omega (arith, start .pre .0, p .one .less), (start .pre .1 .0, (p .one .covers, start .pre .1 .1 .1)))
 
-visit-mul-visit-2 : (t : ℕ) → visit-lts.Need-mul-visit-2 (callees t) (visit-at t) visit.Post
-visit-mul-visit-2 t c =
-    let start = c .before .before .before .before .before .before .before .before .before .before in
-    omega (arith, bound-of (upper-half (start .pre .1 .1 .0) (c .before .before .before .before .if2 .left) (c .before .before .before .middle .ensures)) .in-over, start .good)
+visit-ahead-requires-2 : (t : ℕ) → visit-lts.Need-ahead-requires-2 (callees t) (visit-at t) visit.Post
+visit-ahead-requires-2 t c κs = search needs
 
 visit-visit-requires-2 : (t : ℕ) → visit-lts.Need-visit-requires-2 (callees t) (visit-at t) visit.Post
 visit-visit-requires-2 t c κs =
-    let start = c .before .before .before .before .before .before .before .before .before .before in
-    let low = lower-half (start .pre .1 .1 .0) (c .before .before .before .before .if2 .left) (c .before .before .before .middle .ensures) in
-    let up = upper-half (start .pre .1 .1 .0) (c .before .before .before .before .if2 .left) (c .before .before .before .middle .ensures) in
-    (omega (arith, start .pre .0, not-empty low, not-empty up), (start .pre .1 .0, (low, first-nonneg (through (start .args .query) (now (start .args .right)) (now (start .args .over)) (now (start .args .cost))) (arrival-nonneg (start .pre .1 .0)) (start .pre .1 .1 .1) (c .visit .ensures))))
+    let start = c .before .before .before .before .before .before .before .before .before .before .before .before in
+    let q = start .args .query in
+    let p = halves-parts q (start .pre .1 .1 .0) (omega (arith, c .before .before .before .before .before .before .before .before .if1 .left)) (c .before .before .before .before .before .before .before .halves .ensures) in
+    (omega (arith, start .pre .0, p .other .less), (start .pre .1 .0, (p .other .covers, first-nonneg (through q (now (start .args .right)) (now (start .args .over)) (now (start .args .cost))) (arrival-nonneg (start .pre .1 .0)) (start .pre .1 .1 .1) (c .before .before .visit .ensures))))
 
 visit-returns-2 : (t : ℕ) → visit-lts.Need-returns-2 (callees t) (visit-at t) visit.Post
 visit-returns-2 t c =
-    let start = c .before .before .before .before .before .before .before .before .before .before .before in
-    let low = lower-half (start .pre .1 .1 .0) (c .before .before .before .before .before .if2 .left) (c .before .before .before .before .middle .ensures) in
-    let up = upper-half (start .pre .1 .1 .0) (c .before .before .before .before .before .if2 .left) (c .before .before .before .before .middle .ensures) in
+    let start = c .before .before .before .before .before .before .before .before .before .before .before .before .before in
     let q = start .args .query in
-    join-down (through q (now (start .args .right)) (now (start .args .over)) (now (start .args .cost))) (start .args .lo) (c .before .before .before .before .middle .result) (start .args .hi) (q .from) (q .to) (start .args .best)
-    (c .before .visit .result) (c .visit2 .result) (omega (arith, not-empty low)) (omega (arith, not-empty up)) (c .before .visit .ensures) (c .visit2 .ensures)
-
-visit-mul-visit-3 : (t : ℕ) → visit-lts.Need-mul-visit-3 (callees t) (visit-at t) visit.Post
-visit-mul-visit-3 t c =
-    let start = c .before .before .before .before .before .before .before .before .before in
-    omega (arith, bound-of (upper-half (start .pre .1 .1 .0) (c .before .before .before .if2 .left) (c .before .before .middle .ensures)) .in-over, start .good)
-
-visit-visit-requires-3 : (t : ℕ) → visit-lts.Need-visit-requires-3 (callees t) (visit-at t) visit.Post
-visit-visit-requires-3 t c κs =
-    let start = c .before .before .before .before .before .before .before .before .before in
-    let low = lower-half (start .pre .1 .1 .0) (c .before .before .before .if2 .left) (c .before .before .middle .ensures) in
-    let up = upper-half (start .pre .1 .1 .0) (c .before .before .before .if2 .left) (c .before .before .middle .ensures) in
-    (omega (arith, start .pre .0, not-empty low, not-empty up), (start .pre .1 .0, (low, start .pre .1 .1 .1)))
-
-visit-mul-visit-4 : (t : ℕ) → visit-lts.Need-mul-visit-4 (callees t) (visit-at t) visit.Post
-visit-mul-visit-4 t c =
-    let start = c .before .before .before .before .before .before .before .before .before .before in
-    omega (arith, bound-of (upper-half (start .pre .1 .1 .0) (c .before .before .before .before .if2 .left) (c .before .before .before .middle .ensures)) .in-over, start .good)
-
-visit-add-visit-2 : (t : ℕ) → visit-lts.Need-add-visit-2 (callees t) (visit-at t) visit.Post
-visit-add-visit-2 t c =
-    let start = c .before .before .before .before .before .before .before .before .before .before in
-    omega (arith, bound-of (upper-half (start .pre .1 .1 .0) (c .before .before .before .before .if2 .left) (c .before .before .before .middle .ensures)) .in-over, start .good)
-
-visit-visit-requires-4 : (t : ℕ) → visit-lts.Need-visit-requires-4 (callees t) (visit-at t) visit.Post
-visit-visit-requires-4 t c κs =
-    let start = c .before .before .before .before .before .before .before .before .before .before in
-    let low = lower-half (start .pre .1 .1 .0) (c .before .before .before .before .if2 .left) (c .before .before .before .middle .ensures) in
-    let up = upper-half (start .pre .1 .1 .0) (c .before .before .before .before .if2 .left) (c .before .before .before .middle .ensures) in
-    (omega (arith, start .pre .0, not-empty low, not-empty up), (start .pre .1 .0, (up, first-nonneg (through (start .args .query) (now (start .args .right)) (now (start .args .over)) (now (start .args .cost))) (arrival-nonneg (start .pre .1 .0)) (start .pre .1 .1 .1) (c .visit3 .ensures))))
+    let p = halves-parts q (start .pre .1 .1 .0) (omega (arith, c .before .before .before .before .before .before .before .before .before .if1 .left)) (c .before .before .before .before .before .before .before .before .halves .ensures) in
+    join-parts q (start .args .best) (c .before .before .before .visit .result) (c .visit2 .result) p (c .before .before .before .visit .ensures) (c .visit2 .ensures)
 
 visit-returns-3 : (t : ℕ) → visit-lts.Need-returns-3 (callees t) (visit-at t) visit.Post
 visit-returns-3 t c =
-    let start = c .before .before .before .before .before .before .before .before .before .before .before in
-    let low = lower-half (start .pre .1 .1 .0) (c .before .before .before .before .before .if2 .left) (c .before .before .before .before .middle .ensures) in
-    let up = upper-half (start .pre .1 .1 .0) (c .before .before .before .before .before .if2 .left) (c .before .before .before .before .middle .ensures) in
+    let start = c .before .before .before .before .before .before .before .before .before .before .before .before in
     let q = start .args .query in
-    join-up (through q (now (start .args .right)) (now (start .args .over)) (now (start .args .cost))) (start .args .lo) (c .before .before .before .before .middle .result) (start .args .hi) (q .from) (q .to) (start .args .best)
-    (c .before .visit3 .result) (c .visit4 .result) (omega (arith, not-empty low)) (omega (arith, not-empty up)) (c .before .visit3 .ensures) (c .visit4 .ensures)
+    let p = halves-parts q (start .pre .1 .1 .0) (omega (arith, c .before .before .before .before .before .before .before .before .if1 .left)) (c .before .before .before .before .before .before .before .halves .ensures) in
+    join-parts q (start .args .best) (c .before .before .visit .result) (c .before .before .visit .result) p (c .before .before .visit .ensures)
+    (left-out q (start .pre .1 .0) (p .other) (first-nonneg (through q (now (start .args .right)) (now (start .args .over)) (now (start .args .cost))) (arrival-nonneg (start .pre .1 .0)) (start .pre .1 .1 .1) (c .before .before .visit .ensures)) (sym (c .before .ahead2 .ensures) ∙ c .if3 .left))
+
+visit-ahead-requires-3 : (t : ℕ) → visit-lts.Need-ahead-requires-3 (callees t) (visit-at t) visit.Post
+visit-ahead-requires-3 t c κs = search needs
+
+visit-visit-requires-3 : (t : ℕ) → visit-lts.Need-visit-requires-3 (callees t) (visit-at t) visit.Post
+visit-visit-requires-3 t c κs =
+    let start = c .before .before .before .before .before .before .before .before .before .before .before in
+    let q = start .args .query in
+    let p = halves-parts q (start .pre .1 .1 .0) (omega (arith, c .before .before .before .before .before .before .before .if1 .left)) (c .before .before .before .before .before .before .halves .ensures) in
+    (omega (arith, start .pre .0, p .other .less), (start .pre .1 .0, (p .other .covers, start .pre .1 .1 .1)))
 
 visit-returns-4 : (t : ℕ) → visit-lts.Need-returns-4 (callees t) (visit-at t) visit.Post
 visit-returns-4 t c =
-    let start = c .before .before .before .before .before in
-    none-better (start .args .query) (start .pre .1 .0) (start .pre .1 .1 .0) (start .pre .1 .1 .1) (sym (c .before .may-improve .ensures) ∙ c .if1 .left)
+    let start = c .before .before .before .before .before .before .before .before .before .before .before .before in
+    let q = start .args .query in
+    let p = halves-parts q (start .pre .1 .1 .0) (omega (arith, c .before .before .before .before .before .before .before .before .if1 .left)) (c .before .before .before .before .before .before .before .halves .ensures) in
+    join-parts q (start .args .best) (start .args .best) (c .visit3 .result) p (left-out q (start .pre .1 .0) (p .one) (start .pre .1 .1 .1) (sym (c .before .before .before .before .ahead .ensures) ∙ c .before .before .before .if2 .left)) (c .visit3 .ensures)
+
+visit-returns-5 : (t : ℕ) → visit-lts.Need-returns-5 (callees t) (visit-at t) visit.Post
+visit-returns-5 t c =
+    let start = c .before .before .before .before .before .before .before .before .before .before .before in
+    let q = start .args .query in
+    let p = halves-parts q (start .pre .1 .1 .0) (omega (arith, c .before .before .before .before .before .before .before .if1 .left)) (c .before .before .before .before .before .before .halves .ensures) in
+    join-parts q (start .args .best) (start .args .best) (start .args .best) p (left-out q (start .pre .1 .0) (p .one) (start .pre .1 .1 .1) (sym (c .before .before .before .ahead .ensures) ∙ c .before .before .if2 .left))
+    (left-out q (start .pre .1 .0) (p .other) (start .pre .1 .1 .1) (sym (c .before .ahead3 .ensures) ∙ c .if4 .left))
 
 pub +visit-spec : {M : Type 1} → statement M
 +visit-spec = close μ-visit λ t. visit-lts.spec (callees t)
     (visit-at t)
     visit.Post
-    (visit-may-improve-requires t)
-    (visit-sub-if2 t)
-    (visit-at-leaf-requires t)
+    (visit-sub-if1 t)
+    (visit-at-leaves-requires t)
     (visit-returns t)
-    (visit-middle-requires t)
-    (visit-upper-first-requires t)
-    (visit-mul-visit t)
-    (visit-add-visit t)
+    (visit-halves-requires t)
+    (visit-ahead-requires t)
     (visit-visit-requires t)
-    (visit-mul-visit-2 t)
+    (visit-ahead-requires-2 t)
     (visit-visit-requires-2 t)
     (visit-returns-2 t)
-    (visit-mul-visit-3 t)
-    (visit-visit-requires-3 t)
-    (visit-mul-visit-4 t)
-    (visit-add-visit-2 t)
-    (visit-visit-requires-4 t)
     (visit-returns-3 t)
+    (visit-ahead-requires-3 t)
+    (visit-visit-requires-3 t)
     (visit-returns-4 t)
+    (visit-returns-5 t)
