@@ -13,7 +13,7 @@ use Rattle.span.specs.Kept.{inNone, boundaries, passing, keptBoundaries}
 
 -- ---- the boundaries of a run
 
-in-boundaries : (a n k : ℕ) → a < k → k ≤ a + n → List·Memᴰ k (boundaries a n)
+pub in-boundaries : (a n k : ℕ) → a < k → k ≤ a + n → List·Memᴰ k (boundaries a n)
 unfolding boundaries
 in-boundaries a zero k h l = absurd (omega arith)
 in-boundaries a (suc n) k h l = elim (lt-or-le (suc a) k) [
@@ -23,7 +23,7 @@ in-boundaries a (suc n) k h l = elim (lt-or-le (suc a) k) [
       List·Memᴰ·head e
 ]
 
-of-boundaries : (a n k : ℕ) → List·Memᴰ k (boundaries a n) → (a < k) × (k ≤ a + n)
+pub of-boundaries : (a n k : ℕ) → List·Memᴰ k (boundaries a n) → (a < k) × (k ≤ a + n)
 unfolding boundaries
 of-boundaries a zero k m = absurd (List·Memᴰ·not-nil m)
 of-boundaries a (suc n) k (List·Memᴰ·head e) = (omega arith, omega arith)

@@ -1,0 +1,92 @@
+-- Every candidate's cost is of the path search's domain: not NaN, and not negative. It is +inf where finite weights give that.
+use mathlib.Core.Path.{_≡_, subst}
+use mathlib.Core.Logic.{inl, inr}
+use mathlib.Core.Bool.{true}
+use mathlib.Core.List.{List}
+use Prim.Native.Nat.{ℕ, zero, suc, _-_, _≤_, _<_, max}
+use native.Mathlib.Nat.{eq-or-lt-of-le}
+use native.Mathlib.Omega.{arith}
+use lib.Dec.{T}
+use lib.Ieee.{Float, nan}
+use lib.ListN.{length, getD}
+use Rattle.laws.specs.Nonneg.{nonneg, nought-nonneg}
+use Rattle.grid.specs.Limits.{maxFrameRate}
+use Rattle.grid.specs.Durations.{frameSecs}
+use Rattle.grid.specs.Boundary.{Bounded}
+use Rattle.grid.specs.declared.boundary.FrameGrid.{FrameGrid}
+use Rattle.settings.specs.Tests.{weightsOk}
+use Rattle.span.specs.Listed.{startAt, endAt}
+use Rattle.span.specs.ListedLaws.{listed-within}
+use Rattle.placing.specs.CutLaws.{cut-level}
+use Rattle.placing.specs.CutsLaws.{InnerAt, inner-cut, cutAt}
+use Rattle.costs.specs.Stretch.{stretchAt, secsOf}
+use Rattle.costs.specs.StretchLaws.{stretch-first, stretch-inner, stretch-last, secs-fine}
+use Rattle.costs.specs.NormalizeLaws.{OnScale}
+use Rattle.costs.specs.CostLaws.{cost-fine}
+use Rattle.candidates.specs.declared.candidate.Candidate.{Candidate}
+use Rattle.candidates.specs.declared.context.Context.{Context}
+use Rattle.candidates.specs.Candidates.{pointAt, ownAt, candidatesOf}
+use Rattle.candidates.specs.Members.{candidateAt, at-member}
+use Rattle.candidates.specs.Sources.{Planned, Source, own, point, point-ends}
+use Rattle.candidates.specs.Order.{span-ends}
+use Rattle.candidates.specs.Found.{every}
+
+-- what costs are made with: weights that refusal 10 passes, levels from 0 to 1, the grid's frame, and a stretch for each frame
+pub record Costed (x : Context) (g : FrameGrid) (runs : List ℕ) (levels : List Float) : Type 0 where
+  pub weighed : weightsOk (x .weights) ≡ true
+  pub scale : (k : ℕ) → k ≤ x .frames → OnScale (getD levels k nan)
+  pub bounded : Bounded g
+  pub rate : g .«frame_rate» ≤ maxFrameRate
+  pub lasts : x .«frame_secs» ≡ frameSecs (g .«frame_rate») (g .hop)
+  pub stretches : length runs ≡ x .frames
+  pub counted : (i : ℕ) → getD runs i 0 < 4294967296
+
+module _ (x : Context) (g : FrameGrid) (runs : List ℕ) (levels : List Float) (q : Costed x g runs levels) where
+  -- so many frames last a time that is not negative
+  secs : (frames : ℕ) → frames < 4294967296 → T (nonneg (secsOf (x .«frame_secs») frames))
+  secs frames h = rw (q .lasts) (secs-fine (g .«frame_rate») (g .hop) (q .bounded .divisor) (q .rate) (q .bounded .hop) frames h .0)
+
+  -- the stretch at a boundary is one of the frames'
+  stretch-counted : (k : ℕ) → k ≤ x .frames → 0 < x .frames → stretchAt runs k < 4294967296
+  stretch-counted zero h s = subst (λ (n : ℕ). n < 4294967296) (stretch-first runs (omega (arith, q .stretches))) (q .counted 0)
+  stretch-counted (suc k) h s = elim (eq-or-lt-of-le h) [
+    | inl e ↦ subst (λ (n : ℕ). n < 4294967296) (stretch-last runs (suc k) (omega arith) (omega (arith, q .stretches))) (q .counted (suc k - 1))
+    | inr l ↦
+        subst (λ (n : ℕ). n < 4294967296) (stretch-inner runs (suc k) (omega arith) (omega (arith, q .stretches)))
+        (most (getD runs (suc k - 1) 0) (getD runs (suc k) 0) (q .counted (suc k - 1)) (q .counted (suc k)))
+  ]
+    where
+      most : (a b : ℕ) → a < 4294967296 → b < 4294967296 → max a b < 4294967296
+      most a b i j = omega arith
+
+  -- the cost of a point
+  pub point-cost : (ss : List ℕ) (k : ℕ) → k ≤ x .frames → 0 < x .frames → T (nonneg (pointAt x ss runs levels k .cost))
+  unfolding pointAt
+  point-cost ss k h s = cost-fine (x .weights) (getD levels k nan) (secsOf (x .«frame_secs») (stretchAt runs k)) (q .weighed) (q .scale k h) (secs (stretchAt runs k) (stretch-counted k h s))
+
+  module _ (ss ks : List ℕ) (first last : ℕ) (p : Planned x ss levels ks first last) where
+    -- the cost of a silence's own candidate
+    pub own-cost : (i : ℕ) → InnerAt (x .frames) ss i → T (nonneg (ownAt x ss levels i .cost))
+    unfolding ownAt
+    own-cost i a =
+        let c = cutAt (x .gap) (x .placement) (x .frames) (x .pre) (x .tail) levels ss i in
+        let w = cut-level (x .placement) (x .frames) (x .pre) (x .tail) levels (startAt ss i) (endAt ss i)
+        (inner-cut (x .gap) (x .placement) (x .frames) (x .pre) (x .tail) levels ss (p .prepared) i a)
+        (λ (k : ℕ) (h : k ≤ x .frames). (q .scale k h .low, q .scale k h .high)) (x .gap) in
+        cost-fine (x .weights) (c .level) (secsOf (x .«frame_secs») (endAt ss i - startAt ss i)) (q .weighed) (record { low = w .0; high = w .1 })
+        (secs (endAt ss i - startAt ss i) (omega (arith, listed-within (p .prepared .spanned .listed) i (a .listed), p .prepared .few)))
+
+    -- the cost of what is listed
+    pub source-cost : (c : Candidate) → Source x ss runs levels ks c → c .left < last → T (nonneg (c .cost))
+    source-cost c (own i a e) l = rw e (own-cost i a)
+    source-cost c (point k t e) l =
+        let w = span-ends x ss runs levels ks first last p in
+        let b : k < last = rw (e, point-ends x ss runs levels ks k .0) at l in
+        rw e (point-cost ss k (omega (arith, w .1)) (omega (arith, w .1)))
+
+    -- every cost is not negative
+    pub candidate-cost : (i : ℕ) → i < length (candidatesOf x ss runs levels ks first last) → T (nonneg (candidateAt (candidatesOf x ss runs levels ks first last) i .cost))
+    candidate-cost i h =
+        every x ss runs levels ks first last (λ (c : Candidate). T (nonneg (c .cost))) nought-nonneg nought-nonneg
+        (λ (c : Candidate) (s : Source x ss runs levels ks c) (f : first < c .left) (l : c .left < last). source-cost c s l)
+        (candidateAt (candidatesOf x ss runs levels ks first last) i) (at-member (candidatesOf x ss runs levels ks first last) i h)

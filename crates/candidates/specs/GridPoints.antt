@@ -1,0 +1,52 @@
+-- The theorems hold of a plan's first candidates: the grid points stand at kept frame boundaries strictly inside the span.
+use mathlib.Core.Path.{_≡_, refl, sym}
+use mathlib.Core.Bool.{true}
+use mathlib.Core.List.{List}
+use Prim.Native.Nat.{ℕ, _≤_, _<_}
+use lib.Ieee.{Float}
+use Rattle.grid.specs.declared.boundary.FrameGrid.{FrameGrid}
+use Rattle.span.specs.declared.spacing.Spacing.{Spacing}
+use Rattle.span.specs.Listed.{Listed}
+use Rattle.span.specs.Span.{firstOf, lastOf}
+use Rattle.span.specs.KeptIn.{Outside}
+use Rattle.blocks.specs.Blocked.{isBlocked}
+use Rattle.blocks.specs.Points.{gridPoints, isIn, isPoint}
+use Rattle.blocks.specs.Theorems.{point-inside}
+use Rattle.blocks.specs.Clear.{point-clear}
+use Rattle.placing.specs.CutsLaws.{Prepared}
+use Rattle.candidates.specs.declared.context.Context.{Context}
+use Rattle.candidates.specs.Sources.{Planned, droppedOf}
+
+-- a context's frames and padding are those of a grid and a spacing
+pub record Fits (x : Context) (g : FrameGrid) (s : Spacing) : Type 0 where
+  pub frames : g .frames ≡ x .frames
+  pub before : s .pre ≡ x .pre
+  pub after : s .tail ≡ x .tail
+  pub some : 1 ≤ s .block
+
+module _ (x : Context) (g : FrameGrid) (s : Spacing) (ss : List ℕ) (levels : List Float) (f : Fits x g s) where
+  -- the grid points of the span from boundary `first` to boundary `last`
+  abbrev pub pointsOf : ℕ → ℕ → List ℕ
+  pointsOf first last = gridPoints (isBlocked (x .gap) g s ss) levels (s .block) first last
+
+  -- each lies strictly inside the span
+  pub grid-inside : (first last k : ℕ) → isIn (pointsOf first last) k ≡ true → (first < k) × (k < last)
+  grid-inside first last k t = point-inside (isBlocked (x .gap) g s ss) levels (s .block) last (f .some) first k (unfold isPoint in t)
+
+  grid-clear : (first last k : ℕ) → Listed (x .frames) ss → isIn (pointsOf first last) k ≡ true → Outside (droppedOf x ss) k
+  grid-clear first last k l t =
+      rw (sym (f .frames), sym (f .before), sym (f .after))
+      (point-clear (x .gap) g s ss levels (s .block) first last (f .some) (rw (f .frames) l) k (unfold isPoint in t))
+
+  -- so prepared silences and the grid points make a plan's candidates
+  pub grid-planned : Prepared (x .gap) (x .placement) (x .frames) levels ss
+      → Planned x ss levels (pointsOf (firstOf (x .gap) (x .pre) ss) (lastOf (x .gap) (x .frames) (x .tail) ss)) (firstOf (x .gap) (x .pre) ss) (lastOf (x .gap) (x .frames) (x .tail) ss)
+  grid-planned p =
+      let first = firstOf (x .gap) (x .pre) ss in
+      let last = lastOf (x .gap) (x .frames) (x .tail) ss in
+      record {
+        prepared = p;
+        starts = refl;
+        stops = refl;
+        clear = λ (k : ℕ) (t : isIn (pointsOf first last) k ≡ true) (a : first < k) (b : k < last). grid-clear first last k (p .spanned .listed) t;
+      }

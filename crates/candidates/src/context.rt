@@ -1,0 +1,16 @@
+// What candidates are made with, beside the recording's own lists: the Rust's `Context` with numbers for its references.
+use settings::config::Gap;
+use settings::config::Placement;
+use settings::config::Weights;
+
+pub struct Context {
+    pub gap: Gap,
+    pub placement: Placement,
+    pub weights: Weights,
+    // How many frames the recording has, and how long one lasts in seconds.
+    pub frames: usize,
+    pub frame_secs: f64,
+    // Frames of silence kept before sound, and after it.
+    pub pre: usize,
+    pub tail: usize,
+}
