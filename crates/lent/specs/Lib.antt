@@ -13,5 +13,5 @@ pub mod CostsLaws
 -- Refusal: maxCount, isCount, countOk (8); workLength, workOk (13); firstRefusalOf, isFine, numberOf
 pub mod Refusal
 --   fails-lists, fails-ends, fails-costs, fails-lengths, fails-count, fails-work, passes   the ends of the chain
---   Passed, passed, fine-is   what has passed; WorkIn, Ready, passed-lent   what that leaves for the search
+--   Passed, passed, fine-is   what has passed; work-parts, count-parts   what 13 and 8 leave; WorkIn, Ready, passed-lent   what that leaves for the search
 pub mod RefusalLaws

@@ -105,7 +105,7 @@ pub record WorkIn (candidates n32 n64 nf : ℕ) : Type 0 where
   pub enough64 : workLength candidates ≤ n64
   pub enoughf : workLength candidates ≤ nf
 
-work-parts : (candidates n32 n64 nf : ℕ) → workOk candidates n32 n64 nf ≡ true → WorkIn candidates n32 n64 nf
+pub work-parts : (candidates n32 n64 nf : ℕ) → workOk candidates n32 n64 nf ≡ true → WorkIn candidates n32 n64 nf
 unfolding workOk
 work-parts candidates n32 n64 nf e =
     let p = both (leb (workLength candidates) n32 && leb (workLength candidates) n64) (leb (workLength candidates) nf) e in
@@ -117,7 +117,7 @@ work-parts candidates n32 n64 nf e =
     }
 
 -- by count, the count is above 0 and within its limit
-count-parts : (count : ℕ) → countOk (ByCount count) ≡ true → (0 < count) × (count ≤ maxCount)
+pub count-parts : (count : ℕ) → countOk (ByCount count) ≡ true → (0 < count) × (count ≤ maxCount)
 unfolding countOk isCount
 count-parts count e =
     let p = both (ltb 0 count) (leb count maxCount) e in

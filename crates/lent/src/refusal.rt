@@ -58,7 +58,7 @@ fn is_count(count: u32) -> bool
 }
 
 // Test 8: by count only, how many pieces are asked for.
-fn count_ok(mode: Mode) -> bool
+pub fn count_ok(mode: Mode) -> bool
     ensures { λ r. ⌜ r ≡ countOk mode ⌝ }
 {
     match mode {

@@ -32,13 +32,17 @@ use Rattle.silences.specs.declared.list.Answer.the-variants.{Found, BadR
 
 -- test 7, taken apart
 pub durations-parts : (c : SegmentConfig) → durationsOk c ≡ true
-    → (c .«min_silence» ≤ maxDuration) × (c .«min_sound» ≤ maxDuration)
+    → (c .«min_silence» ≤ maxDuration) × (c .«min_sound» ≤ maxDuration) × (c .pre ≤ maxDuration) × (c .tail ≤ maxDuration)
 unfolding durationsOk
 durations-parts c e =
     let p = both (leb (c .«min_silence») maxDuration && leb (c .«min_sound») maxDuration && leb (c .pre) maxDuration) (leb (c .tail) maxDuration) e in
     let q = both (leb (c .«min_silence») maxDuration && leb (c .«min_sound») maxDuration) (leb (c .pre) maxDuration) (p .0) in
-    let s = both (leb (c .«min_silence») maxDuration) (leb (c .«min_sound») maxDuration) (q .0) in
-    (leb→le (c .«min_silence») maxDuration (holds (s .0)), leb→le (c .«min_sound») maxDuration (holds (s .1)))
+    let s = both (leb (c .«min_silence») maxDuration) (leb (c .«min_sound») maxDuration) (q .0) in (
+      leb→le (c .«min_silence») maxDuration (holds (s .0)),
+      leb→le (c .«min_sound») maxDuration (holds (s .1)),
+      leb→le (c .pre) maxDuration (holds (q .1)),
+      leb→le (c .tail) maxDuration (holds (p .1)),
+    )
 
 -- what the sound flags of a recording are made from, once tests 1 to 7 have passed
 pub record Ready (r : Recording) (c : SegmentConfig) (values : List Float) (flags : List ℕ) : Type 0 where

@@ -37,7 +37,7 @@ pub fn number(a: Answer) -> u32
 }
 
 // Test 13.
-fn work_ok(frames: usize, n32: usize, n64: usize, nf: usize) -> bool
+pub fn work_ok(frames: usize, n32: usize, n64: usize, nf: usize) -> bool
     requires { ⌜ frames ≤ 1048576 ⌝ }
     ensures { λ r. ⌜ r ≡ workOk frames n32 n64 nf ⌝ }
 {
@@ -92,7 +92,7 @@ pub fn silences_in(
 }
 
 // Whether a recording was accepted.
-fn is_valid(v: Validity) -> bool
+pub fn is_valid(v: Validity) -> bool
     ensures { λ r. ⌜ r ≡ isValid v ⌝ }
 {
     match v {
