@@ -1,13 +1,14 @@
 //! The path over lent candidates, by length and by count, beside `solve` and `solve_count`.
 //!
 //! Our side also tests the candidates, adds up the score and clears the lent lists; the Rust's side
-//! allocates its own.
+//! allocates its own. By length the line `clearing` has the machine's fill of these lists, which no
+//! search of ours can undercut.
 
 use std::hint::black_box;
 
 use silence_split::dp::Preferences;
 
-use super::case;
+use super::{line, measure};
 use crate::ours::{self, Work};
 use crate::path_job::{Job, Score};
 use crate::rng::Rng;
@@ -100,8 +101,7 @@ fn both(name: &str, job: &Job) {
     let mut lists = Lists::new(job);
     // A refusal would be quick and would say nothing.
     assert_eq!(lists.ask(job), 0, "{name}: accepted by the Rust");
-    case(
-        &name,
+    let (ours, rust) = measure(
         || {
             black_box(lists.ask(black_box(job)));
         },
@@ -109,6 +109,11 @@ fn both(name: &str, job: &Job) {
             black_box(black_box(job).path());
         },
     );
+    line(&name, ours, rust);
+    if !job.by_count {
+        let (fill, _) = measure(|| lists.fill(), || ());
+        line(&format!("{name} clearing"), fill, rust);
+    }
 }
 
 struct Lists {
@@ -131,6 +136,15 @@ impl Lists {
             parent: vec![1; rows * candidates],
             path: vec![1; candidates],
         }
+    }
+
+    /// The machine's own fill of what the operation clears.
+    fn fill(&mut self) {
+        self.u32s.fill(0);
+        self.u64s.fill(0);
+        self.f64s.fill(0.0);
+        self.parent.fill(0);
+        black_box(&mut *self);
     }
 
     fn ask(&mut self, job: &Job) -> u32 {
