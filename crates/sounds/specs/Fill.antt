@@ -4,7 +4,7 @@ use Prim.Native.Nat.{ℕ, _-_}
 use mathlib.Core.Bool.{cond}
 use mathlib.Core.List.{List}
 use lib.Dec.{ltb}
-use Rattle.sounds.specs.Runs.{eachRun, putRun}
+use Rattle.sounds.specs.Runs.{eachRun}
 
 -- what a run of `kind`, n frames long, becomes: the other kind where it is shorter than min
 unfoldable pub filledAs : ℕ → ℕ → ℕ → ℕ
@@ -13,7 +13,3 @@ filledAs kind min n = cond (ltb n min) (1 - kind) kind
 -- each maximal run of `kind` that is shorter than min is flipped (kind 1 is sound, 0 silence)
 unfoldable pub fillShort : ℕ → ℕ → List ℕ → List ℕ
 fillShort kind min xs = eachRun kind (filledAs kind min) xs
-
--- one step of it, in place: the flags from start to end become other where they are fewer than min
-unfoldable pub closed : ℕ → ℕ → ℕ → ℕ → List ℕ → List ℕ
-closed start end min other xs = cond (ltb (end - start) min) (putRun start end other xs) xs

@@ -11,7 +11,6 @@ pub mod SoundsLaws
 pub mod SoundsMono
 pub mod Silences
 pub mod SilencesLaws
-pub mod SilencesWalks
 pub mod Quiet
 pub mod QuietLaws
 pub mod OnePass

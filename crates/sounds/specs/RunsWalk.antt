@@ -97,11 +97,6 @@ module _ (kind : ℕ) (v : ℕ → ℕ) where
       passed : eachRun kind v (replicate (i - start) kind ++ drop i xs) ≡ replicate (i - start) (v (i - start)) ++ (getD xs i 0 ∷ eachRun kind v (drop (suc i) xs))
       passed = rw (cut, each-run kind v (i - start) (getD xs i 0 ∷ drop (suc i) xs) h, each-other kind v (getD xs i 0) (drop (suc i) xs) h)
 
-  -- at the end the open run reaches to it
-  pub rewriting-last : (xs₀ : List ℕ) (end : ℕ) (xs : List ℕ) (start i stop : ℕ) → end ≤ i → stop ≡ length xs → Rewriting xs₀ end xs start i
-      → xs ≡ take start xs ++ (replicate (stop - start) kind ++ drop stop xs)
-  rewriting-last xs₀ end xs start i stop l s w = let e : stop ≡ i = omega arith in rw e (w .parts)
-
   -- at the end the last run is rewritten, and the walk is done
   pub rewriting-done : (xs₀ : List ℕ) (end : ℕ) (xs xs′ : List ℕ) (start i stop : ℕ) → end ≤ i → stop ≡ length xs → xs′ ≡ putRun start stop (v (stop - start)) xs
       → Rewriting xs₀ end xs start i → xs′ ≡ eachRun kind v xs₀

@@ -1,8 +1,5 @@
 // From thresholds to silences: which frames sound, short runs filled, and the list of silent runs.
 // Contracts cite specs/Hysteresis, specs/Fill, specs/Sounds, specs/Silences and specs/Quiet; laws about them stand beside them.
 pub mod fill;
-pub mod hysteresis;
 pub mod one_pass;
 pub mod quiet;
-pub mod silences;
-pub mod sounds;

@@ -1,6 +1,5 @@
 -- `one_pass::next_change` passes one frame after another while they keep the flag.
 use borrow.Author.Needs.{needs}
-use native.Mathlib.Omega.{arith}
 use mathlib.Core.Path.{refl, sym, _∙_}
 use Prim.Native.Nat.{_-_}
 use lib.ListN.{length}
