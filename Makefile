@@ -5,7 +5,7 @@
 # make bench                  times beside the Rust's; PARTS=path names some of them
 # make sample                 writes the stored answers anew, from the Rust alone; PART=path SAMPLE=.. another part's
 #
-# FEATURES names the parts that the library has beyond the frame grid: silences, path.
+# FEATURES names the parts that the library has beyond the frame grid: silences, candidates, path.
 # The published sources of the Rust stay in $(SHARED). Where they are not there, what needs them says so and does nothing.
 SHARED ?= ../shared
 N ?= 200000
@@ -13,7 +13,7 @@ SEED ?= 1
 SUBJECTS ?= all
 LARGE ?=
 PARTS ?= all
-FEATURES ?= silences,path
+FEATURES ?= silences,candidates,path
 PART ?= grid
 COUNT ?= 1024
 ifeq ($(PART),grid)

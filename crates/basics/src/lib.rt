@@ -1,3 +1,5 @@
-// Helpers that every other crate uses: clearing a lent list, and Rust's functions on floats.
+// Helpers that every other crate uses: clearing a lent list, Rust's functions on floats, and on numbers that must not wrap.
 pub mod clear;
 pub mod floats;
+pub mod numbers;
+pub mod sizes;

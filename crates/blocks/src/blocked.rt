@@ -1,10 +1,10 @@
 // Which boundaries silences block.
 use crate::fill;
+use basics::numbers;
 use grid::FrameGrid;
 use settings::config::Gap;
 use span::bounds;
 use span::listed;
-use span::numbers;
 use span::spacing::Spacing;
 ghost use mathlib.Core.Path.{_≡_};
 ghost use Prim.Native.Nat.{_*_};

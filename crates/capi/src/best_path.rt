@@ -8,7 +8,7 @@ ghost use Rattle.paths.specs.Operation.{pathOf};
 ghost use Rattle.capi.specs.Paths.{modeOf, lengthAfter, overAfter, costAfter, PathCalled, pathCalledOf};
 
 // By length, or by this count.
-fn mode_of(by_count: bool, count: u32) -> Mode
+pub fn mode_of(by_count: bool, count: u32) -> Mode
     ensures { λ r. ⌜ r ≡ modeOf «by_count» count ⌝ }
 {
     if by_count {

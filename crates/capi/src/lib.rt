@@ -1,5 +1,6 @@
 // What C and Rust programs call. No function asks anything of its caller but what its types say.
 pub mod best_path;
+pub mod candidates;
 pub mod convert;
 pub mod recording;
 pub mod silence_list;

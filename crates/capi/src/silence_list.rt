@@ -11,7 +11,7 @@ ghost use Rattle.capi.specs.Grid.{domainOf};
 ghost use Rattle.capi.specs.Silences.{thresholdOf, countAfter, Called, calledOf};
 
 // The threshold of a kind and a number. A kind that does not exist has no number, and is refused like one.
-fn threshold_of(kind: u8, v: f32) -> Threshold
+pub fn threshold_of(kind: u8, v: f32) -> Threshold
     ensures { λ r. ⌜ r ≡ thresholdOf kind v ⌝ }
 {
     if kind == 0 {

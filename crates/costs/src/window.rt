@@ -1,7 +1,8 @@
 // The mean of a smoothing window. Each window is handed on as its part of the values, and summed afresh.
+use basics::sizes;
 ghost use mathlib.Core.Path.{_≡_};
 ghost use mathlib.Core.Bool.{true};
-ghost use Prim.Native.Nat.{_-_, _<_, min};
+ghost use Prim.Native.Nat.{_<_};
 ghost use lib.ListN.{length};
 ghost use Rattle.basics.specs.Lists.{allOf};
 ghost use Rattle.grid.specs.Values.{isFinite};
@@ -34,20 +35,6 @@ fn sum(part: &[f32]) -> f64
     total
 }
 
-// a less b, or 0.
-fn less(a: usize, b: usize) -> usize
-    ensures { λ r. ⌜ r ≡ a - b ⌝ }
-{
-    if b < a { a - b } else { 0 }
-}
-
-// The lesser of two.
-fn lesser(a: usize, b: usize) -> usize
-    ensures { λ r. ⌜ r ≡ min a b ⌝ }
-{
-    if a < b { a } else { b }
-}
-
 // The mean of the window of frame i.
 pub fn mean_at(width: usize, values: &[f32], i: usize) -> f64
     requires { ⌜ Windowed width (now values) ⌝ }
@@ -55,7 +42,7 @@ pub fn mean_at(width: usize, values: &[f32], i: usize) -> f64
     ensures { λ r. ⌜ r ≡ meanOf (windowOf width (now (values .entry)) i) ⌝ }
 {
     let half = (width - 1) / 2;
-    let from = less(i, half);
-    let to = lesser(i + (width - half), values.len());
+    let from = sizes::less(i, half);
+    let to = sizes::lesser(i + (width - half), values.len());
     sum(&values[from..to]) / ((to - from) as f64)
 }

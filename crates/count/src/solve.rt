@@ -1,11 +1,11 @@
 // The best path by count: as many pieces as asked for, or one fewer than candidates where that is less.
 use crate::table;
 use crate::walk;
+use basics::sizes;
 use path::solve::Solved;
 use pieces::lengths::Lengths;
 use pieces::score::Score;
 use rows::first;
-use search::range;
 use search::tree;
 ghost use Prim.Native.Nat.{_+_, _*_, _≤_, _<_};
 ghost use lib.ListN.{length};
@@ -67,7 +67,7 @@ pub fn solve_count(
     ensures { λ r. ⌜ SolutionByCount lengths (now (left .entry)) (now (right .entry)) (behind (length (now (left .entry))) (now (cost .entry))) count (now (path .entry)) (now (path .exit)) r ⌝ }
 {
     let n = left.len();
-    let pieces = range::lesser(count, n - 1);
+    let pieces = sizes::lesser(count, n - 1);
     if pieces == 0 {
         path[0] = 0;
         let score = Score { over: 0, cost: 0.0 };

@@ -1,5 +1,6 @@
 // The search by length or by count over candidates that the tests have passed, its answer handed out only where there is room for the whole path.
 use crate::copy;
+use basics::sizes;
 use count::solve::solve_count;
 use lent::refusal::Verdict;
 use path::backtrack;
@@ -8,7 +9,6 @@ use path::solve::fill_table;
 use pieces::lengths::Lengths;
 use pieces::mode::Mode;
 use pieces::score::Score;
-use search::range;
 ghost use mathlib.Core.Path.{_≡_};
 ghost use Prim.Native.Nat.{_*_, _≤_, _<_};
 ghost use lib.ListN.{length};
@@ -71,7 +71,7 @@ fn by_count(
     requires { ⌜ piecesOf (now left) count * length (now left) ≤ length (now parent) ⌝ }
     ensures { λ a. ⌜ _≡_ {A = Outcome} (record { answer = a; path = now (path .exit) }) (handedOf (bestPathByCount lengths (now (left .entry)) (now (right .entry)) (behind (length (now (left .entry))) (now (cost .entry))) count) (bestScoreByCount lengths (now (left .entry)) (now (right .entry)) (behind (length (now (left .entry))) (now (cost .entry))) count) (now (path .entry))) ⌝ }
 {
-    let pieces = range::lesser(count, left.len() - 1);
+    let pieces = sizes::lesser(count, left.len() - 1);
     if path.len() <= pieces {
         return Answer::ShortPath;
     }
@@ -100,7 +100,7 @@ pub fn seek(
             by_length(left, right, lengths, work_u32, work_f64, path)
         }
         Mode::ByCount(count) => {
-            let pieces = range::lesser(count as usize, n - 1);
+            let pieces = sizes::lesser(count as usize, n - 1);
             if parent.len() < pieces * n {
                 return Answer::ShortParent;
             }

@@ -1,10 +1,10 @@
 // The rows of the table by count: the first, and each next one from the scores of the one before.
+use basics::sizes;
 use pieces::lengths::Lengths;
 use pieces::score;
 use pieces::score::Score;
 use search::best::Best;
 use search::least;
-use search::range;
 use search::tree;
 ghost use mathlib.Core.Path.{_≡_};
 ghost use Prim.Native.Nat.{_≤_, _<_};
@@ -27,7 +27,7 @@ fn predecessor(
     ensures { λ r. ⌜ r ≡ predecessorOf lengths (now (left .entry)) (now (right .entry)) (leafScore leaves (now (over .entry)) (now (cost .entry))) k j ⌝ }
 {
     let first = over[left.len() * 4 + j] as usize;
-    let from = range::larger(first, k - 1);
+    let from = sizes::larger(first, k - 1);
     least::least_predecessor(right, over, cost, leaves, lengths, left[j], from, j)
 }
 

@@ -5,7 +5,6 @@ use pieces::lengths::Lengths;
 use pieces::score::Score;
 ghost use mathlib.Core.Path.{_≡_};
 ghost use Prim.Native.Nat.{_-_, _≤_, _<_};
-ghost use lib.ListN.{getD, length};
 ghost use Rattle.pieces.specs.Limits.{maxEnd};
 ghost use Rattle.search.specs.Bound.{lengthBoundOf, withBound, boundOf};
 ghost use Rattle.search.specs.Visit.{Ranged};

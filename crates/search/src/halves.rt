@@ -3,6 +3,7 @@ use crate::best::Best;
 use crate::bound;
 use crate::range;
 use crate::visit::Query;
+use basics::sizes;
 use pieces::score;
 use pieces::score::Score;
 ghost use mathlib.Core.Path.{_≡_};
@@ -36,8 +37,8 @@ fn outlook(
     requires { ⌜ Looks (now right) (now over) (now cost) query node lo hi ⌝ }
     ensures { λ r. ⌜ r ≡ outlookOf query (now (right .entry)) (now (over .entry)) (now (cost .entry)) node lo hi ⌝ }
 {
-    let start = range::larger(lo, query.from);
-    let stop = range::lesser(hi, query.to);
+    let start = sizes::larger(lo, query.from);
+    let stop = sizes::lesser(hi, query.to);
     if stop <= start {
         let score = Score {
             over: 1048577,

@@ -4,8 +4,8 @@
 use crate::best;
 use crate::best::Best;
 use crate::halves;
-use crate::range;
 use crate::scan;
+use basics::sizes;
 use pieces::lengths::Lengths;
 ghost use mathlib.Core.Path.{_≡_};
 ghost use Prim.Native.Nat.{_+_};
@@ -53,8 +53,8 @@ fn at_leaves(
     requires { ⌜ T (nonneg (best .score .cost)) ⌝ }
     ensures { λ r. ⌜ FirstIn (through query (now (right .entry)) (now (over .entry)) (now (cost .entry))) lo hi (query .from) (query .to) best r ⌝ }
 {
-    let start = range::larger(lo, query.from);
-    let stop = range::lesser(hi, query.to);
+    let start = sizes::larger(lo, query.from);
+    let stop = sizes::lesser(hi, query.to);
     let mut first = best;
     let mut i = start;
     while i < stop {

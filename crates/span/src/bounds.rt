@@ -1,5 +1,5 @@
 // A silence less its padding.
-use crate::numbers;
+use basics::sizes;
 ghost use mathlib.Core.Path.{_≡_};
 ghost use Prim.Native.Nat.{_+_, min};
 ghost use Rattle.span.specs.Bounds.{lowOf, highOf, boundsOf};
@@ -38,7 +38,7 @@ fn high(n: usize, pre: usize, end: usize) -> usize
     if end == n {
         return n;
     }
-    numbers::less_usize(end, pre)
+    sizes::less(end, pre)
 }
 
 // The bounds of a silence of n frames, with `pre` frames kept before sound and `tail` after it.

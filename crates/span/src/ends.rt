@@ -1,7 +1,7 @@
 // The two ends of the span.
 use crate::bounds;
 use crate::listed;
-use crate::numbers;
+use basics::sizes;
 use settings::config::Gap;
 ghost use mathlib.Core.Path.{_≡_};
 ghost use Rattle.settings.specs.declared.config.Gap.the-variants.{Drop};
@@ -36,7 +36,7 @@ fn first(pre: usize, silences: &[u32]) -> usize
     if listed::start_at(silences, 0) != 0 {
         return 0;
     }
-    numbers::less_usize(listed::end_at(silences, 0), pre)
+    sizes::less(listed::end_at(silences, 0), pre)
 }
 
 // With gaps dropped: where the padding of the last sound ends.

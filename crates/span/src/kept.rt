@@ -1,7 +1,7 @@
 // How many frames are kept.
 use crate::bounds;
 use crate::listed;
-use crate::numbers;
+use basics::sizes;
 use settings::config::Gap;
 ghost use mathlib.Core.Path.{_≡_};
 ghost use Rattle.settings.specs.declared.config.Gap.the-variants.{Drop};
@@ -19,7 +19,7 @@ fn gap_width(n: usize, pre: usize, tail: usize, start: usize, end: usize) -> usi
         return 0;
     }
     let b = bounds::silence_bounds(n, pre, tail, start, end);
-    numbers::less_usize(b.hi, b.lo)
+    sizes::less(b.hi, b.lo)
 }
 
 // The frames from boundary `first` to boundary `last` less those of every gap.
@@ -33,11 +33,11 @@ fn less_gaps(
 ) -> usize
     ensures { λ r. ⌜ r ≡ keptFrames first (gapsOf Drop n pre tail (now (silences .entry))) last ⌝ }
 {
-    let mut kept = numbers::less_usize(last, first);
+    let mut kept = sizes::less(last, first);
     for i in 0..silences.len() / 2 {
         let start = listed::start_at(silences, i);
         let end = listed::end_at(silences, i);
-        kept = numbers::less_usize(kept, gap_width(n, pre, tail, start, end));
+        kept = sizes::less(kept, gap_width(n, pre, tail, start, end));
     }
     kept
 }
@@ -55,7 +55,7 @@ pub fn kept_frames(
     ensures { λ r. ⌜ r ≡ keptFrames first (gapsOf gap n pre tail (now (silences .entry))) last ⌝ }
 {
     match gap {
-        Gap::Keep => numbers::less_usize(last, first),
+        Gap::Keep => sizes::less(last, first),
         Gap::Drop => less_gaps(n, pre, tail, first, last, silences),
     }
 }

@@ -4,5 +4,4 @@ pub mod bounds;
 pub mod ends;
 pub mod kept;
 pub mod listed;
-pub mod numbers;
 pub mod spacing;

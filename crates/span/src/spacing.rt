@@ -1,5 +1,5 @@
 // How far apart candidates stand, and how much silence is kept beside sound. All of it follows from the settings and the grid.
-use crate::numbers;
+use basics::numbers;
 use grid::FrameGrid;
 use grid::durations;
 ghost use mathlib.Core.Path.{_≡_};

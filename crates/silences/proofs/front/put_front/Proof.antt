@@ -1,6 +1,7 @@
 -- `front::put_front` copies one number after another.
 use borrow.Author.Needs.{needs}
 use Prim.Native.Nat.{_-_}
+use Rattle.basics.specs.Front.{onto}
 use Rattle.silences.specs.Front.{Copying, copying-start, copying-next, copying-done}
 use Rattle.silences.proofs.front.put_front.Statement.{statement}
 use Rattle.silences.proofs.front.put_front.Tie as tie
@@ -33,12 +34,13 @@ loop-less : tie.Need-loop-less Inv-loop μ-loop
 loop-less c = search needs
 
 loop-again : tie.Need-loop-again Inv-loop μ-loop
-loop-again c = copying-next _ _ _ _ _ (c .before .before .loop .inv) (c .before .loop-test .taken)
+loop-again c = copying-next _ _ _ _ _ (c .before .before .loop .inv) 0 (c .before .loop-test .taken)
 
 same-length : tie.Need-same-length Inv-loop μ-loop
 same-length c = search needs
 
 returns : tie.Need-returns Inv-loop μ-loop
+unfolding onto
 returns c = copying-done _ _ _ _ _ (c .before .loop .inv) (c .loop-test .left)
 
 pub put-front-spec : {M : Type 1} → statement M

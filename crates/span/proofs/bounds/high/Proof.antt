@@ -9,12 +9,12 @@ returns : tie.Need-returns
 unfolding highOf
 returns c = rw (eq-eqb (c .before .args .end) (c .before .args .n) (c .if1 .taken))
 
-less-usize-requires : tie.Need-less-usize-requires
-less-usize-requires c κs = search needs
+less-requires : tie.Need-less-requires
+less-requires c κs = search needs
 
 returns-2 : tie.Need-returns-2
 unfolding highOf
-returns-2 c = rw (ne-eqb (c .before .before .args .end) (c .before .before .args .n) (c .before .if1 .left)) (c .less-usize .ensures)
+returns-2 c = rw (ne-eqb (c .before .before .args .end) (c .before .before .args .n) (c .before .if1 .left)) (c .less .ensures)
 
 pub high-spec : {M : Type 1} → statement M
-high-spec = tie.close (tie.spec returns less-usize-requires returns-2)
+high-spec = tie.close (tie.spec returns less-requires returns-2)

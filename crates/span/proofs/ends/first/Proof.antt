@@ -18,16 +18,16 @@ returns-2 c =
 end-at-requires : tie.Need-end-at-requires
 end-at-requires c κs = search needs
 
-less-usize-requires : tie.Need-less-usize-requires
-less-usize-requires c κs = search needs
+less-requires : tie.Need-less-requires
+less-requires c κs = search needs
 
 returns-3 : tie.Need-returns-3
 returns-3 c =
     let s = c .before .before .before .before .before .before in
-    first-led (s .args .silences .now) (c .before .before .before .before .if1 .left) (s .args .pre) (c .before .before .before .start-at .result) (c .before .end-at .result) (c .less-usize .result)
-    (c .before .before .before .start-at .ensures) (c .before .before .if2 .left) (c .before .end-at .ensures) (c .less-usize .ensures)
+    first-led (s .args .silences .now) (c .before .before .before .before .if1 .left) (s .args .pre) (c .before .before .before .start-at .result) (c .before .end-at .result) (c .less .result)
+    (c .before .before .before .start-at .ensures) (c .before .before .if2 .left) (c .before .end-at .ensures) (c .less .ensures)
 
 pub first-spec : {M : Type 1} → statement M
 first-spec =
     tie.close
-    (tie.spec returns start-at-requires returns-2 end-at-requires less-usize-requires returns-3)
+    (tie.spec returns start-at-requires returns-2 end-at-requires less-requires returns-3)

@@ -20,15 +20,15 @@ returns-2 c = rw (ne-eqb (c .before .before .args .start) 0 (c .before .if1 .lef
 silence-bounds-requires : tie.Need-silence-bounds-requires
 silence-bounds-requires c κs = search needs
 
-less-usize-requires : tie.Need-less-usize-requires
-less-usize-requires c κs = search needs
+less-requires : tie.Need-less-requires
+less-requires c κs = search needs
 
 returns-3 : tie.Need-returns-3
 unfolding gapWidth isInner
 returns-3 c =
     rw (ne-eqb (c .before .before .before .before .args .start) 0 (c .before .before .before .if1 .left), ne-eqb (c .before .before .before .before .args .end) (c .before .before .before .before .args .n) (c .before .before .if2 .left))
-    (c .less-usize .ensures ∙ ap (λ (b : Bounds). b .hi - b .lo) (c .before .silence-bounds .ensures))
+    (c .less .ensures ∙ ap (λ (b : Bounds). b .hi - b .lo) (c .before .silence-bounds .ensures))
 
 pub gap-width-spec : {M : Type 1} → statement M
 gap-width-spec =
-    tie.close (tie.spec returns returns-2 silence-bounds-requires less-usize-requires returns-3)
+    tie.close (tie.spec returns returns-2 silence-bounds-requires less-requires returns-3)

@@ -10,8 +10,8 @@ use Rattle.span.proofs.kept.kept_frames.Tie as tie
 enum-told : tie.Need-enum-told
 enum-told c = search needs
 
-less-usize-requires : tie.Need-less-usize-requires
-less-usize-requires c κs = search needs
+less-requires : tie.Need-less-requires
+less-requires c κs = search needs
 
 enum-told-2 : tie.Need-enum-told-2
 enum-told-2 c = search needs
@@ -23,7 +23,7 @@ returns : tie.Need-returns
 returns c =
     let s = c .before .before .before .before in
     let g : _≡_ {A = Gap} (s .args .gap) Keep = cc in
-    kept-keep (s .args .n) (s .args .pre) (s .args .tail) (s .args .first) (s .args .last) (s .args .silences .now) (s .args .gap) (c .less-usize .result) g (c .less-usize .ensures)
+    kept-keep (s .args .n) (s .args .pre) (s .args .tail) (s .args .first) (s .args .last) (s .args .silences .now) (s .args .gap) (c .less .result) g (c .less .ensures)
 
 returns-2 : tie.Need-returns-2
 returns-2 c =
@@ -34,4 +34,4 @@ returns-2 c =
 pub kept-frames-spec : {M : Type 1} → statement M
 kept-frames-spec =
     tie.close
-    (tie.spec enum-told less-usize-requires enum-told-2 less-gaps-requires returns returns-2)
+    (tie.spec enum-told less-requires enum-told-2 less-gaps-requires returns returns-2)

@@ -11,11 +11,11 @@ Inv-loop n pre tail first last silences kept₀ i₀ i-end kept i = Leaving n pr
 abbrev μ-loop : tie.MeasureT-loop
 μ-loop n pre tail first last silences kept₀ i₀ i-end kept i = i-end - i
 
-less-usize-requires : tie.Need-less-usize-requires Inv-loop μ-loop
-less-usize-requires c κs = search needs
+less-requires : tie.Need-less-requires Inv-loop μ-loop
+less-requires c κs = search needs
 
 loop-holds : tie.Need-loop-holds Inv-loop μ-loop
-loop-holds c = leaving-start _ _ _ _ _ _ _ (c .less-usize .ensures)
+loop-holds c = leaving-start _ _ _ _ _ _ _ (c .less .ensures)
 
 start-at-requires : tie.Need-start-at-requires Inv-loop μ-loop
 start-at-requires c κs = search needs
@@ -26,8 +26,8 @@ end-at-requires c κs = search needs
 gap-width-requires : tie.Need-gap-width-requires Inv-loop μ-loop
 gap-width-requires c κs = search needs
 
-less-usize-requires-2 : tie.Need-less-usize-requires-2 Inv-loop μ-loop
-less-usize-requires-2 c κs = search needs
+less-requires-2 : tie.Need-less-requires-2 Inv-loop μ-loop
+less-requires-2 c κs = search needs
 
 add-i : tie.Need-add-i Inv-loop μ-loop
 add-i c = search needs
@@ -38,7 +38,7 @@ loop-less c = search needs
 loop-again : tie.Need-loop-again Inv-loop μ-loop
 loop-again c =
     leaving-next _ _ _ _ _ _ _ _ _ (c .before .before .before .before .before .loop .inv) (c .before .gap-width .result) _ (c .before .before .before .before .loop-test .taken)
-    (rw (c .before .before .before .start-at .ensures, c .before .before .end-at .ensures) at (c .before .gap-width .ensures)) (c .less-usize2 .ensures)
+    (rw (c .before .before .before .start-at .ensures, c .before .before .end-at .ensures) at (c .before .gap-width .ensures)) (c .less2 .ensures)
 
 returns : tie.Need-returns Inv-loop μ-loop
 returns c = leaving-done _ _ _ _ _ _ _ _ _ (c .before .loop .inv) (search needs)
@@ -49,12 +49,12 @@ less-gaps-spec =
     (tie.spec
     Inv-loop
     μ-loop
-    less-usize-requires
+    less-requires
     loop-holds
     start-at-requires
     end-at-requires
     gap-width-requires
-    less-usize-requires-2
+    less-requires-2
     add-i
     loop-less
     loop-again

@@ -1,0 +1,104 @@
+-- One law for each end of the operation "candidate list", under what has passed before it.
+use mathlib.Core.Path.{_≡_, refl, sym, ap, _∙_}
+use mathlib.Core.Bool.{Bool, true, false}
+use mathlib.Core.List.{List}
+use Prim.Native.Nat.{ℕ, _+_, _-_, _*_, _/_, _≤_, _<_}
+use native.Mathlib.Omega.{arith}
+use lib.Dec.{leb}
+use lib.Ieee.{Float, binary64, ofBits}
+use lib.ListN.{length, take, drop, length-take, length-drop}
+use borrow.Author.Tests.{le-leb, lt-leb, leb-true, leb-false}
+use Rattle.laws.specs.Tests.{both}
+use Rattle.basics.specs.Lists.{filled}
+use Rattle.basics.specs.Front.{onto}
+use Rattle.grid.specs.declared.validate.Recording.{Recording}
+use Rattle.silences.specs.declared.config.SegmentConfig.{SegmentConfig}
+use Rattle.settings.specs.declared.config.PlanConfig.{PlanConfig}
+use Rattle.request.specs.Refusal.{firstRefusalOf, isFine}
+use Rattle.request.specs.declared.refusal.Verdict.{Verdict}
+use Rattle.candidates.specs.Held.{heldAt, costsAt, entriesOf, costsOf}
+use Rattle.candidates.specs.HeldLaws.{entries-length, costs-length}
+use Rattle.candidates.specs.declared.candidate.Candidate.{Candidate}
+use Rattle.measure.specs.Measure.{candidatesIn}
+use Rattle.candidate_list.specs.CandidateList.{End, hasRoom, listedOf, candidateListOf}
+use Rattle.candidate_list.specs.declared.list.Answer.the-variants.{Found, Refused, ShortOutput}
+
+-- ---- test 12
+
+module _ (candidates ends costs : ℕ) where
+  pub room-costs : costs < candidates → false ≡ hasRoom candidates ends costs
+  unfolding hasRoom
+  room-costs h = rw (lt-leb candidates costs h)
+
+  third : (b : Bool) → (b ≡ true → candidates ≤ ends / 3) → (b ≡ false → ends / 3 < candidates) → b ≡ leb (3 * candidates) ends
+  third true f g = sym (le-leb (3 * candidates) ends (omega (arith, f refl)))
+  third false f g = sym (lt-leb (3 * candidates) ends (omega (arith, g refl)))
+
+  -- as many as a third of the numbers
+  pub room-ends : candidates ≤ costs → leb candidates (ends / 3) ≡ hasRoom candidates ends costs
+  unfolding hasRoom
+  room-ends h = rw (le-leb candidates costs h) (third (leb candidates (ends / 3)) (leb-true candidates (ends / 3)) (leb-false candidates (ends / 3)))
+
+  pub room-parts : hasRoom candidates ends costs ≡ true → (3 * candidates ≤ ends) × (candidates ≤ costs)
+  unfolding hasRoom
+  room-parts e = let p = both (leb candidates costs) (leb (3 * candidates) ends) e in (leb-true (3 * candidates) ends (p .1), leb-true candidates costs (p .0))
+
+-- ---- what stands in work memory
+
+-- entries and costs of so many candidates of so many frames
+pub record Standing (frames candidates : ℕ) (work : List ℕ) (workf : List Float) : Type 0 where
+  pub fits : heldAt frames + 3 * candidates ≤ length work
+  pub fitsf : costsAt frames + candidates ≤ length workf
+
+-- where they are those of a list
+pub stands : (frames candidates : ℕ) (cs : List Candidate) (work : List ℕ) (workf : List Float) → heldAt frames ≤ length work → costsAt frames ≤ length workf → candidates ≡ length cs
+    → take (3 * candidates) (drop (heldAt frames) work) ≡ entriesOf cs → take candidates (drop (costsAt frames) workf) ≡ costsOf cs → Standing frames candidates work workf
+stands frames candidates cs work workf h hf n e f = record {
+  fits = omega (arith, length-take (3 * candidates) (drop (heldAt frames) work), length-drop (heldAt frames) work, ap length e, entries-length cs);
+  fitsf = omega (arith, length-take candidates (drop (costsAt frames) workf), length-drop (costsAt frames) workf, ap length f, costs-length cs);
+}
+
+-- ---- a part of b elements, as it is lent
+
+module _ (a b e : ℕ) (is : e ≡ a + b) where
+  width : e - a ≡ b
+  width = omega arith
+
+  pub part-room : {A : Type 0} (xs : List A) (m : ℕ) → b ≤ m → length (take (e - a) xs) ≤ m
+  part-room xs m h = omega (arith, length-take (e - a) xs, width)
+
+  pub part-onto : {A : Type 0} (xs out out′ : List A) → out′ ≡ onto (take (e - a) (drop a xs)) out → out′ ≡ onto (take b (drop a xs)) out
+  part-onto xs out out′ h = h ∙ ap (λ (w : ℕ). onto (take w (drop a xs)) out) width
+
+-- ---- the list
+
+module _ (candidates : ℕ) (entries : List ℕ) (prices : List Float) (ends : List ℕ) (costs : List Float) (work32 work64 : List ℕ) (workf : List Float) (w32 w64 : List ℕ) (wf : List Float)
+    (e32 : w32 ≡ filled 0 work32) (e64 : w64 ≡ filled 0 work64) (ef : wf ≡ filled (ofBits binary64 0) workf)
+  where
+    -- an output is too short
+    pub listed-short : hasRoom candidates (length ends) (length costs) ≡ false
+        → _≡_ {A = End} (record { answer = ShortOutput; ends = ends; costs = costs; work32 = w32; work64 = w64; workf = wf }) (listedOf candidates entries prices ends costs work32 work64 workf)
+    unfolding listedOf
+    listed-short h = rw (h, e32, e64, ef)
+
+    -- both have room
+    pub listed-found : (ends′ : List ℕ) (costs′ : List Float) → hasRoom candidates (length ends) (length costs) ≡ true → ends′ ≡ onto entries ends → costs′ ≡ onto prices costs
+        → _≡_ {A = End} (record { answer = Found candidates; ends = ends′; costs = costs′; work32 = w32; work64 = w64; workf = wf }) (listedOf candidates entries prices ends costs work32 work64 workf)
+    unfolding listedOf
+    listed-found ends′ costs′ h a b = rw (h, e32, e64, ef, a, b)
+
+-- ---- the operation
+
+module _ (r : Recording) (segment : SegmentConfig) (plan : PlanConfig) (values : List Float) (flags : List ℕ) (levels : List Float) (ends : List ℕ) (costs : List Float) (work32 work64 : List ℕ) (workf : List Float) where
+  pub ends-refused : (v : Verdict) → v ≡ firstRefusalOf r segment plan values flags levels (length work32) (length work64) (length workf) → isFine v ≡ false
+      → _≡_ {A = End} (record { answer = Refused v; ends = ends; costs = costs; work32 = work32; work64 = work64; workf = workf }) (candidateListOf r segment plan values flags levels ends costs work32 work64 workf)
+  unfolding candidateListOf
+  ends-refused v e n = rw (← e, n)
+
+  -- the candidates stand in work memory, whose lists are as long as before, and are handed out
+  pub ends-listed : (v : Verdict) (k : ℕ) (entries : List ℕ) (prices : List Float) (w32 : List ℕ) (wf : List Float) → v ≡ firstRefusalOf r segment plan values flags levels (length work32) (length work64) (length workf) → isFine v ≡ true
+      → k ≡ length (candidatesIn r segment plan values flags levels) → entries ≡ entriesOf (candidatesIn r segment plan values flags levels) → prices ≡ costsOf (candidatesIn r segment plan values flags levels)
+      → length w32 ≡ length work32 → length wf ≡ length workf
+      → listedOf k entries prices ends costs w32 work64 wf ≡ candidateListOf r segment plan values flags levels ends costs work32 work64 workf
+  unfolding candidateListOf listedOf filled
+  ends-listed v k entries prices w32 wf e y n a b s sf = rw (← e, y, n, a, b, s, sf)

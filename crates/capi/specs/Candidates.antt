@@ -1,0 +1,51 @@
+-- What the exported operation "candidate list" leaves: its number, and everything that was lent to be written.
+use Prim.Native.Nat.{ℕ}
+use mathlib.Core.Bool.{Bool, true, false, cond}
+use mathlib.Core.List.{List}
+use lib.Dec.{eqb}
+use lib.Ieee.{Float, nan}
+use Rattle.settings.specs.declared.config.Gap.{Gap}
+use Rattle.settings.specs.declared.config.Gap.the-variants.{Keep, Drop}
+use Rattle.settings.specs.declared.config.Placement.{Placement}
+use Rattle.settings.specs.declared.config.Placement.the-variants.{Quietest, Center, Ratio}
+use Rattle.candidate_list.specs.CandidateList.{End, numberOf}
+use Rattle.candidate_list.specs.declared.list.Answer.{Answer}
+use Rattle.candidate_list.specs.declared.list.Answer.the-variants.{Found, Refused, ShortOutput}
+
+abbrev pub gapOf : Bool → Gap
+gapOf true = Drop
+gapOf false = Keep
+
+abbrev pub pickPlacement : Bool → Placement → Placement → Placement
+pickPlacement test a b = cond test a b
+
+-- C hands the placement over as a kind, 0 quietest, 1 center, 2 ratio, and a ratio; any other kind has no ratio, so 9 is given
+abbrev pub placementOf : ℕ → Float → Placement
+placementOf kind ratio = pickPlacement (eqb kind 0) Quietest (pickPlacement (eqb kind 1) Center (pickPlacement (eqb kind 2) (Ratio ratio) (Ratio nan)))
+
+-- the number of candidates where the list was made, and else what stood there
+abbrev pub foundAfter : Answer → ℕ → ℕ
+foundAfter (Found n) before = n
+foundAfter (Refused v) before = before
+foundAfter ShortOutput before = before
+
+pub record ListCalled : Type 0 where
+  pub number : ℕ
+  pub found : ℕ
+  pub ends : List ℕ
+  pub costs : List Float
+  pub work32 : List ℕ
+  pub work64 : List ℕ
+  pub workf : List Float
+
+-- the operation's end, as C sees it
+unfoldable pub listCalledOf : End → ℕ → ListCalled
+listCalledOf e before = record {
+  number = numberOf (e .answer);
+  found = foundAfter (e .answer) before;
+  ends = e .ends;
+  costs = e .costs;
+  work32 = e .work32;
+  work64 = e .work64;
+  workf = e .workf;
+}

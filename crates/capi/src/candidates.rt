@@ -1,0 +1,144 @@
+// The operation "candidate list".
+use crate::best_path;
+use crate::recording;
+use crate::silence_list;
+use candidate_list::list;
+use candidate_list::list::Answer;
+use grid::validate::Recording;
+use settings::config::Gap;
+use settings::config::Placement;
+use settings::config::PlanConfig;
+use settings::config::Weights;
+use silences::config::SegmentConfig;
+ghost use mathlib.Core.Path.{_≡_};
+ghost use Rattle.candidate_list.specs.CandidateList.{candidateListOf};
+ghost use Rattle.capi.specs.Grid.{domainOf};
+ghost use Rattle.capi.specs.Silences.{thresholdOf};
+ghost use Rattle.capi.specs.Paths.{modeOf};
+ghost use Rattle.capi.specs.Candidates.{gapOf, placementOf, foundAfter, ListCalled, listCalledOf};
+
+fn gap_of(drop_gaps: bool) -> Gap
+    ensures { λ r. ⌜ r ≡ gapOf «drop_gaps» ⌝ }
+{
+    if drop_gaps {
+        return Gap::Drop;
+    }
+    Gap::Keep
+}
+
+// The placement of a kind and a ratio. A kind that does not exist has no ratio, and is refused like one.
+fn placement_of(kind: u8, ratio: f32) -> Placement
+    ensures { λ r. ⌜ r ≡ placementOf kind ratio ⌝ }
+{
+    if kind == 0 {
+        return Placement::Quietest;
+    }
+    if kind == 1 {
+        return Placement::Center;
+    }
+    if kind == 2 {
+        return Placement::Ratio(ratio);
+    }
+    Placement::Ratio(0.0 / 0.0)
+}
+
+// How many candidates were found, or what stood there before.
+fn found_after(answer: Answer, before: u64) -> u64
+    ensures { λ r. ⌜ r ≡ foundAfter answer before ⌝ }
+{
+    match answer {
+        Answer::Found(n) => n as u64,
+        Answer::Refused(_) => before,
+        Answer::ShortOutput => before,
+    }
+}
+
+// 0 where the list was made, and else document 01's number. Candidate i has its left boundary at ends[3 i], its right boundary at ends[3 i + 1], its reason (0 silence, 1 quiet, 2 forced) at ends[3 i + 2] and its cost at costs[i].
+#[no_mangle]
+pub extern "C" fn buchawzer_candidates(
+    sample_rate: u32,
+    channels: u16,
+    frame_rate: u32,
+    hop: u32,
+    len: u64,
+    decibels: bool,
+    values: &[f32],
+    flags: &[u8],
+    levels: &[f64],
+    threshold_kind: u8,
+    threshold: f32,
+    min_silence: u64,
+    min_sound: u64,
+    pre: u64,
+    tail: u64,
+    min: u64,
+    target: u64,
+    max: u64,
+    by_count: bool,
+    count: u32,
+    drop_gaps: bool,
+    placement_kind: u8,
+    ratio: f32,
+    cut: f64,
+    level: f64,
+    pause: f64,
+    pause_ref: u64,
+    target_weight: f64,
+    short_weight: f64,
+    work_u32: &mut [u32],
+    work_u64: &mut [u64],
+    work_f64: &mut [f64],
+    ends: &mut [u32],
+    costs: &mut [f64],
+    found: &mut u64,
+) -> u32
+    ensures { λ r. ⌜ _≡_ {A = ListCalled} (record { number = r; found = now (found .exit); ends = now (ends .exit); costs = now (costs .exit); work32 = now («work_u32» .exit); work64 = now («work_u64» .exit); workf = now («work_f64» .exit) }) (listCalledOf (candidateListOf (record { «sample_rate» = «sample_rate»; channels = channels; «frame_rate» = «frame_rate»; hop = hop; len = len; domain = domainOf decibels }) (record { threshold = thresholdOf «threshold_kind» threshold; «min_silence» = «min_silence»; «min_sound» = «min_sound»; pre = pre; tail = tail }) (record { min = min; target = target; max = max; mode = modeOf «by_count» count; gap = gapOf «drop_gaps»; placement = placementOf «placement_kind» ratio; weights = record { cut = cut; level = level; pause = pause; «pause_ref» = «pause_ref»; target = «target_weight»; short = «short_weight» } }) (now (values .entry)) (now (flags .entry)) (now (levels .entry)) (now (ends .entry)) (now (costs .entry)) (now («work_u32» .entry)) (now («work_u64» .entry)) (now («work_f64» .entry))) (now (found .entry))) ⌝ }
+{
+    let r = Recording {
+        sample_rate,
+        channels,
+        frame_rate,
+        hop,
+        len,
+        domain: recording::domain(decibels),
+    };
+    let segment = SegmentConfig {
+        threshold: silence_list::threshold_of(threshold_kind, threshold),
+        min_silence,
+        min_sound,
+        pre,
+        tail,
+    };
+    let weights = Weights {
+        cut,
+        level,
+        pause,
+        pause_ref,
+        target: target_weight,
+        short: short_weight,
+    };
+    let plan = PlanConfig {
+        min,
+        target,
+        max,
+        mode: best_path::mode_of(by_count, count),
+        gap: gap_of(drop_gaps),
+        placement: placement_of(placement_kind, ratio),
+        weights,
+    };
+    let answer = list::candidate_list(
+        r,
+        segment,
+        plan,
+        values,
+        flags,
+        levels,
+        work_u32,
+        work_u64,
+        work_f64,
+        ends,
+        costs,
+    );
+    *found = found_after(answer, *found);
+    list::number(answer)
+}
