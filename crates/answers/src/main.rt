@@ -1,61 +1,30 @@
 // Replays a stored sample of the Rust's answers, which stands on standard input, and prints how many differ.
 // A record is eight little-endian words of 64 bits: the subject, six arguments and the Rust's answer, a float as its bit pattern.
 use capi::convert;
-ghost use mathlib.Core.Path.{_≡_};
-ghost use Prim.Native.Nat.{_+_, _≤_};
+use stored::number;
+use stored::number::bits;
+use stored::number::narrow;
+use stored::record::Replayed;
+use stored::record::broken;
+use stored::record::differs;
+use stored::report;
+use stored::report::Tally;
+ghost use Prim.Native.Nat.{_≤_, _<_};
 ghost use lib.ListN.{length};
-
-const WORD: usize = 8;
 
 const RECORD: usize = 64;
 
-const ROOM: usize = 65536;
-
-// An answer that no function gives: an unknown subject never agrees.
-const NO_ANSWER: u64 = 18_446_744_073_709_551_614;
-
-fn wide(b: u8) -> u64
-    ensures { λ r. ⌜ r ≤ 255 ⌝ }
+// The port's answer to the record at the front of s. An unknown subject never agrees.
+fn answer(s: &[u8]) -> u64
+    requires { ⌜ 64 ≤ length (now s) ⌝ }
 {
-    b as u64
-}
-
-// The little-endian word at a place.
-fn word(s: &[u8], at: usize) -> u64
-    requires { ⌜ at + 8 ≤ length (now s) ⌝ }
-{
-    let mut w: u64 = 0;
-    let mut k: usize = 0;
-    while k < WORD {
-        w = w % 72_057_594_037_927_936 * 256 + wide(s[at + (7 - k)]);
-        k += 1;
-    }
-    w
-}
-
-fn narrow(w: u64) -> u32 {
-    (w % 4_294_967_296) as u32
-}
-
-// The bit pattern of a float; a NaN, which no answer is, has none.
-fn bits(x: f64) -> u64 {
-    if x != x {
-        return NO_ANSWER;
-    }
-    f64::to_bits(x)
-}
-
-// The port's answer to the record at a place.
-fn answer(s: &[u8], at: usize) -> u64
-    requires { ⌜ at + 64 ≤ length (now s) ⌝ }
-{
-    let subject = word(s, at);
-    let a = word(s, at + 8);
-    let b = word(s, at + 16);
-    let c = word(s, at + 24);
-    let d = word(s, at + 32);
-    let e = word(s, at + 40);
-    let f = word(s, at + 48);
+    let subject = number::u64_at(s, 0);
+    let a = number::u64_at(s, 8);
+    let b = number::u64_at(s, 16);
+    let c = number::u64_at(s, 24);
+    let d = number::u64_at(s, 32);
+    let e = number::u64_at(s, 40);
+    let f = number::u64_at(s, 48);
     match subject {
         0 => convert::buchawzer_boundary(
             narrow(a),
@@ -73,7 +42,7 @@ fn answer(s: &[u8], at: usize) -> u64
         6 => bits(convert::buchawzer_seconds(a)),
         7 => bits(convert::buchawzer_frame_secs(narrow(a), narrow(b))),
         8 => coverage(narrow(a), narrow(b), narrow(c), d, e as usize),
-        _ => NO_ANSWER,
+        _ => number::NO_ANSWER,
     }
 }
 
@@ -86,25 +55,40 @@ fn coverage(sample_rate: u32, frame_rate: u32, hop: u32, len: u64, frames: usize
     }
 }
 
-// How many records were answered otherwise.
-fn differences(s: &[u8]) -> u64 {
-    let mut found: u64 = 0;
-    let mut at: usize = 0;
-    while RECORD <= s.len() - at {
-        if answer(s, at) != word(s, at + 56) {
-            found += 1;
-        }
-        at += RECORD;
+// The record at the front of s.
+fn replay(s: &[u8]) -> Replayed
+    requires { ⌜ 0 < length (now s) ⌝ }
+    ensures { λ r. ⌜ 0 < r .size ⌝ }
+    ensures { λ r. ⌜ r .size ≤ length (now (s .entry)) ⌝ }
+{
+    if s.len() < RECORD {
+        return broken(s);
     }
-    found
+    let same = answer(s) == number::u64_at(s, 56);
+    Replayed { size: RECORD, same }
+}
+
+fn replay_all(s: &[u8]) -> Tally {
+    if report::MOST < s.len() {
+        return report::too_long();
+    }
+    let mut records: u64 = 0;
+    let mut differences: u64 = 0;
+    let mut at: usize = 0;
+    while at < s.len() {
+        let replayed = replay(&s[at..]);
+        at += replayed.size;
+        records += 1;
+        differences += differs(replayed);
+    }
+    Tally {
+        records,
+        differences,
+    }
 }
 
 fn main() {
-    let mut buf = [0u8; ROOM];
+    let mut buf = [0u8; report::MOST + 1];
     let n = io::read_full(0, &mut buf);
-    io::write_all(1, b"grid: ");
-    io::print_decimal(1, (n / RECORD) as u64);
-    io::write_all(1, b" stored answers, ");
-    io::print_decimal(1, differences(&buf[..n]));
-    io::write_all(1, b" differences\n");
+    report::print(b"grid", replay_all(&buf[..n]));
 }

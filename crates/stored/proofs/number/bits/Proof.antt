@@ -4,8 +4,8 @@ use mathlib.Core.Path.{sym, subst, _∙_}
 use mathlib.Core.Bool.{Bool, not}
 use lib.Dec.{T}
 use Rattle.basics.specs.Floats.{nan-is}
-use Rattle.answers.proofs.bits.Statement.{statement}
-use Rattle.answers.proofs.bits.Tie as tie
+use Rattle.stored.proofs.number.bits.Statement.{statement}
+use Rattle.stored.proofs.number.bits.Tie as tie
 
 returns : tie.Need-returns
 returns c = search needs

@@ -1,0 +1,48 @@
+-- One place after another, up to the list's end.
+use borrow.Author.Needs.{needs}
+use mathlib.Core.Path.{_≡_}
+use Prim.Native.Nat.{_-_, _≤_}
+use lib.ListN.{length}
+use Rattle.stored.proofs.tests.only_u64.Statement.{statement}
+use Rattle.stored.proofs.tests.only_u64.Tie as tie
+
+abbrev Inv-loop : tie.InvT-loop
+Inv-loop list x ok₀ i₀ i-end ok i = (i ≤ i-end) × (i-end ≡ length list)
+
+abbrev μ-loop : tie.MeasureT-loop
+μ-loop list x ok₀ i₀ i-end ok i = i-end - i
+
+loop-holds : tie.Need-loop-holds Inv-loop μ-loop
+loop-holds c = search needs
+
+mul-ok : tie.Need-mul-ok Inv-loop μ-loop
+mul-ok c = search needs
+
+shared-slice-read-ok : tie.Need-shared-slice-read-ok Inv-loop μ-loop
+shared-slice-read-ok c = search needs
+
+add-i : tie.Need-add-i Inv-loop μ-loop
+add-i c = search needs
+
+loop-less : tie.Need-loop-less Inv-loop μ-loop
+loop-less c = search needs
+
+loop-again : tie.Need-loop-again Inv-loop μ-loop
+loop-again c = search needs
+
+returns : tie.Need-returns Inv-loop μ-loop
+returns c = search needs
+
+pub only-u64-spec : {M : Type 1} → statement M
+only-u64-spec =
+    tie.close
+    (tie.spec
+    Inv-loop
+    μ-loop
+    loop-holds
+    mul-ok
+    shared-slice-read-ok
+    add-i
+    loop-less
+    loop-again
+    returns)

@@ -1,0 +1,6 @@
+// What the programs share that replay stored answers: numbers and lists in a sample's bytes, tests of what an operation left in lent lists, and the line that is printed.
+pub mod lists;
+pub mod number;
+pub mod record;
+pub mod report;
+pub mod tests;

@@ -1,0 +1,28 @@
+// What came of one record.
+ghost use Prim.Native.Nat.{_≤_, _<_};
+ghost use lib.ListN.{length};
+
+// The number of bytes that were read, and whether the port's answer is the stored one.
+pub struct Replayed {
+    pub size: usize,
+    pub same: bool,
+}
+
+// What is left, where it is no whole record. It agrees with nothing.
+pub fn broken(s: &[u8]) -> Replayed
+    requires { ⌜ 0 < length (now s) ⌝ }
+    ensures { λ r. ⌜ 0 < r .size ⌝ }
+    ensures { λ r. ⌜ r .size ≤ length (now (s .entry)) ⌝ }
+{
+    Replayed {
+        size: s.len(),
+        same: false,
+    }
+}
+
+// 1 where the port's answer is another one.
+pub fn differs(replayed: Replayed) -> u64
+    ensures { λ r. ⌜ r ≤ 1 ⌝ }
+{
+    if replayed.same { 0 } else { 1 }
+}
