@@ -3,7 +3,8 @@
 # make compare N=.. SEED=..   the comparison alone, N inputs a subject; SUBJECTS=silences,path names some of them,
 #                             LARGE=.. sets the number of the largest inputs
 # make bench                  times beside the Rust's; PARTS=path names some of them
-# make sample                 writes the stored answers anew, from the Rust alone; PART=path SAMPLE=.. another part's
+# make sample                 writes the grid's stored answers anew, from the Rust alone; PART=silences and PART=path
+#                             the others'; COUNT=.. sets the number of records, of which 64 KiB are kept
 #
 # FEATURES names the parts that the library has beyond the frame grid: silences, candidates, path.
 # The published sources of the Rust stay in $(SHARED). Where they are not there, what needs them says so and does nothing.
@@ -16,9 +17,10 @@ PARTS ?= all
 FEATURES ?= silences,candidates,path
 PART ?= grid
 COUNT ?= 1024
-ifeq ($(PART),grid)
-SAMPLE ?= crates/answers/stdin
-endif
+SAMPLE_grid := crates/answers/stdin
+SAMPLE_silences := crates/silence_answers/stdin
+SAMPLE_path := crates/path_answers/stdin
+SAMPLE ?= $(SAMPLE_$(PART))
 
 STATICLIB := target/staticlib/libcapi.a
 DRIVER := target/reference/release/driver
