@@ -12,6 +12,7 @@ use Rattle.grid.specs.Durations.{InFrames, InSamples}
 use Rattle.grid.specs.Validate.{isWithin}
 use Rattle.grid.specs.ValidateLaws.{within-most, within-pos}
 use Rattle.grid.specs.declared.boundary.FrameGrid.{FrameGrid}
+use Rattle.grid.specs.declared.validate.Recording.{Recording}
 use Rattle.grid.specs.declared.validate.Domain.{Domain}
 use Rattle.grid.specs.declared.validate.Domain.the-variants.{Decibels, Scores}
 
@@ -47,6 +48,10 @@ floatIf within x = cond within x noFloat
 abbrev pub domainOf : Bool → Domain
 domainOf true = Decibels
 domainOf false = Scores
+
+-- a recording's numbers, as C hands them over
+abbrev pub recordingOf : ℕ → ℕ → ℕ → ℕ → ℕ → Bool → Recording
+recordingOf rate channels frameRate hop len decibels = record { «sample_rate» = rate; channels = channels; «frame_rate» = frameRate; hop = hop; len = len; domain = domainOf decibels }
 
 -- ---- what the tests say of the numbers
 

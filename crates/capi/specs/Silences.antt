@@ -7,6 +7,7 @@ use lib.Ieee.{Float, nan}
 use Rattle.levels.specs.declared.threshold.Threshold.{Threshold}
 use Rattle.levels.specs.declared.threshold.Threshold.the-variants.{Auto, Abs, BelowRef}
 use Rattle.silences.specs.Silences.{End, numberOf}
+use Rattle.silences.specs.declared.config.SegmentConfig.{SegmentConfig}
 use Rattle.silences.specs.declared.list.Answer.{Answer}
 use Rattle.silences.specs.declared.list.Answer.the-variants.{Found, BadRecording, LongDuration, BadThreshold, ShortWork, ShortOutput}
 
@@ -16,6 +17,10 @@ pickThreshold test a b = cond test a b
 -- C hands the threshold over as a kind, 0 automatic, 1 absolute, 2 below the reference, and a number; any other kind has no number, so 11 is given
 abbrev pub thresholdOf : ℕ → Float → Threshold
 thresholdOf kind v = pickThreshold (eqb kind 0) Auto (pickThreshold (eqb kind 1) (Abs v) (pickThreshold (eqb kind 2) (BelowRef v) (Abs nan)))
+
+-- the segment settings, as C hands them over
+abbrev pub segmentOf : ℕ → Float → ℕ → ℕ → ℕ → ℕ → SegmentConfig
+segmentOf kind v minSilence minSound pre tail = record { threshold = thresholdOf kind v; «min_silence» = minSilence; «min_sound» = minSound; pre = pre; tail = tail }
 
 -- the number of silences where the list was made, and else what stood there
 abbrev pub countAfter : Answer → ℕ → ℕ

@@ -4,18 +4,15 @@ use crate::recording;
 use crate::silence_list;
 use candidate_list::list;
 use candidate_list::list::Answer;
-use grid::validate::Recording;
 use settings::config::Gap;
 use settings::config::Placement;
 use settings::config::PlanConfig;
 use settings::config::Weights;
-use silences::config::SegmentConfig;
 ghost use mathlib.Core.Path.{_≡_};
 ghost use Rattle.candidate_list.specs.CandidateList.{candidateListOf};
-ghost use Rattle.capi.specs.Grid.{domainOf};
-ghost use Rattle.capi.specs.Silences.{thresholdOf};
-ghost use Rattle.capi.specs.Paths.{modeOf};
-ghost use Rattle.capi.specs.Candidates.{gapOf, placementOf, foundAfter, ListCalled, listCalledOf};
+ghost use Rattle.capi.specs.Grid.{recordingOf};
+ghost use Rattle.capi.specs.Silences.{segmentOf};
+ghost use Rattle.capi.specs.Candidates.{gapOf, placementOf, weightsOf, planOf, foundAfter, ListCalled, listCalledOf};
 
 fn gap_of(drop_gaps: bool) -> Gap
     ensures { λ r. ⌜ r ≡ gapOf «drop_gaps» ⌝ }
@@ -40,6 +37,44 @@ fn placement_of(kind: u8, ratio: f32) -> Placement
         return Placement::Ratio(ratio);
     }
     Placement::Ratio(0.0 / 0.0)
+}
+
+fn weights_of(cut: f64, level: f64, pause: f64, pause_ref: u64, target: f64, short: f64) -> Weights
+    ensures { λ r. ⌜ r ≡ weightsOf cut level pause «pause_ref» target short ⌝ }
+{
+    Weights {
+        cut,
+        level,
+        pause,
+        pause_ref,
+        target,
+        short,
+    }
+}
+
+// The settings of a plan with these numbers.
+fn plan_of(
+    min: u64,
+    target: u64,
+    max: u64,
+    by_count: bool,
+    count: u32,
+    drop_gaps: bool,
+    placement_kind: u8,
+    ratio: f32,
+    weights: Weights,
+) -> PlanConfig
+    ensures { λ r. ⌜ r ≡ planOf min target max «by_count» count «drop_gaps» «placement_kind» ratio weights ⌝ }
+{
+    PlanConfig {
+        min,
+        target,
+        max,
+        mode: best_path::mode_of(by_count, count),
+        gap: gap_of(drop_gaps),
+        placement: placement_of(placement_kind, ratio),
+        weights,
+    }
 }
 
 // How many candidates were found, or what stood there before.
@@ -92,40 +127,29 @@ pub extern "C" fn buchawzer_candidates(
     costs: &mut [f64],
     found: &mut u64,
 ) -> u32
-    ensures { λ r. ⌜ _≡_ {A = ListCalled} (record { number = r; found = now (found .exit); ends = now (ends .exit); costs = now (costs .exit); work32 = now («work_u32» .exit); work64 = now («work_u64» .exit); workf = now («work_f64» .exit) }) (listCalledOf (candidateListOf (record { «sample_rate» = «sample_rate»; channels = channels; «frame_rate» = «frame_rate»; hop = hop; len = len; domain = domainOf decibels }) (record { threshold = thresholdOf «threshold_kind» threshold; «min_silence» = «min_silence»; «min_sound» = «min_sound»; pre = pre; tail = tail }) (record { min = min; target = target; max = max; mode = modeOf «by_count» count; gap = gapOf «drop_gaps»; placement = placementOf «placement_kind» ratio; weights = record { cut = cut; level = level; pause = pause; «pause_ref» = «pause_ref»; target = «target_weight»; short = «short_weight» } }) (now (values .entry)) (now (flags .entry)) (now (levels .entry)) (now (ends .entry)) (now (costs .entry)) (now («work_u32» .entry)) (now («work_u64» .entry)) (now («work_f64» .entry))) (now (found .entry))) ⌝ }
+    ensures { λ r. ⌜ _≡_ {A = ListCalled} (record { number = r; found = now (found .exit); ends = now (ends .exit); costs = now (costs .exit); work32 = now («work_u32» .exit); work64 = now («work_u64» .exit); workf = now («work_f64» .exit) }) (listCalledOf (candidateListOf (recordingOf «sample_rate» channels «frame_rate» hop len decibels) (segmentOf «threshold_kind» threshold «min_silence» «min_sound» pre tail) (planOf min target max «by_count» count «drop_gaps» «placement_kind» ratio (weightsOf cut level pause «pause_ref» «target_weight» «short_weight»)) (now (values .entry)) (now (flags .entry)) (now (levels .entry)) (now (ends .entry)) (now (costs .entry)) (now («work_u32» .entry)) (now («work_u64» .entry)) (now («work_f64» .entry))) (now (found .entry))) ⌝ }
 {
-    let r = Recording {
-        sample_rate,
-        channels,
-        frame_rate,
-        hop,
-        len,
-        domain: recording::domain(decibels),
-    };
-    let segment = SegmentConfig {
-        threshold: silence_list::threshold_of(threshold_kind, threshold),
+    let r = recording::recording_of(sample_rate, channels, frame_rate, hop, len, decibels);
+    let segment = silence_list::segment_of(
+        threshold_kind,
+        threshold,
         min_silence,
         min_sound,
         pre,
         tail,
-    };
-    let weights = Weights {
-        cut,
-        level,
-        pause,
-        pause_ref,
-        target: target_weight,
-        short: short_weight,
-    };
-    let plan = PlanConfig {
+    );
+    let weights = weights_of(cut, level, pause, pause_ref, target_weight, short_weight);
+    let plan = plan_of(
         min,
         target,
         max,
-        mode: best_path::mode_of(by_count, count),
-        gap: gap_of(drop_gaps),
-        placement: placement_of(placement_kind, ratio),
+        by_count,
+        count,
+        drop_gaps,
+        placement_kind,
+        ratio,
         weights,
-    };
+    );
     let answer = list::candidate_list(
         r,
         segment,

@@ -3,7 +3,7 @@ use grid::validate::Domain;
 use grid::validate::Recording;
 ghost use mathlib.Core.Path.{_≡_};
 ghost use Rattle.grid.specs.Validate.{validityOf, refusalOf};
-ghost use Rattle.capi.specs.Grid.{domainOf};
+ghost use Rattle.capi.specs.Grid.{domainOf, recordingOf};
 
 pub fn domain(decibels: bool) -> Domain
     ensures { λ r. ⌜ r ≡ domainOf decibels ⌝ }
@@ -12,6 +12,27 @@ pub fn domain(decibels: bool) -> Domain
         Domain::Decibels
     } else {
         Domain::Scores
+    }
+}
+
+// A recording with these numbers.
+pub fn recording_of(
+    sample_rate: u32,
+    channels: u16,
+    frame_rate: u32,
+    hop: u32,
+    len: u64,
+    decibels: bool,
+) -> Recording
+    ensures { λ r. ⌜ r ≡ recordingOf «sample_rate» channels «frame_rate» hop len decibels ⌝ }
+{
+    Recording {
+        sample_rate,
+        channels,
+        frame_rate,
+        hop,
+        len,
+        domain: domain(decibels),
     }
 }
 
@@ -28,15 +49,8 @@ pub extern "C" fn buchawzer_validate(
     flags: &[u8],
     levels: &[f64],
 ) -> u32
-    ensures { λ r. ⌜ r ≡ refusalOf (validityOf (record { «sample_rate» = «sample_rate»; channels = channels; «frame_rate» = «frame_rate»; hop = hop; len = len; domain = domainOf decibels }) (now (values .entry)) (now (flags .entry)) (now (levels .entry))) ⌝ }
+    ensures { λ r. ⌜ r ≡ refusalOf (validityOf (recordingOf «sample_rate» channels «frame_rate» hop len decibels) (now (values .entry)) (now (flags .entry)) (now (levels .entry))) ⌝ }
 {
-    let r = Recording {
-        sample_rate,
-        channels,
-        frame_rate,
-        hop,
-        len,
-        domain: domain(decibels),
-    };
+    let r = recording_of(sample_rate, channels, frame_rate, hop, len, decibels);
     grid::validate::refusal(r.validate(values, flags, levels))
 }

@@ -1,17 +1,16 @@
 // The operation "silence list".
 use crate::recording;
-use grid::validate::Recording;
 use levels::threshold::Threshold;
 use silences::config::SegmentConfig;
 use silences::list;
 use silences::list::Answer;
 ghost use mathlib.Core.Path.{_≡_};
 ghost use Rattle.silences.specs.Silences.{silenceListOf};
-ghost use Rattle.capi.specs.Grid.{domainOf};
-ghost use Rattle.capi.specs.Silences.{thresholdOf, countAfter, Called, calledOf};
+ghost use Rattle.capi.specs.Grid.{recordingOf};
+ghost use Rattle.capi.specs.Silences.{thresholdOf, segmentOf, countAfter, Called, calledOf};
 
 // The threshold of a kind and a number. A kind that does not exist has no number, and is refused like one.
-pub fn threshold_of(kind: u8, v: f32) -> Threshold
+fn threshold_of(kind: u8, v: f32) -> Threshold
     ensures { λ r. ⌜ r ≡ thresholdOf kind v ⌝ }
 {
     if kind == 0 {
@@ -24,6 +23,26 @@ pub fn threshold_of(kind: u8, v: f32) -> Threshold
         return Threshold::BelowRef(v);
     }
     Threshold::Abs(0.0 / 0.0)
+}
+
+// The segment settings with these numbers.
+pub fn segment_of(
+    threshold_kind: u8,
+    threshold: f32,
+    min_silence: u64,
+    min_sound: u64,
+    pre: u64,
+    tail: u64,
+) -> SegmentConfig
+    ensures { λ r. ⌜ r ≡ segmentOf «threshold_kind» threshold «min_silence» «min_sound» pre tail ⌝ }
+{
+    SegmentConfig {
+        threshold: threshold_of(threshold_kind, threshold),
+        min_silence,
+        min_sound,
+        pre,
+        tail,
+    }
 }
 
 // How many silences were found, or what stood there before.
@@ -64,23 +83,10 @@ pub extern "C" fn buchawzer_silence_list(
     out: &mut [u32],
     count: &mut u64,
 ) -> u32
-    ensures { λ r. ⌜ _≡_ {A = Called} (record { number = r; count = now (count .exit); out = now (out .exit); work32 = now («work_u32» .exit); work64 = now («work_u64» .exit); workf = now («work_f64» .exit) }) (calledOf (silenceListOf (record { «sample_rate» = «sample_rate»; channels = channels; «frame_rate» = «frame_rate»; hop = hop; len = len; domain = domainOf decibels }) (record { threshold = thresholdOf «threshold_kind» threshold; «min_silence» = «min_silence»; «min_sound» = «min_sound»; pre = pre; tail = tail }) (now (values .entry)) (now (flags .entry)) (now (levels .entry)) (now (out .entry)) (now («work_u32» .entry)) (now («work_u64» .entry)) (now («work_f64» .entry))) (now (count .entry))) ⌝ }
+    ensures { λ r. ⌜ _≡_ {A = Called} (record { number = r; count = now (count .exit); out = now (out .exit); work32 = now («work_u32» .exit); work64 = now («work_u64» .exit); workf = now («work_f64» .exit) }) (calledOf (silenceListOf (recordingOf «sample_rate» channels «frame_rate» hop len decibels) (segmentOf «threshold_kind» threshold «min_silence» «min_sound» pre tail) (now (values .entry)) (now (flags .entry)) (now (levels .entry)) (now (out .entry)) (now («work_u32» .entry)) (now («work_u64» .entry)) (now («work_f64» .entry))) (now (count .entry))) ⌝ }
 {
-    let r = Recording {
-        sample_rate,
-        channels,
-        frame_rate,
-        hop,
-        len,
-        domain: recording::domain(decibels),
-    };
-    let c = SegmentConfig {
-        threshold: threshold_of(threshold_kind, threshold),
-        min_silence,
-        min_sound,
-        pre,
-        tail,
-    };
+    let r = recording::recording_of(sample_rate, channels, frame_rate, hop, len, decibels);
+    let c = segment_of(threshold_kind, threshold, min_silence, min_sound, pre, tail);
     let answer = list::silence_list(
         r,
         c,

@@ -1,7 +1,6 @@
 -- The operation over what C handed over; its answer gives the number, the length and the score.
 use borrow.Author.Needs.{needs}
 use Rattle.capi.specs.Paths.{pathCalledOf}
-use Prim.Native.Nat.{_-_}
 use Rattle.capi.proofs.best_path.buchawzer_path.Statement.{statement}
 use Rattle.capi.proofs.best_path.buchawzer_path.Tie as tie
 

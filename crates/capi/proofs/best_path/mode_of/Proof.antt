@@ -1,6 +1,5 @@
 -- By count where a count is asked for, and else by length.
 use borrow.Author.Needs.{needs}
-use Prim.Native.Nat.{_-_}
 use Rattle.capi.proofs.best_path.mode_of.Statement.{statement}
 use Rattle.capi.proofs.best_path.mode_of.Tie as tie
 

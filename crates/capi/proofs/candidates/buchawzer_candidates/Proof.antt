@@ -4,20 +4,17 @@ use Rattle.capi.specs.Candidates.{listCalledOf}
 use Rattle.capi.proofs.candidates.buchawzer_candidates.Statement.{statement}
 use Rattle.capi.proofs.candidates.buchawzer_candidates.Tie as tie
 
-domain-requires : tie.Need-domain-requires
-domain-requires c κs = search needs
+recording-of-requires : tie.Need-recording-of-requires
+recording-of-requires c κs = search needs
 
-threshold-of-requires : tie.Need-threshold-of-requires
-threshold-of-requires c κs = search needs
+segment-of-requires : tie.Need-segment-of-requires
+segment-of-requires c κs = search needs
 
-mode-of-requires : tie.Need-mode-of-requires
-mode-of-requires c κs = search needs
+weights-of-requires : tie.Need-weights-of-requires
+weights-of-requires c κs = search needs
 
-gap-of-requires : tie.Need-gap-of-requires
-gap-of-requires c κs = search needs
-
-placement-of-requires : tie.Need-placement-of-requires
-placement-of-requires c κs = search needs
+plan-of-requires : tie.Need-plan-of-requires
+plan-of-requires c κs = search needs
 
 candidate-list-requires : tie.Need-candidate-list-requires
 candidate-list-requires c κs = search needs
@@ -46,18 +43,17 @@ same-length-5 c = search needs
 returns : tie.Need-returns
 unfolding listCalledOf
 returns c =
-    rw (← c .before .before .before .before .before .before .before .before .before .before .before .before .before .before .before .before .before .before .before .before .before .before .before .domain .ensures, ← c .before .before .before .before .before .before .before .before .before .before .before .before .before .before .before .before .before .before .before .before .before .before .threshold-of .ensures, ← c .before .before .before .before .before .before .before .before .before .before .before .before .before .before .before .before .before .before .before .before .before .mode-of .ensures, ← c .before .before .before .before .before .before .before .before .before .before .before .before .before .before .before .before .before .before .before .before .gap-of .ensures, ← c .before .before .before .before .before .before .before .before .before .before .before .before .before .before .before .before .before .before .before .placement-of .ensures, ← c .before .before .before .before .before .before .before .before .before .before .before .before .before .candidate-list .ensures)
+    rw (← c .before .before .before .before .before .before .before .before .before .before .before .before .before .before .before .before .before .before .before .before .before .before .recording-of .ensures, ← c .before .before .before .before .before .before .before .before .before .before .before .before .before .before .before .before .before .before .before .before .before .segment-of .ensures, ← c .before .before .before .before .before .before .before .before .before .before .before .before .before .before .before .before .before .before .before .before .weights-of .ensures, ← c .before .before .before .before .before .before .before .before .before .before .before .before .before .before .before .before .before .before .before .plan-of .ensures, ← c .before .before .before .before .before .before .before .before .before .before .before .before .before .candidate-list .ensures)
     (rw (c .number .ensures, c .before .found-after .ensures))
 
 pub buchawzer-candidates-spec : {M : Type 1} → statement M
 buchawzer-candidates-spec =
     tie.close
     (tie.spec
-    domain-requires
-    threshold-of-requires
-    mode-of-requires
-    gap-of-requires
-    placement-of-requires
+    recording-of-requires
+    segment-of-requires
+    weights-of-requires
+    plan-of-requires
     candidate-list-requires
     found-after-requires
     number-requires

@@ -4,11 +4,11 @@ use Rattle.capi.specs.Silences.{calledOf}
 use Rattle.capi.proofs.silence_list.buchawzer_silence_list.Statement.{statement}
 use Rattle.capi.proofs.silence_list.buchawzer_silence_list.Tie as tie
 
-domain-requires : tie.Need-domain-requires
-domain-requires c κs = search needs
+recording-of-requires : tie.Need-recording-of-requires
+recording-of-requires c κs = search needs
 
-threshold-of-requires : tie.Need-threshold-of-requires
-threshold-of-requires c κs = search needs
+segment-of-requires : tie.Need-segment-of-requires
+segment-of-requires c κs = search needs
 
 silence-list-requires : tie.Need-silence-list-requires
 silence-list-requires c κs = search needs
@@ -34,15 +34,15 @@ same-length-4 c = search needs
 returns : tie.Need-returns
 unfolding calledOf
 returns c =
-    rw (← c .before .before .before .before .before .before .before .before .before .before .before .before .before .before .before .before .before .domain .ensures, ← c .before .before .before .before .before .before .before .before .before .before .before .before .before .before .before .before .threshold-of .ensures, ← c .before .before .before .before .before .before .before .before .before .before .before .silence-list .ensures)
+    rw (← c .before .before .before .before .before .before .before .before .before .before .before .before .before .before .before .before .before .recording-of .ensures, ← c .before .before .before .before .before .before .before .before .before .before .before .before .before .before .before .before .segment-of .ensures, ← c .before .before .before .before .before .before .before .before .before .before .before .silence-list .ensures)
     (rw (c .number .ensures, c .before .count-after .ensures))
 
 pub buchawzer-silence-list-spec : {M : Type 1} → statement M
 buchawzer-silence-list-spec =
     tie.close
     (tie.spec
-    domain-requires
-    threshold-of-requires
+    recording-of-requires
+    segment-of-requires
     silence-list-requires
     count-after-requires
     number-requires
