@@ -1,10 +1,9 @@
 -- Steps about floats that proofs of functions cite.
-use mathlib.Core.Path.{_≡_, refl, sym, subst}
-use mathlib.Core.Bool.{Bool, true, false, not}
+use mathlib.Core.Path.{_≡_, sym, subst}
 use lib.Dec.{T}
 use lib.Ieee.{Float, nan, inf, fin, ne, isNan}
 use lib.Ieee.Compare.{differs-from-itself}
-use Rattle.laws.specs.Tests.{same-test, holds}
+use Rattle.laws.specs.Tests.{same-test}
 
 -- a program tests for a NaN by `x != x`
 pub nan-is : (x : Float) → ne x x ≡ isNan x

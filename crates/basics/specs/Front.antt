@@ -1,12 +1,12 @@
 -- Lists that are written in part: at the front, from the left or from the back, with nothing touched beyond.
 use mathlib.Core.Path.{_≡_, refl, sym, ap, _∙_}
 use mathlib.Core.Logic.{inl, inr}
-use mathlib.Core.List.{List, [], _∷_, _++_, append-assoc}
+use mathlib.Core.List.{List, [], _∷_, _++_, append-assoc, append-nil}
 use Prim.Native.Nat.{ℕ, zero, suc, _≤_, _<_}
 use native.Mathlib.Nat.{le-of-lt}
 use native.Mathlib.Omega.{arith}
 use lib.ListN.{length, getD, take, drop, set, length-append, length-drop, List·getD-append}
-use lib.Seq.{drop-cons, drop-set-lt, take-suc, take-at, set-at, getD-at, length-take-le}
+use lib.Seq.{drop-length, drop-cons, drop-set-lt, take-suc, take-at, set-at, getD-at, length-take-le}
 use Rattle.laws.specs.Tests.{lt-or-le}
 
 -- ---- definitions
@@ -41,6 +41,11 @@ module _ {A : Type 0} where
   pub onto-take : (p xs : List A) → take (length p) (onto p xs) ≡ p
   unfolding onto
   onto-take p xs = take-at p (drop (length p) xs) (length p) refl
+
+  -- nothing is left beyond it
+  pub onto-all : (p xs : List A) → length xs ≡ length p → onto p xs ≡ p
+  unfolding onto
+  onto-all p xs e = rw (← e, drop-length, append-nil)
 
   -- what stood at the front does not matter
   pub onto-set : (p xs : List A) (i : ℕ) (v : A) → i < length p → onto p (set xs i v) ≡ onto p xs

@@ -1,12 +1,12 @@
 -- Rounding by a double: twice a value is exact, its whole part plus one, halved, is the value rounded half away from zero.
-use mathlib.Core.Path.{_≡_, refl, sym, ap, subst, _∙_}
-use mathlib.Core.Bool.{Bool, true, false, not, cond}
-use Prim.Native.Nat.{ℕ, zero, suc, _+_, _-_, _*_, _/_, _^_, _≤_, _<_, min}
-use native.Mathlib.Nat.{le-refl, le-trans, lt-trans, le-of-lt, lt-of-lt-of-le, lt-of-le-of-lt, mul-assoc, mul-comm, mul-one, one-mul, zero-mul, two-mul, mul-pos, mul-left-comm, mul-right-comm, mul-le-mul-right, min-eq-left, div-lt-iff-lt-mul, div-div-eq-div-mul, add-mul-div-left, mul-add-div, add-div-right, div-eq-of-lt}
+use mathlib.Core.Path.{_≡_, sym, ap, subst, _∙_}
+use mathlib.Core.Bool.{Bool, true, false}
+use Prim.Native.Nat.{ℕ, _+_, _-_, _*_, _/_, _^_, _≤_, _<_}
+use native.Mathlib.Nat.{le-trans, le-of-lt, lt-of-lt-of-le, mul-assoc, mul-comm, mul-one, one-mul, zero-mul, two-mul, mul-pos, mul-left-comm, mul-le-mul-right, min-eq-left, div-lt-iff-lt-mul, div-div-eq-div-mul, add-div-right, div-eq-of-lt}
 use native.Mathlib.Omega.{arith}
 use lib.IntN.{ℤ, pos}
-use lib.Dec.{T, ltb, eqb, ltb→lt, eqb→eq, lit≤}
-use lib.Ieee.{Float, nan, inf, fin, Format, binary64, emax, up, down, round, sum, add, lt, eq, le, fits, toUnsigned}
+use lib.Dec.{T, eqb, ltb→lt, eqb→eq, lit≤}
+use lib.Ieee.{Float, nan, inf, fin, binary64, up, down, round, sum, add, lt, eq, le, fits, toUnsigned}
 use lib.Ieee.Fits.{down-pos, and-l}
 use lib.Ieee.Exact.{HasValue}
 use lib.Ieee.Scale.{round-same}

@@ -1,5 +1,6 @@
-// Helpers that every other crate uses: clearing a lent list, Rust's functions on floats, and on numbers that must not wrap.
+// Helpers that every other crate uses: clearing a lent list and writing to its front, Rust's functions on floats, and on numbers that must not wrap.
 pub mod clear;
 pub mod floats;
+pub mod front;
 pub mod numbers;
 pub mod sizes;

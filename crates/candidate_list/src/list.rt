@@ -1,11 +1,11 @@
 // The operation itself.
+use basics::front;
 use grid::validate::Recording;
 use measure::plan;
 use request::refusal;
 use request::refusal::Verdict;
 use settings::config::PlanConfig;
 use silences::config::SegmentConfig;
-use silences::front;
 use silences::list;
 ghost use mathlib.Core.Path.{_≡_};
 ghost use Prim.Native.Nat.{_*_};

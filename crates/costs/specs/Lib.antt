@@ -7,8 +7,6 @@ pub mod Window
 pub mod WindowLaws
 -- Normalize: unit, minRange, rangeOf, normalizeOf
 pub mod Normalize
---   difference-finite     a finite f64 less a finite f32 is finite
-pub mod Difference
 --   OnScale, scale-finite  a number from 0 to 1
 --   Scaled, span-number, score-scale, decibel-scale   a normalised value is on the scale
 pub mod NormalizeLaws

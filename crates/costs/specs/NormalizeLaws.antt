@@ -14,7 +14,7 @@ use Rattle.grid.specs.ValuesLaws.{value-finite, value-number}
 use Rattle.grid.specs.declared.validate.Domain.the-variants.{Decibels, Scores}
 use Rattle.levels.specs.declared.threshold.Levels.{Levels}
 use Rattle.costs.specs.Normalize.{unit, minRange, rangeOf, normalizeOf}
-use Rattle.costs.specs.Difference.{difference-finite}
+use Rattle.laws.specs.Difference.{difference-finite}
 
 -- a number from 0 to 1
 pub record OnScale (x : Float) : Type 0 where

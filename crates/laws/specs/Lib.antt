@@ -38,6 +38,8 @@ pub mod Sums
 --   float-sub-within      it is no larger than a value of the format that bounds both, for values of the domain
 --   float-sub-finite      it is finite, for values of the domain that the format holds
 pub mod Differences
+--   difference-finite     a finite f64 less a finite f32 is finite
+pub mod Difference
 -- Numbers: results that are no NaN
 --   float-add-finite, float-sub-finite-number   a number and a finite value have a number as sum and difference
 pub mod Numbers

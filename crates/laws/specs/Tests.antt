@@ -1,10 +1,11 @@
 -- Tests as types: how a Bool made of `||` and `&&` is taken apart and put together. Every crate's proofs cite these.
-use mathlib.Core.Path.{_≡_, refl, sym, subst}
+use mathlib.Core.Path.{_≡_, refl, sym, subst, _∙_}
 use mathlib.Core.Logic.{_⊎_, inl, inr}
 use Prim.Native.Nat.{ℕ, _≤_, _<_}
 use mathlib.Core.Bool.{Bool, true, false, not, _&&_, _||_, cond}
 use lib.Dec.{T, ltb, ltb→lt, nltb→le}
 use lib.Ieee.{Float}
+use borrow.Author.Tests.{not-true, not-false}
 
 -- two tests that pass together are one
 pub same-test : (a b : Bool) → (T a → T b) → (T b → T a) → a ≡ b
@@ -55,3 +56,17 @@ cond-no false x y t = refl
 -- of two numbers one is below the other, or it is not
 pub lt-or-le : (a b : ℕ) → (a < b) ⊎ (b ≤ a)
 lt-or-le a b = elim (passes (ltb a b)) [ inl t ↦ inl (ltb→lt a b t) | inr t ↦ inr (nltb→le a b t) ]
+
+-- ---- a program's `if !test`, where the test is equal to a definition b
+
+-- where it is taken
+pub test-failed : {r b : Bool} → r ≡ b → not r ≡ true → b ≡ false
+test-failed {r} e n = sym e ∙ not-true r n
+
+-- where it is passed over
+pub test-passed : {r b : Bool} → r ≡ b → not r ≡ false → b ≡ true
+test-passed {r} e n = sym e ∙ not-false r n
+
+-- nothing follows a test that failed
+pub unmet : {A : Type 0} → false ≡ true → A
+unmet e = absurd (holds e)

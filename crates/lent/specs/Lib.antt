@@ -1,6 +1,4 @@
 -- The tests of "path over lent candidates" that need no path, and what they leave for the search.
--- Tests: test-failed, test-passed, unmet   what a program's `if !test` says
-pub mod Tests
 -- Ends: maxCandidates; listsOk (15); endOk, endsFrom, endsOk (16)
 pub mod Ends
 --   Ending, ending-start, ending-limit, ending-next, ending-fails, ending-done   the loop over the candidates

@@ -1,6 +1,6 @@
 -- What work memory holds once a recording is measured, and what measuring needs.
-use mathlib.Core.Path.{_≡_, refl, sym, ap, subst, _∙_}
-use mathlib.Core.List.{List, [], _∷_, _++_}
+use mathlib.Core.Path.{_≡_, sym, ap, subst, _∙_}
+use mathlib.Core.List.{List, _++_}
 use Prim.Native.Nat.{ℕ, suc, _+_, _-_, _*_, _/_, _≤_}
 use native.Mathlib.Numerals.{add-one}
 use native.Mathlib.Omega.{arith}
@@ -13,7 +13,7 @@ use Rattle.grid.specs.Durations.{InFrames, framesIn}
 use Rattle.grid.specs.declared.validate.Recording.{Recording}
 use Rattle.levels.specs.declared.threshold.Levels.{Levels}
 use Rattle.sounds.specs.Quiet.{belowOff, quietRuns}
-use Rattle.sounds.specs.QuietLaws.{quiet-length}
+use Rattle.sounds.specs.QuietLaws.{quiet-length, below-length}
 use Rattle.sounds.specs.Sounds.{soundsOf}
 use Rattle.sounds.specs.SoundsLaws.{sounds-length}
 use Rattle.sounds.specs.Silences.{silencesOf}
@@ -87,12 +87,6 @@ module _ (r : Recording) (segment : SegmentConfig) (values : List Float) (flags 
         (even ∙ is, ap (λ (k : ℕ). take k list) even ∙ rw h (take-at s (drop (length s) list₀) numbers (sym m)) ∙ silences-by)
 
 -- ---- all of it
-
-below-length : (off : Float) (values : List Float) (flags : List ℕ) → length flags ≡ length values → length (belowOff off values flags) ≡ length values
-unfolding belowOff
-below-length off [] flags e = refl
-below-length off (v ∷ values) [] e = e
-below-length off (v ∷ values) (f ∷ flags) e = ap suc (below-length off values flags (omega arith))
 
 module _ (r : Recording) (segment : SegmentConfig) (values : List Float) (flags : List ℕ) (lent : List Float) (n32 nf : ℕ) (m : Measurable r segment values flags lent n32 nf)
     (count : ℕ) (l : Levels) (work : List ℕ) (is : l ≡ scaleOf (r .domain) (heardIn r segment values flags)) (counted : 2 * count ≡ length (silencesIn r segment values flags))

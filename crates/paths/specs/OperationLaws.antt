@@ -1,18 +1,17 @@
 -- Each end of the operation, and of the search inside it, is what the definition gives; and the costs copied into work memory.
-use mathlib.Core.Path.{_≡_, refl, sym, ap, _∙_}
+use mathlib.Core.Path.{_≡_, refl, ap}
 use mathlib.Core.Bool.{true, false}
-use mathlib.Core.List.{List, _++_, append-nil}
+use mathlib.Core.List.{List, _++_}
 use Prim.Native.Nat.{ℕ, _+_, _-_, _*_, _≤_, _<_}
 use native.Mathlib.Nat.{mul-le-mul}
-use native.Mathlib.Numerals.{add-one}
 use native.Mathlib.Omega.{arith}
 use borrow.Author.Tests.{le-leb, lt-leb}
 use borrow.Rule.Slice.PartMut.{putMid}
-use lib.Ieee.{Float, nan, binary64, ofBits}
-use lib.ListN.{length, getD, take, drop, set, length-append, length-take, length-drop}
-use lib.Seq.{take-suc, take-length, drop-length, length-take-le, take-at, drop-at}
+use lib.Ieee.{Float, binary64, ofBits}
+use lib.ListN.{length, take, drop, length-append, length-take, length-drop}
+use lib.Seq.{length-take-le, take-at, drop-at}
 use Rattle.basics.specs.Lists.{filled}
-use Rattle.basics.specs.Front.{onto, onto-next}
+use Rattle.basics.specs.Front.{onto}
 use Rattle.pieces.specs.declared.lengths.Lengths.{Lengths}
 use Rattle.pieces.specs.declared.mode.Mode.{Mode}
 use Rattle.pieces.specs.declared.mode.Mode.the-variants.{ByLength, ByCount}
@@ -30,24 +29,6 @@ use Rattle.lent.specs.declared.refusal.Verdict.{Verdict}
 use Rattle.paths.specs.declared.seek.Answer.{Answer}
 use Rattle.paths.specs.declared.seek.Answer.the-variants.{Found, Refused, ShortParent, ShortPath}
 use Rattle.paths.specs.Operation.{Outcome, handedOf, soughtOf, Workable, End, pathOf}
-
--- ---- a list copied over another
-
--- what holds while the first i elements are copied
-abbrev pub Copying : List Float → List Float → ℕ → List Float → ℕ → Type 0
-Copying from to₀ end to i = (i ≤ length from) × (end ≡ length from) × (length to₀ ≡ length from) × (length to ≡ length to₀) × (to ≡ onto (take i from) to₀)
-
-pub copying-next : (from to₀ : List Float) (end : ℕ) (to : List Float) (i : ℕ) → i < end → Copying from to₀ end to i → set to i (getD from i nan) ≡ onto (take (i + 1) from) to₀
-copying-next from to₀ end to i h (a, b, c, d, e) =
-    ap (λ (xs : List Float). set xs i (getD from i nan)) e
-    ∙ onto-next (take i from) to₀ i (getD from i nan) (length-take-le i from a) (omega arith)
-    ∙ ap (λ (xs : List Float). onto xs to₀) (sym (take-suc from i nan (omega arith)) ∙ ap (λ (n : ℕ). take n from) (sym (add-one i)))
-
-pub copying-done : (from to₀ : List Float) (end : ℕ) (to : List Float) (i : ℕ) → end ≤ i → Copying from to₀ end to i → to ≡ from
-unfolding onto
-copying-done from to₀ end to i h (a, b, c, d, e) =
-    let q : i ≡ length from = omega arith in
-    e ∙ rw (q, take-length, ← c, drop-length, append-nil)
 
 -- ---- a part of a list in its middle is what was put there
 

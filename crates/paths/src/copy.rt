@@ -1,4 +1,5 @@
 // The lent costs copied into work memory: two parts of one list cannot be lent at once, so the search has scores and cuts in one list.
+use basics::front;
 ghost use mathlib.Core.Path.{_≡_};
 ghost use lib.ListN.{length};
 
@@ -7,7 +8,5 @@ pub fn copy_f64(from: &[f64], to: &mut [f64])
     requires { ⌜ length (now to) ≡ length (now from) ⌝ }
     ensures { λ _. ⌜ now (to .exit) ≡ now (from .entry) ⌝ }
 {
-    for i in 0..from.len() {
-        to[i] = from[i];
-    }
+    front::put_front_f64(from, to);
 }

@@ -1,3 +1,2 @@
 pub mod Silences
 pub mod SilencesLaws
-pub mod Front

@@ -2,11 +2,12 @@
 -- `silenceListOf` is what the entry point's contract cites; SilencesLaws has a law for each of its ends.
 use Prim.Native.Nat.{ℕ, _+_, _*_, _/_}
 use mathlib.Core.Bool.{Bool, true, false, _&&_, cond}
-use mathlib.Core.List.{List, _++_}
+use mathlib.Core.List.{List}
 use lib.Dec.{leb}
 use lib.Ieee.{Float, binary64, ofBits}
-use lib.ListN.{length, drop}
+use lib.ListN.{length}
 use Rattle.basics.specs.Lists.{filled}
+use Rattle.basics.specs.Front.{onto}
 use Rattle.grid.specs.Limits.{maxDuration}
 use Rattle.grid.specs.Durations.{framesIn}
 use Rattle.grid.specs.Validate.{validityOf, refusalOf}
@@ -112,15 +113,11 @@ pub record End : Type 0 where
 abbrev pub pick : Bool → End → End → End
 pick test a b = cond test a b
 
--- the silences at the front of the output, which is untouched beyond them
-abbrev pub written : List ℕ → List ℕ → List ℕ
-written silences out = silences ++ drop (length silences) out
-
--- 12 or the list: either way work memory is zeroed whole
+-- 12 or the list at the front of the output, which is untouched beyond it: either way work memory is zeroed whole
 unfoldable pub listedOf : List ℕ → List ℕ → List ℕ → List ℕ → List Float → End
 listedOf silences out work32 work64 workf =
     pick (leb (length silences) (length out))
-    (record { answer = Found (length silences / 2); out = written silences out; work32 = filled 0 work32; work64 = filled 0 work64; workf = filled (ofBits binary64 0) workf })
+    (record { answer = Found (length silences / 2); out = onto silences out; work32 = filled 0 work32; work64 = filled 0 work64; workf = filled (ofBits binary64 0) workf })
     (record { answer = ShortOutput; out = out; work32 = filled 0 work32; work64 = filled 0 work64; workf = filled (ofBits binary64 0) workf })
 
 -- a refusal before 12 leaves every list as it was; else the silences are listed

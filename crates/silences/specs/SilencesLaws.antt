@@ -1,22 +1,23 @@
 -- One law for each end of the operation "silence list", under what has passed before it.
-use mathlib.Core.Path.{_≡_, refl, sym, ap, subst, _∙_}
-use mathlib.Core.Bool.{Bool, true, false, _&&_, cond}
-use mathlib.Core.List.{List}
-use Prim.Native.Nat.{ℕ, _+_, _*_, _/_, _≤_, _<_}
+use mathlib.Core.Path.{_≡_, refl, sym, ap, _∙_}
+use mathlib.Core.Bool.{Bool, true, false, _&&_}
+use mathlib.Core.List.{List, _++_}
+use Prim.Native.Nat.{ℕ, _+_, _/_, _≤_, _<_}
 use native.Mathlib.Omega.{arith}
-use lib.Dec.{T, leb, eqb, leb→le, eqb→eq}
+use lib.Dec.{leb, leb→le, eqb→eq}
 use lib.Ieee.{Float, binary64, ofBits}
 use lib.ListN.{length, take, drop, length-take}
 use lib.Seq.{take-at}
 use borrow.Author.Tests.{le-leb, lt-leb}
 use Rattle.laws.specs.Tests.{holds, both}
+use Rattle.basics.specs.Front.{onto}
 use Rattle.basics.specs.Lists.{allOf, filled}
 use Rattle.grid.specs.Limits.{maxFrameRate, maxHop, maxFrames, maxDuration}
 use Rattle.grid.specs.Durations.{InFrames, framesIn}
 use Rattle.grid.specs.Values.{isFinite}
 use Rattle.grid.specs.ValuesLaws.{values-finite}
-use Rattle.grid.specs.Validate.{validityOf, levelCount}
-use Rattle.grid.specs.ValidateLaws.{Passed, passed, frames-parts, lists-parts, within-most, within-pos}
+use Rattle.grid.specs.Validate.{validityOf}
+use Rattle.grid.specs.ValidateLaws.{passed, frames-parts, lists-parts, within-most, within-pos}
 use Rattle.grid.specs.declared.validate.Recording.{Recording}
 use Rattle.grid.specs.declared.validate.Validity.{Validity}
 use Rattle.grid.specs.declared.validate.Validity.the-variants.{Valid, BadSampleRate, NoChannels, BadFrames, BadLists, BadValue, NotCovered}
@@ -25,7 +26,7 @@ use Rattle.levels.specs.Levels.{thresholdsOf}
 use Rattle.levels.specs.declared.threshold.Thresholds.{Thresholds}
 use Rattle.sounds.specs.Sounds.{soundsOf}
 use Rattle.sounds.specs.Silences.{silencesOf}
-use Rattle.silences.specs.Silences.{durationsOk, workOk, workLength, soundsIn, silencesIn, isValid, orElse, whenValid, firstRefusal, isFound, End, written, listedOf, silenceListOf}
+use Rattle.silences.specs.Silences.{durationsOk, workOk, workLength, soundsIn, silencesIn, isValid, orElse, whenValid, firstRefusal, isFound, End, listedOf, silenceListOf}
 use Rattle.silences.specs.declared.config.SegmentConfig.{SegmentConfig}
 use Rattle.silences.specs.declared.list.Answer.{Answer}
 use Rattle.silences.specs.declared.list.Answer.the-variants.{Found, BadRecording, LongDuration, BadThreshold, ShortWork, ShortOutput}
@@ -157,7 +158,7 @@ module _ (silences out work32 work64 : List ℕ) (workf : List Float) (w32 w64 :
   listed-short h = rw (lt-leb (length silences) (length out) h, e32, e64, ef)
 
   -- it has room
-  pub listed-found : (n : ℕ) (out′ : List ℕ) → length silences ≡ n → n ≤ length out → out′ ≡ written silences out
+  pub listed-found : (n : ℕ) (out′ : List ℕ) → length silences ≡ n → n ≤ length out → out′ ≡ onto silences out
       → _≡_ {A = End} (record { answer = Found (n / 2); out = out′; work32 = w32; work64 = w64; workf = wf }) (listedOf silences out work32 work64 workf)
   unfolding listedOf
   listed-found n out′ l h e = rw (le-leb (length silences) (length out) (omega arith), e32, e64, ef, e, ← l)
@@ -173,7 +174,7 @@ module _ (r : Recording) (c : SegmentConfig) (values : List Float) (flags : List
 
     -- at the front of a list, by their number
     pub silences-front : (list list₀ : List ℕ) (n : ℕ) → n ≡ length (silencesOf (soundsOf (t .on) (t .off) minSound minSilence values flags))
-        → list ≡ written (silencesOf (soundsOf (t .on) (t .off) minSound minSilence values flags)) list₀
+        → list ≡ silencesOf (soundsOf (t .on) (t .off) minSound minSilence values flags) ++ drop (length (silencesOf (soundsOf (t .on) (t .off) minSound minSilence values flags))) list₀
         → (n ≡ length (silencesIn r c values flags)) × (take n list ≡ silencesIn r c values flags)
     silences-front list list₀ n l h =
         let s = silencesOf (soundsOf (t .on) (t .off) minSound minSilence values flags) in

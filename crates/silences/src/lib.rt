@@ -1,5 +1,4 @@
 // The operation "silence list": from a recording and its segment settings to the list of its silences.
 // The contract of `list::silence_list` cites specs/Silences.
 pub mod config;
-pub mod front;
 pub mod list;

@@ -1,7 +1,7 @@
 // The operation itself.
 use crate::config;
 use crate::config::SegmentConfig;
-use crate::front;
+use basics::front;
 use grid::validate::Recording;
 use grid::validate::Validity;
 ghost use mathlib.Core.Path.{_≡_};

@@ -39,7 +39,13 @@ module _ (off : Float) (values : List Float) (flags : List ℕ) where
       sym (append-nil below) ∙ sym (ap (λ (t : List ℕ). t ++ []) (take-all i below (omega arith)))
       ∙ sym (ap (λ (vs : List Float). take i below ++ belowOff off vs (drop i flags)) (drop-of-length-le values {i = i} (omega arith))) ∙ w .left
 
--- there is a number for each frame
+-- there is a number for each frame, and a flag
 pub quiet-length : (below : List ℕ) → length (quietRuns below) ≡ length below
 unfolding quietRuns
 quiet-length = each-length 1 own
+
+pub below-length : (off : Float) (values : List Float) (flags : List ℕ) → length flags ≡ length values → length (belowOff off values flags) ≡ length values
+unfolding belowOff
+below-length off [] flags e = refl
+below-length off (v ∷ values) [] e = e
+below-length off (v ∷ values) (f ∷ flags) e = ap suc (below-length off values flags (omega arith))

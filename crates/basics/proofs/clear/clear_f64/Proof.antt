@@ -1,7 +1,6 @@
 -- `clear::clear_f64` fills the list with zero from the left.
 use borrow.Author.Needs.{needs}
 use Prim.Native.Nat.{_-_}
-use lib.ListN.{length}
 use lib.Ieee.{binary64, ofBits}
 use Rattle.basics.specs.Lists.{Filling, filling-next, filling-done}
 use Rattle.basics.proofs.clear.clear_f64.Statement.{statement}

@@ -1,7 +1,6 @@
 -- `clear::clear_u32` fills the list with zero from the left.
 use borrow.Author.Needs.{needs}
 use Prim.Native.Nat.{_-_}
-use lib.ListN.{length}
 use Rattle.basics.specs.Lists.{Filling, filling-next, filling-done}
 use Rattle.basics.proofs.clear.clear_u32.Statement.{statement}
 use Rattle.basics.proofs.clear.clear_u32.Tie as tie

@@ -1,7 +1,6 @@
 -- x + x is exact and below 2^53; half of its whole part plus one is x rounded.
-use borrow.Author.Needs.{needs}
 use native.Mathlib.Omega.{arith}
-use mathlib.Core.Path.{_≡_, refl, ap, _∙_}
+use mathlib.Core.Path.{ap, _∙_}
 use Prim.Native.Nat.{_+_, _/_, ℕ}
 use lib.Dec.{T}
 use lib.IntN.{pos}

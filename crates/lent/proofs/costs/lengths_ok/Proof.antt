@@ -1,7 +1,7 @@
 -- `costs::lengths_ok`: each end has passed the tests before it.
 use borrow.Author.Needs.{needs}
 use Rattle.laws.specs.Tests.{holds}
-use Rattle.lent.specs.Tests.{test-failed, test-passed, unmet}
+use Rattle.laws.specs.Tests.{test-failed, test-passed, unmet}
 use Rattle.lent.specs.Costs.{lengthsOk}
 use Rattle.lent.proofs.costs.lengths_ok.Statement.{statement}
 use Rattle.lent.proofs.costs.lengths_ok.Tie as tie

@@ -1,7 +1,7 @@
 -- `ends::ends_ok` tests one candidate after another, each with the right end before it, and stops at the first that fails.
 use borrow.Author.Needs.{needs}
 use Prim.Native.Nat.{_-_}
-use Rattle.lent.specs.Tests.{test-failed, test-passed}
+use Rattle.laws.specs.Tests.{test-failed, test-passed}
 use Rattle.lent.specs.EndsLaws.{Ending, ending-start, ending-limit, ending-next, ending-fails, ending-done}
 use Rattle.lent.proofs.ends.ends_ok.Statement.{statement}
 use Rattle.lent.proofs.ends.ends_ok.Tie as tie

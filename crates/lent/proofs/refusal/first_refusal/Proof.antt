@@ -1,7 +1,7 @@
 -- `refusal::first_refusal` is the chain: each end has passed the tests before it. `one` to `five` are the places after the tests that passed.
 use borrow.Author.Needs.{needs}
 use borrow.Author.Tests.{not-false}
-use Rattle.lent.specs.Tests.{test-failed, test-passed, unmet}
+use Rattle.laws.specs.Tests.{test-failed, test-passed, unmet}
 use Rattle.lent.specs.EndsLaws.{lists-parts}
 use Rattle.lent.specs.RefusalLaws.{fails-lists, fails-ends, fails-costs, fails-lengths, fails-count, fails-work, passes}
 use Rattle.lent.proofs.refusal.first_refusal.Statement.{statement}

@@ -1,6 +1,6 @@
 -- `operation::best_path` refuses before it writes, or searches and then clears every work list whole: one law for each of the two ends.
 use denote.Ref.{now}
-use Rattle.lent.specs.Tests.{test-failed, test-passed}
+use Rattle.laws.specs.Tests.{test-failed, test-passed}
 use Rattle.lent.specs.RefusalLaws.{passed-lent}
 use Rattle.paths.specs.OperationLaws.{workable, path-refused, path-sought, filled-same}
 use borrow.Author.Needs.{needs}

@@ -5,7 +5,7 @@ use mathlib.Core.Path.{_≡_, ap, _∙_}
 use mathlib.Core.Bool.{Bool}
 use Rattle.grid.specs.declared.validate.Validity.{Validity}
 use Rattle.silences.specs.Silences.{isValid}
-use Rattle.lent.specs.Tests.{test-failed, test-passed}
+use Rattle.laws.specs.Tests.{test-failed, test-passed}
 use Rattle.request.specs.RefusalLaws.{valid-few, fails-recording, fails-durations, fails-count, fails-ratio, fails-weights, fails-threshold, fails-work, passes}
 use Rattle.request.specs.declared.refusal.Verdict.the-variants.{BadRecording}
 use Rattle.request.proofs.refusal.first_refusal.Statement.{statement}

@@ -1,12 +1,12 @@
 -- What holds while a loop that ends at `end` copies a list to the front of another.
 use mathlib.Core.Path.{_≡_, refl, sym, ap, _∙_}
-use mathlib.Core.List.{List, [], _∷_, _++_}
+use mathlib.Core.List.{List, _++_}
 use Prim.Native.Nat.{ℕ, suc, _+_, _≤_, _<_}
 use native.Mathlib.Numerals.{add-one}
 use native.Mathlib.Omega.{arith}
 use lib.ListN.{length, getD, take, drop, set, length-set}
 use lib.Seq.{drop-cons, take-suc, take-all, append-snoc, set-at, length-take-le}
 use Rattle.basics.specs.Front.{onto}
 
 pub record Copying {A : Type 0} (list out₀ : List A) (end : ℕ) (out : List A) (i : ℕ) : Type 0 where
   pub within : i ≤ length list

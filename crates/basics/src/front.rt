@@ -2,13 +2,12 @@
 ghost use mathlib.Core.Path.{_≡_};
 ghost use Prim.Native.Nat.{_≤_};
 ghost use lib.ListN.{length};
 ghost use Rattle.basics.specs.Front.{onto};
-ghost use Rattle.silences.specs.Silences.{written};
 
 // Writes a list to the front of one that is not shorter.
 pub fn put_front(list: &[u32], out: &mut [u32])
     requires { ⌜ length (now list) ≤ length (now out) ⌝ }
-    ensures { λ _. ⌜ now (out .exit) ≡ written (now (list .entry)) (now (out .entry)) ⌝ }
+    ensures { λ _. ⌜ now (out .exit) ≡ onto (now (list .entry)) (now (out .entry)) ⌝ }
 {
     for i in 0..list.len() {
         out[i] = list[i];

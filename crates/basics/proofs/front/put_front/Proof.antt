@@ -1,10 +1,9 @@
--- `front::put_front_f64` copies one element after another.
+-- `front::put_front` copies one number after another.
 use borrow.Author.Needs.{needs}
 use Prim.Native.Nat.{_-_}
-use lib.Ieee.{nan}
-use Rattle.silences.specs.Front.{Copying, copying-start, copying-next, copying-done}
-use Rattle.silences.proofs.front.put_front_f64.Statement.{statement}
-use Rattle.silences.proofs.front.put_front_f64.Tie as tie
+use Rattle.basics.specs.Copying.{Copying, copying-start, copying-next, copying-done}
+use Rattle.basics.proofs.front.put_front.Statement.{statement}
+use Rattle.basics.proofs.front.put_front.Tie as tie
 
 abbrev Inv-loop : tie.InvT-loop
 Inv-loop list out₀ i₀ i-end out i = Copying list out₀ i-end out i
@@ -34,7 +33,7 @@ loop-less : tie.Need-loop-less Inv-loop μ-loop
 loop-less c = search needs
 
 loop-again : tie.Need-loop-again Inv-loop μ-loop
-loop-again c = copying-next _ _ _ _ _ (c .before .before .loop .inv) nan (c .before .loop-test .taken)
+loop-again c = copying-next _ _ _ _ _ (c .before .before .loop .inv) 0 (c .before .loop-test .taken)
 
 same-length : tie.Need-same-length Inv-loop μ-loop
 same-length c = search needs
@@ -42,8 +41,8 @@ same-length c = search needs
 returns : tie.Need-returns Inv-loop μ-loop
 returns c = copying-done _ _ _ _ _ (c .before .loop .inv) (c .loop-test .left)
 
-pub put-front-f64-spec : {M : Type 1} → statement M
-put-front-f64-spec =
+pub put-front-spec : {M : Type 1} → statement M
+put-front-spec =
     tie.close
     (tie.spec
     Inv-loop
