@@ -12,3 +12,7 @@ pub mod SpanLaws
 pub mod PlanLaws
 -- Ready: what passes the tests of a plan can be planned (`ready-plannable`)
 pub mod Ready
+-- Stretches: no stretch below off is longer than the recording (`stretches-most`)
+pub mod Stretches
+-- Theorems: the list that is handed out (`found-are`) is one of which all theorems on candidates hold (`found-planned`, `found-costed`)
+pub mod Theorems
