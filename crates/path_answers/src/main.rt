@@ -1,6 +1,5 @@
 // Replays a stored sample of the Rust's paths over lent candidates, which stands on standard input, and prints how many differ.
 // What a record holds is said in record.rt.
-mod answer;
 mod record;
 
 use stored::record::differs;

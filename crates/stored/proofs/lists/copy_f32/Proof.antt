@@ -1,19 +1,23 @@
 -- One place after another; sample and list have as many numbers as are asked for.
 use borrow.Author.Needs.{needs}
-use mathlib.Core.Path.{_≡_}
-use Prim.Native.Nat.{_-_, _≤_}
-use lib.ListN.{length}
+use mathlib.Core.Path.{_≡_, refl, _∙_}
+use native.Mathlib.Omega.{arith}
+use Prim.Native.Nat.{ℕ, _+_, _-_, _*_, _≤_}
+use lib.ListN.{length, length-set}
+use Rattle.basics.specs.Front.{onto, tabulate}
+use Rattle.stored.specs.Sample.{f32At}
+use Rattle.stored.specs.SampleLaws.{copied-start, copied-next, copied-done}
 use Rattle.stored.proofs.lists.copy_f32.Statement.{statement}
 use Rattle.stored.proofs.lists.copy_f32.Tie as tie
 
 abbrev Inv-loop : tie.InvT-loop
-Inv-loop s at n list₀ i₀ list i = (i ≤ n) × (length list ≡ length list₀)
+Inv-loop s at n list₀ i₀ list i = (i ≤ n) × (length list ≡ length list₀) × (list ≡ onto (tabulate (λ (j : ℕ). f32At s (at + 4 * j)) i) list₀)
 
 abbrev μ-loop : tie.MeasureT-loop
 μ-loop s at n list₀ i₀ list i = n - i
 
 loop-holds : tie.Need-loop-holds Inv-loop μ-loop
-loop-holds c = search needs
+loop-holds c = let s = c .before .before in (omega arith, refl, copied-start (λ (j : ℕ). f32At (s .args .s .now) (s .args .at + 4 * j)) (s .args .list .now))
 
 mul-f32-at : tie.Need-mul-f32-at Inv-loop μ-loop
 mul-f32-at c = search needs
@@ -37,13 +41,16 @@ loop-less : tie.Need-loop-less Inv-loop μ-loop
 loop-less c = search needs
 
 loop-again : tie.Need-loop-again Inv-loop μ-loop
-loop-again c = search needs
+loop-again c =
+    let s = c .before .before .before .before .before in
+    let l = c .before .before .loop in
+    (omega (arith, c .before .loop-test .taken), length-set (l .list) (l .i) (c .f32-at .result) ∙ l .inv .1, copied-next (λ (j : ℕ). f32At (s .args .s .now) (s .args .at + 4 * j)) (s .args .list .now) (l .list) (l .i) (c .f32-at .result) (omega (arith, c .before .loop-test .taken, s .pre .1)) (l .inv .2) (c .f32-at .ensures))
 
 same-length : tie.Need-same-length Inv-loop μ-loop
 same-length c = search needs
 
 returns : tie.Need-returns Inv-loop μ-loop
-returns c = search needs
+returns c = let s = c .before .before .before .before in let l = c .before .loop in copied-done (λ (j : ℕ). f32At (s .args .s .now) (s .args .at + 4 * j)) (s .args .list .now) (l .list) (l .i) (s .args .n) (l .inv .0) (c .loop-test .left) (l .inv .2)
 
 pub copy-f32-spec : {M : Type 1} → statement M
 copy-f32-spec =

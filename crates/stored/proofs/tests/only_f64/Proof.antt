@@ -1,19 +1,20 @@
 -- One place after another, up to the list's end.
 use borrow.Author.Needs.{needs}
-use mathlib.Core.Path.{_≡_}
-use Prim.Native.Nat.{_-_, _≤_}
-use lib.ListN.{length}
+use Prim.Native.Nat.{_-_}
+use lib.Ieee.{nan}
+use Rattle.basics.specs.Lists.{Tested, tested-start, tested-next, tested-done}
+use Rattle.stored.specs.Sample.{hasBits}
 use Rattle.stored.proofs.tests.only_f64.Statement.{statement}
 use Rattle.stored.proofs.tests.only_f64.Tie as tie
 
 abbrev Inv-loop : tie.InvT-loop
-Inv-loop list x ok₀ i₀ i-end ok i = (i ≤ i-end) × (i-end ≡ length list)
+Inv-loop list x ok₀ i₀ i-end ok i = Tested (hasBits x) list i-end ok i
 
 abbrev μ-loop : tie.MeasureT-loop
 μ-loop list x ok₀ i₀ i-end ok i = i-end - i
 
 loop-holds : tie.Need-loop-holds Inv-loop μ-loop
-loop-holds c = search needs
+loop-holds c = tested-start (hasBits (c .before .args .x)) (c .before .args .list .now)
 
 mul-bits : tie.Need-mul-bits Inv-loop μ-loop
 mul-bits c = search needs
@@ -34,10 +35,10 @@ loop-less : tie.Need-loop-less Inv-loop μ-loop
 loop-less c = search needs
 
 loop-again : tie.Need-loop-again Inv-loop μ-loop
-loop-again c = search needs
+loop-again c = tested-next (hasBits (c .before .before .before .before .before .before .args .x)) _ _ _ nan _ _ (c .before .before .before .loop-test .taken) (rw (c .before .bits .ensures, c .bits2 .ensures)) (c .before .before .before .before .loop .inv)
 
 returns : tie.Need-returns Inv-loop μ-loop
-returns c = search needs
+returns c = tested-done (hasBits (c .before .before .before .args .x)) _ _ _ _ (c .loop-test .left) (c .before .loop .inv)
 
 pub only-f64-spec : {M : Type 1} → statement M
 only-f64-spec =

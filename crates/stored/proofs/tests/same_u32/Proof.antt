@@ -2,18 +2,20 @@
 use borrow.Author.Needs.{needs}
 use mathlib.Core.Path.{_≡_}
 use Prim.Native.Nat.{_-_, _≤_}
-use lib.ListN.{length}
+use native.Mathlib.Omega.{arith}
+use Rattle.stored.specs.Sample.{allBelow, sameAt}
+use Rattle.stored.specs.SampleLaws.{below-start, below-next}
 use Rattle.stored.proofs.tests.same_u32.Statement.{statement}
 use Rattle.stored.proofs.tests.same_u32.Tie as tie
 
 abbrev Inv-loop : tie.InvT-loop
-Inv-loop n list s at ok₀ i₀ ok i = i ≤ n
+Inv-loop n list s at ok₀ i₀ ok i = (i ≤ n) × (ok ≡ allBelow (sameAt list s at) i)
 
 abbrev μ-loop : tie.MeasureT-loop
 μ-loop n list s at ok₀ i₀ ok i = n - i
 
 loop-holds : tie.Need-loop-holds Inv-loop μ-loop
-loop-holds c = search needs
+loop-holds c = let s = c .before .before in (omega arith, below-start (sameAt (s .args .list .now) (s .args .s .now) (s .args .at)))
 
 mul-ok : tie.Need-mul-ok Inv-loop μ-loop
 mul-ok c = search needs
@@ -37,10 +39,17 @@ loop-less : tie.Need-loop-less Inv-loop μ-loop
 loop-less c = search needs
 
 loop-again : tie.Need-loop-again Inv-loop μ-loop
-loop-again c = search needs
+loop-again c =
+    let s = c .before .before .before .before .before .before in
+    let l = c .before .before .before .loop in
+    (omega (arith, c .before .before .loop-test .taken), below-next (sameAt (s .args .list .now) (s .args .s .now) (s .args .at)) (l .i) (l .ok) _ (l .inv .1) (rw (c .u32-at .ensures)))
 
 returns : tie.Need-returns Inv-loop μ-loop
-returns c = search needs
+returns c =
+    let s = c .before .before .before .before in
+    let l = c .before .loop in
+    let z : l .i ≡ s .args .n = omega (arith, l .inv .0, c .loop-test .left) in
+    rw (← z) (l .inv .1)
 
 pub same-u32-spec : {M : Type 1} → statement M
 same-u32-spec =

@@ -2,8 +2,8 @@
 use lib.Seq.{length-take-le}
 use borrow.Author.Needs.{needs}
 use mathlib.Core.Path.{sym}
-use Rattle.silence_answers.proofs.answer.same.Statement.{statement}
-use Rattle.silence_answers.proofs.answer.same.Tie as tie
+use Rattle.silence_answers.proofs.record.same.Statement.{statement}
+use Rattle.silence_answers.proofs.record.same.Tie as tie
 
 mul-flags : tie.Need-mul-flags
 mul-flags c = search needs

@@ -2,8 +2,8 @@
 use lib.Seq.{length-take-le}
 use borrow.Author.Needs.{needs}
 use mathlib.Core.Path.{sym}
-use Rattle.path_answers.proofs.answer.same.Statement.{statement}
-use Rattle.path_answers.proofs.answer.same.Tie as tie
+use Rattle.path_answers.proofs.record.same.Statement.{statement}
+use Rattle.path_answers.proofs.record.same.Tie as tie
 
 mul-rights : tie.Need-mul-rights
 mul-rights c = search needs
