@@ -1,4 +1,6 @@
 // What came of one record.
+ghost use mathlib.Core.Path.{_≡_};
+ghost use mathlib.Core.Bool.{false, cond};
 ghost use Prim.Native.Nat.{_≤_, _<_};
 ghost use lib.ListN.{length};
 
@@ -13,6 +15,7 @@ pub fn broken(s: &[u8]) -> Replayed
     requires { ⌜ 0 < length (now s) ⌝ }
     ensures { λ r. ⌜ 0 < r .size ⌝ }
     ensures { λ r. ⌜ r .size ≤ length (now (s .entry)) ⌝ }
+    ensures { λ r. ⌜ r ≡ record { size = length (now (s .entry)); same = false } ⌝ }
 {
     Replayed {
         size: s.len(),
@@ -23,6 +26,7 @@ pub fn broken(s: &[u8]) -> Replayed
 // 1 where the port's answer is another one.
 pub fn differs(replayed: Replayed) -> u64
     ensures { λ r. ⌜ r ≤ 1 ⌝ }
+    ensures { λ r. ⌜ r ≡ cond (replayed .same) 0 1 ⌝ }
 {
     if replayed.same { 0 } else { 1 }
 }
