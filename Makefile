@@ -17,9 +17,9 @@ PARTS ?= all
 FEATURES ?= silences,candidates,path
 PART ?= grid
 COUNT ?= 1024
-SAMPLE_grid := crates/answers/stdin
-SAMPLE_silences := crates/silence_answers/stdin
-SAMPLE_path := crates/path_answers/stdin
+SAMPLE_grid := crates/answers_grid/stdin
+SAMPLE_silences := crates/answers_silences/stdin
+SAMPLE_path := crates/answers_path/stdin
 SAMPLE ?= $(SAMPLE_$(PART))
 
 STATICLIB := target/staticlib/libcapi.a

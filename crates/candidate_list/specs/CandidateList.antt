@@ -6,14 +6,13 @@ use mathlib.Core.List.{List}
 use lib.Dec.{leb}
 use lib.Ieee.{Float, binary64, ofBits}
 use lib.ListN.{length}
-use Rattle.basics.specs.Lists.{filled}
-use Rattle.basics.specs.Front.{onto}
+use Rattle.base_terms.specs.Lists.{filled, onto}
 use Rattle.grid.specs.declared.validate.Recording.{Recording}
-use Rattle.silences.specs.declared.config.SegmentConfig.{SegmentConfig}
-use Rattle.settings.specs.declared.config.PlanConfig.{PlanConfig}
-use Rattle.request.specs.Refusal as request
+use Rattle.silence_list.specs.declared.config.SegmentConfig.{SegmentConfig}
+use Rattle.candidate_settings.specs.declared.config.PlanConfig.{PlanConfig}
+use Rattle.plan_tests.specs.Refusal as request
 use Rattle.candidates.specs.Held.{entriesOf, costsOf}
-use Rattle.measure.specs.Measure.{candidatesIn}
+use Rattle.candidate_finder.specs.Measure.{candidatesIn}
 use Rattle.candidate_list.specs.declared.list.Answer.{Answer}
 use Rattle.candidate_list.specs.declared.list.Answer.the-variants.{Found, Refused, ShortOutput}
 

@@ -8,18 +8,17 @@ use lib.Dec.{leb}
 use lib.Ieee.{Float, binary64, ofBits}
 use lib.ListN.{length, take, drop, length-take, length-drop}
 use borrow.Author.Tests.{le-leb, lt-leb, leb-true, leb-false}
-use Rattle.laws.specs.Tests.{both}
-use Rattle.basics.specs.Lists.{filled}
-use Rattle.basics.specs.Front.{onto}
+use Rattle.base_laws.specs.Tests.{both}
+use Rattle.base_terms.specs.Lists.{filled, onto}
 use Rattle.grid.specs.declared.validate.Recording.{Recording}
-use Rattle.silences.specs.declared.config.SegmentConfig.{SegmentConfig}
-use Rattle.settings.specs.declared.config.PlanConfig.{PlanConfig}
-use Rattle.request.specs.Refusal.{firstRefusalOf, isFine}
-use Rattle.request.specs.declared.refusal.Verdict.{Verdict}
+use Rattle.silence_list.specs.declared.config.SegmentConfig.{SegmentConfig}
+use Rattle.candidate_settings.specs.declared.config.PlanConfig.{PlanConfig}
+use Rattle.plan_tests.specs.Refusal.{firstRefusalOf, isFine}
+use Rattle.plan_tests.specs.declared.refusal.Verdict.{Verdict}
 use Rattle.candidates.specs.Held.{heldAt, costsAt, entriesOf, costsOf}
 use Rattle.candidates.specs.HeldLaws.{entries-length, costs-length}
 use Rattle.candidates.specs.declared.candidate.Candidate.{Candidate}
-use Rattle.measure.specs.Measure.{candidatesIn}
+use Rattle.candidate_finder.specs.Measure.{candidatesIn}
 use Rattle.candidate_list.specs.CandidateList.{End, hasRoom, listedOf, candidateListOf}
 use Rattle.candidate_list.specs.declared.list.Answer.the-variants.{Found, Refused, ShortOutput}
 

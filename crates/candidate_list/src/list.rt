@@ -1,17 +1,17 @@
 // The operation itself.
-use basics::front;
+use base_code::front;
+use candidate_finder::plan;
+use candidate_settings::config::PlanConfig;
 use grid::validate::Recording;
-use measure::plan;
-use request::refusal;
-use request::refusal::Verdict;
-use settings::config::PlanConfig;
-use silences::config::SegmentConfig;
-use silences::list;
+use plan_tests::refusal;
+use plan_tests::refusal::Verdict;
+use silence_list::config::SegmentConfig;
+use silence_list::list;
 ghost use mathlib.Core.Path.{_≡_};
 ghost use Prim.Native.Nat.{_*_};
 ghost use mathlib.Core.Bool.{true};
 ghost use lib.ListN.{length, take, drop};
-ghost use Rattle.basics.specs.Front.{onto};
+ghost use Rattle.base_terms.specs.Lists.{onto};
 ghost use Rattle.candidates.specs.Held.{heldAt, costsAt};
 ghost use Rattle.candidate_list.specs.CandidateList.{End, hasRoom, listedOf, candidateListOf, numberOf};
 ghost use Rattle.candidate_list.specs.CandidateListLaws.{Standing};

@@ -7,11 +7,11 @@ use Prim.Native.Nat.{ℕ, zero, suc, _+_, _-_, _≤_, _<_}
 use native.Mathlib.Omega.{arith}
 use lib.Ieee.{Float}
 use borrow.Author.Tests.{eq-eqb, ne-eqb}
-use Rattle.laws.specs.Tests.{lt-or-le}
-use Rattle.span.specs.Listed.{count}
-use Rattle.span.specs.Kept.{boundaries}
-use Rattle.span.specs.KeptIn.{Outside, of-boundaries}
-use Rattle.blocks.specs.Points.{isIn}
+use Rattle.base_laws.specs.Tests.{lt-or-le}
+use Rattle.candidate_span.specs.Listed.{count}
+use Rattle.candidate_span.specs.Kept.{boundaries}
+use Rattle.candidate_span.specs.KeptIn.{Outside, of-boundaries}
+use Rattle.candidate_points.specs.Points.{isIn}
 use Rattle.candidates.specs.declared.candidate.Candidate.{Candidate}
 use Rattle.candidates.specs.declared.context.Context.{Context}
 use Rattle.candidates.specs.Candidates.{node, pointAt, ownFrom, listedOf, withLeft, cheapest, survivors, candidatesOf}

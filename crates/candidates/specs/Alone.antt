@@ -7,10 +7,10 @@ use native.Mathlib.Nat.{lt-irrefl, eq-or-lt-of-le}
 use native.Mathlib.Omega.{arith}
 use lib.Ieee.{Float}
 use lib.ListN.{length}
-use Rattle.laws.specs.Tests.{lt-or-le}
-use Rattle.span.specs.Gaps.{Cut}
-use Rattle.span.specs.GapsLaws.{gaps-inside}
-use Rattle.placing.specs.CutsLaws.{InnerAt, dropped-cut}
+use Rattle.base_laws.specs.Tests.{lt-or-le}
+use Rattle.candidate_span.specs.Gaps.{Cut}
+use Rattle.candidate_span.specs.GapsLaws.{gaps-inside}
+use Rattle.candidate_cuts.specs.CutsLaws.{InnerAt, dropped-cut}
 use Rattle.candidates.specs.declared.candidate.Candidate.{Candidate}
 use Rattle.candidates.specs.declared.context.Context.{Context}
 use Rattle.candidates.specs.Candidates.{ownAt, candidatesOf}

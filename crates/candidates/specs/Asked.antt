@@ -9,8 +9,8 @@ use lib.ListN.{length, getD, length-map}
 use Rattle.grid.specs.declared.boundary.FrameGrid.{FrameGrid}
 use Rattle.grid.specs.Boundary.{boundaryOf}
 use Rattle.grid.specs.BoundaryLaws.{Accepted, boundary-le-len}
-use Rattle.pieces.specs.Limits.{maxEnd}
-use Rattle.pieces.specs.Domain.{Candidates, Costs}
+use Rattle.path_pieces.specs.Limits.{maxEnd}
+use Rattle.path_pieces.specs.Domain.{Candidates, Costs}
 use Rattle.candidates.specs.declared.candidate.Candidate.{Candidate}
 use Rattle.candidates.specs.declared.context.Context.{Context}
 use Rattle.candidates.specs.Candidates.{candidatesOf}

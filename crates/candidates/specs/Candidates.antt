@@ -7,14 +7,14 @@ use lib.Dec.{eqb}
 use lib.IntN.{negsuc}
 use lib.Ieee.{Float, nan, fin, lt, le}
 use lib.ListN.{getD}
-use Rattle.laws.specs.Nonneg.{nought}
-use Rattle.span.specs.Bounds.{lowOf, highOf, isInner}
-use Rattle.span.specs.Kept.{boundaries}
-use Rattle.span.specs.Listed.{count, startAt, endAt}
-use Rattle.blocks.specs.Blocked.{touches}
-use Rattle.costs.specs.Cost.{cutCost}
-use Rattle.costs.specs.Stretch.{stretchAt, secsOf}
-use Rattle.placing.specs.CutsLaws.{cutAt}
+use Rattle.base_terms.specs.Floats.{nought}
+use Rattle.candidate_span.specs.Bounds.{lowOf, highOf, isInner}
+use Rattle.candidate_span.specs.Kept.{boundaries}
+use Rattle.candidate_span.specs.Listed.{count, startAt, endAt}
+use Rattle.candidate_points.specs.Blocked.{touches}
+use Rattle.candidate_costs.specs.Cost.{cutCost}
+use Rattle.candidate_costs.specs.Stretch.{stretchAt, secsOf}
+use Rattle.candidate_cuts.specs.CutsLaws.{cutAt}
 use Rattle.candidates.specs.declared.candidate.Reason.{Reason}
 use Rattle.candidates.specs.declared.candidate.Reason.the-variants.{Silence, Quiet, Forced}
 use Rattle.candidates.specs.declared.candidate.Candidate.{Candidate}

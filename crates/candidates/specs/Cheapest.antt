@@ -7,11 +7,11 @@ use Prim.Native.Nat.{ℕ, suc, _-_, _<_}
 use lib.Dec.{T}
 use lib.Ieee.{Float, lt, le, isNan}
 use lib.ListN.{length}
-use Rattle.laws.specs.Tests.{holds}
-use Rattle.laws.specs.Nonneg.{nonneg-number}
-use Rattle.laws.specs.Order.{float-le-refl, float-lt-le, float-not-lt, float-lt-le-trans}
+use Rattle.base_laws.specs.Tests.{holds}
+use Rattle.base_laws.specs.Nonneg.{nonneg-number}
+use Rattle.base_laws.specs.Order.{float-le-refl, float-lt-le, float-not-lt, float-lt-le-trans}
 use Rattle.grid.specs.declared.boundary.FrameGrid.{FrameGrid}
-use Rattle.span.specs.Kept.{boundaries}
+use Rattle.candidate_span.specs.Kept.{boundaries}
 use Rattle.candidates.specs.declared.candidate.Candidate.{Candidate}
 use Rattle.candidates.specs.declared.context.Context.{Context}
 use Rattle.candidates.specs.Candidates.{listedOf, withLeft, cheaper, cheapestOf, cheapest, survivors, candidatesOf}

@@ -5,8 +5,8 @@ use mathlib.Core.Bool.{Bool, _&&_, cond}
 use mathlib.Core.List.{List, [], _∷_}
 use lib.Dec.{ltb, eqb}
 use lib.Ieee.{Float}
-use Rattle.span.specs.Kept.{boundaries, passing}
-use Rattle.span.specs.Listed.{startAt, endAt}
+use Rattle.candidate_span.specs.Kept.{boundaries, passing}
+use Rattle.candidate_span.specs.Listed.{startAt, endAt}
 use Rattle.candidates.specs.declared.candidate.Candidate.{Candidate}
 use Rattle.candidates.specs.declared.context.Context.{Context}
 use Rattle.candidates.specs.declared.collect.Walk.{Walk}

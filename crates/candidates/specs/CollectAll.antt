@@ -5,8 +5,8 @@ use Prim.Native.Nat.{ℕ, suc, _+_, _-_, _*_, _≤_, _<_}
 use native.Mathlib.Omega.{arith}
 use lib.Ieee.{Float}
 use lib.ListN.{length}
-use Rattle.blocks.specs.Placed.{placed, placed-length}
-use Rattle.placing.specs.CutsLaws.{inner-cut}
+use Rattle.candidate_points.specs.Placed.{placed, placed-length}
+use Rattle.candidate_cuts.specs.CutsLaws.{inner-cut}
 use Rattle.candidates.specs.declared.candidate.Candidate.{Candidate}
 use Rattle.candidates.specs.declared.context.Context.{Context}
 use Rattle.candidates.specs.Candidates.{node, candidatesOf}

@@ -10,11 +10,11 @@ use lib.Ieee.{Float}
 use lib.ListN.{length, getD}
 use lib.Seq.{length-take-le, getD-take}
 use borrow.Author.Tests.{ltb-true, ltb-false, eqb-true, eqb-false}
-use Rattle.laws.specs.Tests.{lt-or-le}
-use Rattle.span.specs.Listed as silences
-use Rattle.span.specs.ListedLaws.{listed-own, listed-apart, listed-within}
-use Rattle.span.specs.BoundsLaws.{inner-parts, inner-is}
-use Rattle.placing.specs.CutsLaws.{InnerAt}
+use Rattle.base_laws.specs.Tests.{lt-or-le}
+use Rattle.candidate_span.specs.Listed as silences
+use Rattle.candidate_span.specs.ListedLaws.{listed-own, listed-apart, listed-within}
+use Rattle.candidate_span.specs.BoundsLaws.{inner-parts, inner-is}
+use Rattle.candidate_cuts.specs.CutsLaws.{InnerAt}
 use Rattle.candidates.specs.declared.context.Context.{Context}
 use Rattle.candidates.specs.Held.{silencesHeld}
 use Rattle.candidates.specs.Collect.{innerFrom, innerTo}

@@ -6,7 +6,7 @@ use native.Mathlib.Omega.{arith}
 use lib.Ieee.{Float}
 use lib.ListN.{length, take, drop, length-append}
 use lib.Seq.{length-take-le, drop-at}
-use Rattle.blocks.specs.Placed.{placed, placed-take}
+use Rattle.candidate_points.specs.Placed.{placed, placed-take}
 use Rattle.candidates.specs.declared.candidate.Candidate.{Candidate}
 use Rattle.candidates.specs.Held.{heldAt, costsAt, entriesOf, costsOf}
 use Rattle.candidates.specs.HeldLaws.{entries-length, costs-length, entries-append, costs-append, placed-more}

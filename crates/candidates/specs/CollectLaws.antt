@@ -7,9 +7,9 @@ use lib.Ieee.{Float}
 use lib.ListN.{length, drop, length-drop}
 use lib.Seq.{length-take-le}
 use Rattle.grid.specs.Limits.{maxFrames}
-use Rattle.span.specs.Listed.{Listed}
-use Rattle.span.specs.Span.{firstOf, lastOf}
-use Rattle.placing.specs.CutsLaws.{Prepared}
+use Rattle.candidate_span.specs.Listed.{Listed}
+use Rattle.candidate_span.specs.Span.{firstOf, lastOf}
+use Rattle.candidate_cuts.specs.CutsLaws.{Prepared}
 use Rattle.candidates.specs.declared.context.Context.{Context}
 use Rattle.candidates.specs.declared.collect.Walk.{Walk}
 use Rattle.candidates.specs.Held.{silencesHeld, runsHeld, levelsHeld}

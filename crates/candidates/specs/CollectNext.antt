@@ -8,10 +8,10 @@ use native.Mathlib.Nat.{eq-or-lt-of-le}
 use native.Mathlib.Omega.{arith}
 use lib.Ieee.{Float}
 use lib.ListN.{length, length-append}
-use Rattle.laws.specs.Tests.{lt-or-le}
-use Rattle.span.specs.Kept.{boundaries}
-use Rattle.blocks.specs.Placed.{placed}
-use Rattle.placing.specs.CutsLaws.{InnerAt}
+use Rattle.base_laws.specs.Tests.{lt-or-le}
+use Rattle.candidate_span.specs.Kept.{boundaries}
+use Rattle.candidate_points.specs.Placed.{placed}
+use Rattle.candidate_cuts.specs.CutsLaws.{InnerAt}
 use Rattle.candidates.specs.declared.candidate.Candidate.{Candidate}
 use Rattle.candidates.specs.declared.context.Context.{Context}
 use Rattle.candidates.specs.declared.collect.Walk.{Walk}

@@ -10,13 +10,13 @@ use lib.Ieee.{Float}
 use lib.ListN.{length}
 use lib.Seq.{length-take-le}
 use borrow.Author.Tests.{lt-ltb, eq-eqb}
-use Rattle.laws.specs.Tests.{lt-or-le, holds}
-use Rattle.span.specs.Kept.{boundaries, passing}
-use Rattle.span.specs.Listed as silences
-use Rattle.span.specs.SpanLaws.{ends-order}
-use Rattle.blocks.specs.Placed.{placed, placed-length}
-use Rattle.blocks.specs.Points.{isIn}
-use Rattle.placing.specs.CutsLaws.{InnerAt, inner-cut}
+use Rattle.base_laws.specs.Tests.{lt-or-le, holds}
+use Rattle.candidate_span.specs.Kept.{boundaries, passing}
+use Rattle.candidate_span.specs.Listed as silences
+use Rattle.candidate_span.specs.SpanLaws.{ends-order}
+use Rattle.candidate_points.specs.Placed.{placed, placed-length}
+use Rattle.candidate_points.specs.Points.{isIn}
+use Rattle.candidate_cuts.specs.CutsLaws.{InnerAt, inner-cut}
 use Rattle.candidates.specs.declared.candidate.Candidate.{Candidate}
 use Rattle.candidates.specs.declared.context.Context.{Context}
 use Rattle.candidates.specs.declared.collect.Walk.{Walk}

@@ -9,20 +9,21 @@ use native.Mathlib.Omega.{arith}
 use lib.Dec.{T}
 use lib.Ieee.{Float, nan}
 use lib.ListN.{length, getD}
-use Rattle.laws.specs.Nonneg.{nonneg, nought-nonneg}
+use Rattle.base_terms.specs.Floats.{nonneg}
+use Rattle.base_laws.specs.Nonneg.{nought-nonneg}
 use Rattle.grid.specs.Limits.{maxFrameRate}
 use Rattle.grid.specs.Durations.{frameSecs}
 use Rattle.grid.specs.Boundary.{Bounded}
 use Rattle.grid.specs.declared.boundary.FrameGrid.{FrameGrid}
-use Rattle.settings.specs.Tests.{weightsOk}
-use Rattle.span.specs.Listed.{startAt, endAt}
-use Rattle.span.specs.ListedLaws.{listed-within}
-use Rattle.placing.specs.CutLaws.{cut-level}
-use Rattle.placing.specs.CutsLaws.{InnerAt, inner-cut, cutAt}
-use Rattle.costs.specs.Stretch.{stretchAt, secsOf}
-use Rattle.costs.specs.StretchLaws.{stretch-first, stretch-inner, stretch-last, secs-fine}
-use Rattle.costs.specs.NormalizeLaws.{OnScale}
-use Rattle.costs.specs.CostLaws.{cost-fine}
+use Rattle.candidate_settings.specs.Tests.{weightsOk}
+use Rattle.candidate_span.specs.Listed.{startAt, endAt}
+use Rattle.candidate_span.specs.ListedLaws.{listed-within}
+use Rattle.candidate_cuts.specs.CutLaws.{cut-level}
+use Rattle.candidate_cuts.specs.CutsLaws.{InnerAt, inner-cut, cutAt}
+use Rattle.candidate_costs.specs.Stretch.{stretchAt, secsOf}
+use Rattle.candidate_costs.specs.StretchLaws.{stretch-first, stretch-inner, stretch-last, secs-fine}
+use Rattle.candidate_costs.specs.NormalizeLaws.{OnScale}
+use Rattle.candidate_costs.specs.CostLaws.{cost-fine}
 use Rattle.candidates.specs.declared.candidate.Candidate.{Candidate}
 use Rattle.candidates.specs.declared.context.Context.{Context}
 use Rattle.candidates.specs.Candidates.{pointAt, ownAt, candidatesOf}

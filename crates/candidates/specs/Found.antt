@@ -7,9 +7,9 @@ use Prim.Native.Nat.{ℕ, zero, suc, _-_, _<_}
 use native.Mathlib.Omega.{arith}
 use lib.Ieee.{Float}
 use lib.ListN.{length, length-append, List·getD-append}
-use Rattle.span.specs.Kept.{boundaries}
-use Rattle.span.specs.KeptIn.{in-boundaries, of-boundaries}
-use Rattle.blocks.specs.Points.{isIn}
+use Rattle.candidate_span.specs.Kept.{boundaries}
+use Rattle.candidate_span.specs.KeptIn.{in-boundaries, of-boundaries}
+use Rattle.candidate_points.specs.Points.{isIn}
 use Rattle.candidates.specs.declared.candidate.Candidate.{Candidate}
 use Rattle.candidates.specs.declared.context.Context.{Context}
 use Rattle.candidates.specs.Candidates.{node, pointAt, listedOf, candidatesOf}

@@ -5,15 +5,15 @@ use mathlib.Core.List.{List}
 use Prim.Native.Nat.{ℕ, _≤_, _<_}
 use lib.Ieee.{Float}
 use Rattle.grid.specs.declared.boundary.FrameGrid.{FrameGrid}
-use Rattle.span.specs.declared.spacing.Spacing.{Spacing}
-use Rattle.span.specs.Listed.{Listed}
-use Rattle.span.specs.Span.{firstOf, lastOf}
-use Rattle.span.specs.KeptIn.{Outside}
-use Rattle.blocks.specs.Blocked.{isBlocked}
-use Rattle.blocks.specs.Points.{gridPoints, isIn, isPoint}
-use Rattle.blocks.specs.Theorems.{point-inside}
-use Rattle.blocks.specs.Clear.{point-clear}
-use Rattle.placing.specs.CutsLaws.{Prepared}
+use Rattle.candidate_span.specs.declared.spacing.Spacing.{Spacing}
+use Rattle.candidate_span.specs.Listed.{Listed}
+use Rattle.candidate_span.specs.Span.{firstOf, lastOf}
+use Rattle.candidate_span.specs.KeptIn.{Outside}
+use Rattle.candidate_points.specs.Blocked.{isBlocked}
+use Rattle.candidate_points.specs.Points.{gridPoints, isIn, isPoint}
+use Rattle.candidate_points.specs.Theorems.{point-inside}
+use Rattle.candidate_points.specs.Clear.{point-clear}
+use Rattle.candidate_cuts.specs.CutsLaws.{Prepared}
 use Rattle.candidates.specs.declared.context.Context.{Context}
 use Rattle.candidates.specs.Sources.{Planned, droppedOf}
 

@@ -7,7 +7,7 @@ use native.Mathlib.Omega.{arith}
 use lib.Ieee.{Float}
 use lib.ListN.{length, take, drop, length-append, take-append-drop}
 use lib.Seq.{take-at, length-take-le, drop-drop, drop-append-add, drop-at, take-add}
-use Rattle.blocks.specs.Placed.{placed, placed-length, placed-take, placed-before}
+use Rattle.candidate_points.specs.Placed.{placed, placed-length, placed-take, placed-before}
 use Rattle.candidates.specs.declared.candidate.Candidate.{Candidate}
 use Rattle.candidates.specs.Candidates.{reasonNumber}
 use Rattle.candidates.specs.Held.{silencesHeld, runsHeld, levelsHeld, marked, heldAt, costsAt, entriesOf, costsOf}

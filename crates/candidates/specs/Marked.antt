@@ -6,9 +6,9 @@ use mathlib.Core.List.{List, _∷_}
 use Prim.Native.Nat.{ℕ, zero, suc, _+_, _≤_, _<_}
 use native.Mathlib.Omega.{arith}
 use borrow.Author.Tests.{eq-eqb, ne-eqb}
-use Rattle.laws.specs.Tests.{lt-or-le}
-use Rattle.span.specs.Kept.{boundaries, passing}
-use Rattle.blocks.specs.Points.{isIn}
+use Rattle.base_laws.specs.Tests.{lt-or-le}
+use Rattle.candidate_span.specs.Kept.{boundaries, passing}
+use Rattle.candidate_points.specs.Points.{isIn}
 
 module _ (p : ℕ → Bool) where
   before-step : (b c : Bool) (k j : ℕ) (ks : List ℕ) → (j ≡ k → ⊥) → isIn ks k ≡ c → isIn (cond b (j ∷ ks) ks) k ≡ c

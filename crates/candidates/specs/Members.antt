@@ -9,8 +9,8 @@ use lib.Dec.{eqb}
 use lib.Ieee.{lt}
 use lib.ListN.{length, getD}
 use borrow.Author.Tests.{eqb-true, eq-eqb}
-use Rattle.laws.specs.Tests.{holds}
-use Rattle.blocks.specs.Points.{isIn}
+use Rattle.base_laws.specs.Tests.{holds}
+use Rattle.candidate_points.specs.Points.{isIn}
 use Rattle.candidates.specs.declared.candidate.Candidate.{Candidate}
 use Rattle.candidates.specs.Candidates.{node, withLeft, cheaper, cheapestOf, cheapest, survivors}
 

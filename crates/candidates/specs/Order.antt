@@ -7,12 +7,12 @@ use native.Mathlib.Nat.{le-of-eq, le-of-lt, eq-or-lt-of-le}
 use native.Mathlib.Omega.{arith}
 use lib.Ieee.{Float}
 use lib.ListN.{length, length-append}
-use Rattle.laws.specs.Tests.{lt-or-le}
+use Rattle.base_laws.specs.Tests.{lt-or-le}
 use Rattle.grid.specs.declared.boundary.FrameGrid.{FrameGrid}
 use Rattle.grid.specs.Boundary.{boundaryOf}
 use Rattle.grid.specs.BoundaryLaws.{Accepted, boundary-above}
-use Rattle.span.specs.Kept.{boundaries}
-use Rattle.span.specs.SpanLaws.{ends-order}
+use Rattle.candidate_span.specs.Kept.{boundaries}
+use Rattle.candidate_span.specs.SpanLaws.{ends-order}
 use Rattle.candidates.specs.declared.candidate.Candidate.{Candidate}
 use Rattle.candidates.specs.declared.context.Context.{Context}
 use Rattle.candidates.specs.Candidates.{node, listedOf, survivors, candidatesOf}

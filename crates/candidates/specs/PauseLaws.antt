@@ -7,15 +7,15 @@ use Prim.Native.Nat.{ℕ, zero, suc, _+_, _≤_, _<_}
 use native.Mathlib.Omega.{arith}
 use lib.Dec.{leb}
 use borrow.Author.Tests.{le-leb, lt-leb}
-use Rattle.laws.specs.Tests.{lt-or-le}
-use Rattle.span.specs.declared.bounds.Bounds.{Bounds}
-use Rattle.span.specs.Bounds.{lowOf, highOf, boundsOf}
-use Rattle.span.specs.BoundsLaws.{low-within, high-within}
-use Rattle.span.specs.Listed.{count, startAt, endAt, Listed}
-use Rattle.span.specs.ListedLaws.{listed-own, listed-apart, listed-within}
-use Rattle.blocks.specs.Blocked.{touches}
-use Rattle.blocks.specs.BlockedLaws.{touches-out}
-use Rattle.blocks.specs.Flags.{or-no}
+use Rattle.base_laws.specs.Tests.{lt-or-le}
+use Rattle.candidate_span.specs.declared.bounds.Bounds.{Bounds}
+use Rattle.candidate_span.specs.Bounds.{lowOf, highOf, boundsOf}
+use Rattle.candidate_span.specs.BoundsLaws.{low-within, high-within}
+use Rattle.candidate_span.specs.Listed.{count, startAt, endAt, Listed}
+use Rattle.candidate_span.specs.ListedLaws.{listed-own, listed-apart, listed-within}
+use Rattle.candidate_points.specs.Blocked.{touches}
+use Rattle.candidate_points.specs.BlockedLaws.{touches-out}
+use Rattle.candidate_points.specs.Flags.{or-no}
 use Rattle.candidates.specs.declared.context.Context.{Context}
 use Rattle.candidates.specs.Candidates.{pausesBy, inPause}
 

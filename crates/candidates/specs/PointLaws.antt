@@ -4,11 +4,11 @@ use mathlib.Core.List.{List}
 use Prim.Native.Nat.{ℕ, _-_, _≤_, _<_}
 use lib.Ieee.{Float, nan}
 use lib.ListN.{length, getD}
-use Rattle.span.specs.Listed.{count, startAt, endAt, Listed}
-use Rattle.costs.specs.Cost.{cutCost}
-use Rattle.costs.specs.Stretch.{stretchAt, secsOf}
-use Rattle.placing.specs.declared.cut.SilenceCut.{SilenceCut}
-use Rattle.placing.specs.Cut.{silenceCut, Inner}
+use Rattle.candidate_span.specs.Listed.{count, startAt, endAt, Listed}
+use Rattle.candidate_costs.specs.Cost.{cutCost}
+use Rattle.candidate_costs.specs.Stretch.{stretchAt, secsOf}
+use Rattle.candidate_cuts.specs.declared.cut.SilenceCut.{SilenceCut}
+use Rattle.candidate_cuts.specs.Cut.{silenceCut, Inner}
 use Rattle.candidates.specs.declared.candidate.Reason.{Reason}
 use Rattle.candidates.specs.declared.candidate.Reason.the-variants.{Silence}
 use Rattle.candidates.specs.declared.context.Context.{Context}

@@ -7,7 +7,7 @@ use lib.Ieee.{Float}
 use lib.ListN.{length, take, drop, set}
 use lib.Seq.{sets, sets-eq}
 use Rattle.grid.specs.Limits.{maxFrames}
-use Rattle.blocks.specs.Placed.{placed}
+use Rattle.candidate_points.specs.Placed.{placed}
 use Rattle.candidates.specs.declared.candidate.Candidate.{Candidate}
 use Rattle.candidates.specs.Candidates.{reasonNumber}
 use Rattle.candidates.specs.Held.{heldAt, costsAt, entriesOf, costsOf}

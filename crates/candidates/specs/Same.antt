@@ -5,9 +5,9 @@ use mathlib.Core.List.{List, [], _∷_, _++_, map}
 use Prim.Native.Nat.{ℕ, zero, suc, _+_, _-_, _≤_, _<_}
 use native.Mathlib.Omega.{arith}
 use lib.Ieee.{Float}
-use Rattle.span.specs.Listed.{count}
-use Rattle.span.specs.Kept.{boundaries}
-use Rattle.blocks.specs.Points.{isIn}
+use Rattle.candidate_span.specs.Listed.{count}
+use Rattle.candidate_span.specs.Kept.{boundaries}
+use Rattle.candidate_points.specs.Points.{isIn}
 use Rattle.candidates.specs.declared.candidate.Candidate.{Candidate}
 use Rattle.candidates.specs.declared.context.Context.{Context}
 use Rattle.candidates.specs.Candidates.{node, pointAt, ownFrom, listedOf, withLeft, cheaper, cheapestOf, cheapest, survivors, candidatesOf}

@@ -7,15 +7,15 @@ use Prim.Native.Nat.{ℕ, zero, suc, _+_, _≤_, _<_}
 use native.Mathlib.Nat.{lt-irrefl, eq-or-lt-of-le}
 use native.Mathlib.Omega.{arith}
 use lib.Ieee.{Float}
-use Rattle.laws.specs.Tests.{lt-or-le}
-use Rattle.span.specs.Listed.{count, startAt, endAt}
-use Rattle.span.specs.Bounds.{isInner}
-use Rattle.span.specs.Span.{firstOf, lastOf}
-use Rattle.span.specs.Gaps.{Cut, gapsOf}
-use Rattle.span.specs.KeptIn.{Outside}
-use Rattle.blocks.specs.Points.{isIn}
-use Rattle.placing.specs.CutLaws.{cut-within}
-use Rattle.placing.specs.CutsLaws.{Prepared, InnerAt, inner-cut, cut-inside, cuts-apart, cut-dropped}
+use Rattle.base_laws.specs.Tests.{lt-or-le}
+use Rattle.candidate_span.specs.Listed.{count, startAt, endAt}
+use Rattle.candidate_span.specs.Bounds.{isInner}
+use Rattle.candidate_span.specs.Span.{firstOf, lastOf}
+use Rattle.candidate_span.specs.Gaps.{Cut, gapsOf}
+use Rattle.candidate_span.specs.KeptIn.{Outside}
+use Rattle.candidate_points.specs.Points.{isIn}
+use Rattle.candidate_cuts.specs.CutLaws.{cut-within}
+use Rattle.candidate_cuts.specs.CutsLaws.{Prepared, InnerAt, inner-cut, cut-inside, cuts-apart, cut-dropped}
 use Rattle.candidates.specs.declared.candidate.Candidate.{Candidate}
 use Rattle.candidates.specs.declared.context.Context.{Context}
 use Rattle.candidates.specs.Candidates.{pointAt, ownAt, ownFrom, listedOf}

@@ -4,7 +4,7 @@ use mathlib.Core.List.{List, [], _∷_, _++_, List·Memᴰ}
 use Prim.Native.Nat.{ℕ, zero, suc, _+_, _-_, _≤_, _<_}
 use native.Mathlib.Omega.{arith}
 use lib.ListN.{length, getD}
-use Rattle.span.specs.Kept.{boundaries}
+use Rattle.candidate_span.specs.Kept.{boundaries}
 use Rattle.candidates.specs.declared.candidate.Candidate.{Candidate}
 use Rattle.candidates.specs.Candidates.{withLeft, cheapest, survivors, node}
 use Rattle.candidates.specs.Members.{Survivor, none, one, survivor-at}

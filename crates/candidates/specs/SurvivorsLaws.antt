@@ -7,9 +7,9 @@ use native.Mathlib.Omega.{arith}
 use lib.Dec.{eqb}
 use lib.Ieee.{Float, lt}
 use borrow.Author.Tests.{eq-eqb, ne-eqb, eqb-true}
-use Rattle.span.specs.Bounds.{isInner}
-use Rattle.span.specs.Listed.{count, startAt, endAt}
-use Rattle.blocks.specs.Points.{isIn}
+use Rattle.candidate_span.specs.Bounds.{isInner}
+use Rattle.candidate_span.specs.Listed.{count, startAt, endAt}
+use Rattle.candidate_points.specs.Points.{isIn}
 use Rattle.candidates.specs.declared.candidate.Candidate.{Candidate}
 use Rattle.candidates.specs.declared.context.Context.{Context}
 use Rattle.candidates.specs.Candidates.{pointAt, ownAt, ownFrom, listedOf, withLeft, cheaper, cheapestOf, cheapest}

@@ -1,7 +1,7 @@
 // What candidates are made with, beside the recording's own lists: the Rust's `Context` with numbers for its references.
-use settings::config::Gap;
-use settings::config::Placement;
-use settings::config::Weights;
+use candidate_settings::config::Gap;
+use candidate_settings::config::Placement;
+use candidate_settings::config::Weights;
 
 pub struct Context {
     pub gap: Gap,

@@ -2,10 +2,10 @@
 use crate::candidate::Candidate;
 use crate::candidate::Reason;
 use crate::context::Context;
-use costs::cost;
-use costs::stretch;
-use placing::cut;
-use span::listed;
+use candidate_costs::cost;
+use candidate_costs::stretch;
+use candidate_cuts::cut;
+use candidate_span::listed;
 ghost use mathlib.Core.Path.{_≡_};
 ghost use Rattle.candidates.specs.Candidates.{ownAt};
 ghost use Rattle.candidates.specs.PointLaws.{Cuttable};

@@ -1,9 +1,9 @@
 // Whether a boundary lies in silence beyond the padding.
 use crate::context::Context;
-use span::bounds;
-use span::listed;
+use candidate_span::bounds;
+use candidate_span::listed;
 ghost use mathlib.Core.Path.{_≡_};
-ghost use Rattle.span.specs.Listed.{Listed};
+ghost use Rattle.candidate_span.specs.Listed.{Listed};
 ghost use Rattle.candidates.specs.Candidates.{inPause};
 ghost use Rattle.candidates.specs.PauseLaws.{EndsRise, Ending};
 

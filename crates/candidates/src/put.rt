@@ -4,7 +4,7 @@ use crate::candidate::Candidate;
 ghost use mathlib.Core.Path.{_≡_};
 ghost use mathlib.Core.List.{[], _∷_};
 ghost use Prim.Native.Nat.{_+_, _*_};
-ghost use Rattle.blocks.specs.Placed.{placed};
+ghost use Rattle.candidate_points.specs.Placed.{placed};
 ghost use Rattle.candidates.specs.Held.{heldAt, costsAt, entriesOf, costsOf};
 ghost use Rattle.candidates.specs.PutLaws.{Puttable};
 

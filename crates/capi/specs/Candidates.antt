@@ -4,12 +4,12 @@ use mathlib.Core.Bool.{Bool, true, false, cond}
 use mathlib.Core.List.{List}
 use lib.Dec.{eqb}
 use lib.Ieee.{Float, nan}
-use Rattle.settings.specs.declared.config.Gap.{Gap}
-use Rattle.settings.specs.declared.config.Gap.the-variants.{Keep, Drop}
-use Rattle.settings.specs.declared.config.Placement.{Placement}
-use Rattle.settings.specs.declared.config.Placement.the-variants.{Quietest, Center, Ratio}
-use Rattle.settings.specs.declared.config.Weights.{Weights}
-use Rattle.settings.specs.declared.config.PlanConfig.{PlanConfig}
+use Rattle.candidate_settings.specs.declared.config.Gap.{Gap}
+use Rattle.candidate_settings.specs.declared.config.Gap.the-variants.{Keep, Drop}
+use Rattle.candidate_settings.specs.declared.config.Placement.{Placement}
+use Rattle.candidate_settings.specs.declared.config.Placement.the-variants.{Quietest, Center, Ratio}
+use Rattle.candidate_settings.specs.declared.config.Weights.{Weights}
+use Rattle.candidate_settings.specs.declared.config.PlanConfig.{PlanConfig}
 use Rattle.candidate_list.specs.CandidateList.{End, numberOf}
 use Rattle.candidate_list.specs.declared.list.Answer.{Answer}
 use Rattle.candidate_list.specs.declared.list.Answer.the-variants.{Found, Refused, ShortOutput}

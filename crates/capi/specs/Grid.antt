@@ -5,7 +5,7 @@ use mathlib.Core.Path.{_≡_}
 use lib.Dec.{leb, leb→le}
 use lib.IntN.{pos}
 use lib.Ieee.{Float, fin}
-use Rattle.laws.specs.Tests.{holds, both}
+use Rattle.base_laws.specs.Tests.{holds, both}
 use Rattle.grid.specs.Limits.{maxRate, maxFrameRate, maxHop, maxFrames, maxLen, maxDuration}
 use Rattle.grid.specs.Boundary.{Bounded}
 use Rattle.grid.specs.Durations.{InFrames, InSamples}

@@ -3,11 +3,11 @@ use Prim.Native.Nat.{ℕ}
 use mathlib.Core.Bool.{Bool, cond}
 use mathlib.Core.List.{List}
 use lib.Ieee.{Float}
-use Rattle.pieces.specs.declared.mode.Mode.{Mode}
-use Rattle.pieces.specs.declared.mode.Mode.the-variants.{ByLength, ByCount}
-use Rattle.paths.specs.Operation.{End, numberOf}
-use Rattle.paths.specs.declared.seek.Answer.{Answer}
-use Rattle.paths.specs.declared.seek.Answer.the-variants.{Found, Refused, ShortParent, ShortPath}
+use Rattle.path_pieces.specs.declared.mode.Mode.{Mode}
+use Rattle.path_pieces.specs.declared.mode.Mode.the-variants.{ByLength, ByCount}
+use Rattle.path_list.specs.Operation.{End, numberOf}
+use Rattle.path_list.specs.declared.seek.Answer.{Answer}
+use Rattle.path_list.specs.declared.seek.Answer.the-variants.{Found, Refused, ShortParent, ShortPath}
 
 -- C hands the mode over as whether a count is asked for, and the count
 abbrev pub modeOf : Bool → ℕ → Mode

@@ -4,12 +4,12 @@ use mathlib.Core.Bool.{Bool, cond}
 use mathlib.Core.List.{List}
 use lib.Dec.{eqb}
 use lib.Ieee.{Float, nan}
-use Rattle.levels.specs.declared.threshold.Threshold.{Threshold}
-use Rattle.levels.specs.declared.threshold.Threshold.the-variants.{Auto, Abs, BelowRef}
-use Rattle.silences.specs.Silences.{End, numberOf}
-use Rattle.silences.specs.declared.config.SegmentConfig.{SegmentConfig}
-use Rattle.silences.specs.declared.list.Answer.{Answer}
-use Rattle.silences.specs.declared.list.Answer.the-variants.{Found, BadRecording, LongDuration, BadThreshold, ShortWork, ShortOutput}
+use Rattle.silence_levels.specs.declared.threshold.Threshold.{Threshold}
+use Rattle.silence_levels.specs.declared.threshold.Threshold.the-variants.{Auto, Abs, BelowRef}
+use Rattle.silence_list.specs.Silences.{End, numberOf}
+use Rattle.silence_list.specs.declared.config.SegmentConfig.{SegmentConfig}
+use Rattle.silence_list.specs.declared.list.Answer.{Answer}
+use Rattle.silence_list.specs.declared.list.Answer.the-variants.{Found, BadRecording, LongDuration, BadThreshold, ShortWork, ShortOutput}
 
 abbrev pub pickThreshold : Bool → Threshold → Threshold → Threshold
 pickThreshold test a b = cond test a b

@@ -1,10 +1,10 @@
 // The operation "path over lent candidates".
-use paths::operation;
-use paths::seek::Answer;
-use pieces::lengths::Lengths;
-use pieces::mode::Mode;
+use path_list::operation;
+use path_list::seek::Answer;
+use path_pieces::lengths::Lengths;
+use path_pieces::mode::Mode;
 ghost use mathlib.Core.Path.{_≡_};
-ghost use Rattle.paths.specs.Operation.{pathOf};
+ghost use Rattle.path_list.specs.Operation.{pathOf};
 ghost use Rattle.capi.specs.Paths.{modeOf, lengthAfter, overAfter, costAfter, PathCalled, pathCalledOf};
 
 // By length, or by this count.

@@ -1,13 +1,13 @@
 // The operation "candidate list".
 use crate::best_path;
 use crate::recording;
-use crate::silence_list;
+use crate::silences;
 use candidate_list::list;
 use candidate_list::list::Answer;
-use settings::config::Gap;
-use settings::config::Placement;
-use settings::config::PlanConfig;
-use settings::config::Weights;
+use candidate_settings::config::Gap;
+use candidate_settings::config::Placement;
+use candidate_settings::config::PlanConfig;
+use candidate_settings::config::Weights;
 ghost use mathlib.Core.Path.{_≡_};
 ghost use Rattle.candidate_list.specs.CandidateList.{candidateListOf};
 ghost use Rattle.capi.specs.Grid.{recordingOf};
@@ -130,7 +130,7 @@ pub extern "C" fn buchawzer_candidates(
     ensures { λ r. ⌜ _≡_ {A = ListCalled} (record { number = r; found = now (found .exit); ends = now (ends .exit); costs = now (costs .exit); work32 = now («work_u32» .exit); work64 = now («work_u64» .exit); workf = now («work_f64» .exit) }) (listCalledOf (candidateListOf (recordingOf «sample_rate» channels «frame_rate» hop len decibels) (segmentOf «threshold_kind» threshold «min_silence» «min_sound» pre tail) (planOf min target max «by_count» count «drop_gaps» «placement_kind» ratio (weightsOf cut level pause «pause_ref» «target_weight» «short_weight»)) (now (values .entry)) (now (flags .entry)) (now (levels .entry)) (now (ends .entry)) (now (costs .entry)) (now («work_u32» .entry)) (now («work_u64» .entry)) (now («work_f64» .entry))) (now (found .entry))) ⌝ }
 {
     let r = recording::recording_of(sample_rate, channels, frame_rate, hop, len, decibels);
-    let segment = silence_list::segment_of(
+    let segment = silences::segment_of(
         threshold_kind,
         threshold,
         min_silence,

@@ -3,5 +3,5 @@ pub mod best_path;
 pub mod candidates;
 pub mod convert;
 pub mod recording;
-pub mod silence_list;
+pub mod silences;
 pub mod work;

@@ -1,7 +1,7 @@
 // Clearing work memory by itself, as every operation does it at its end: for the benchmark.
 ghost use mathlib.Core.Path.{_≡_};
 ghost use lib.Ieee.{binary64, ofBits};
-ghost use Rattle.basics.specs.Lists.{filled};
+ghost use Rattle.base_terms.specs.Lists.{filled};
 
 #[no_mangle]
 pub extern "C" fn buchawzer_clear_work(
@@ -13,5 +13,5 @@ pub extern "C" fn buchawzer_clear_work(
     ensures { λ _. ⌜ now («work_u64» .exit) ≡ filled 0 (now («work_u64» .entry)) ⌝ }
     ensures { λ _. ⌜ now («work_f64» .exit) ≡ filled (ofBits binary64 0) (now («work_f64» .entry)) ⌝ }
 {
-    silences::list::clear_work(work_u32, work_u64, work_f64);
+    silence_list::list::clear_work(work_u32, work_u64, work_f64);
 }

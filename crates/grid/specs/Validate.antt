@@ -5,7 +5,7 @@ use mathlib.Core.List.{List}
 use lib.Dec.{ltb, leb, eqb}
 use lib.Ieee.{Float}
 use lib.ListN.{length}
-use Rattle.basics.specs.Lists.{allOf}
+use Rattle.base_terms.specs.Lists.{allOf}
 use Rattle.grid.specs.Limits.{maxRate, maxFrameRate, maxHop, maxFrames, maxLen}
 use Rattle.grid.specs.Boundary.{covers}
 use Rattle.grid.specs.Values.{isScore, isFinite, isFlag, isUnflagged}

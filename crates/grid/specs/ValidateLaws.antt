@@ -7,7 +7,7 @@ use lib.Dec.{T, ltb, leb, eqb, ltb→lt, leb→le}
 use lib.Ieee.{Float}
 use lib.Ieee.Fits.{and-l, and-r}
 use lib.ListN.{length}
-use Rattle.laws.specs.Tests.{holds, both}
+use Rattle.base_laws.specs.Tests.{holds, both}
 use Rattle.grid.specs.Limits.{maxRate, maxFrameRate, maxHop, maxFrames, maxLen}
 use Rattle.grid.specs.Boundary.{Bounded, covers}
 use Rattle.grid.specs.BoundaryLaws.{Accepted}

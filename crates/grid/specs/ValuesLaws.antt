@@ -6,10 +6,10 @@ use Prim.Native.Nat.{ℕ}
 use lib.Dec.{T}
 use lib.Ieee.{Float, nan, inf, fin, le, lt, isNan}
 use lib.Ieee.Scale.{finite}
-use Rattle.laws.specs.Tests.{holds, both}
-use Rattle.laws.specs.Nonneg.{finite-number}
-use Rattle.basics.specs.Lists.{allOf}
-use Rattle.basics.specs.Elements.{all-weaker}
+use Rattle.base_laws.specs.Tests.{holds, both}
+use Rattle.base_laws.specs.Nonneg.{finite-number}
+use Rattle.base_terms.specs.Lists.{allOf}
+use Rattle.base_code.specs.Elements.{all-weaker}
 use Rattle.grid.specs.declared.validate.Domain.{Domain}
 use Rattle.grid.specs.declared.validate.Domain.the-variants.{Decibels, Scores}
 use Rattle.grid.specs.Values.{isScore, isFinite, isFlag, isUnflagged}

@@ -2,7 +2,7 @@
 // A loop goes through its whole list, with `&` and no early exit, so that it works on several elements at a time: almost
 // every list that is lent passes.
 ghost use mathlib.Core.Path.{_≡_};
-ghost use Rattle.basics.specs.Lists.{allOf};
+ghost use Rattle.base_terms.specs.Lists.{allOf};
 ghost use Rattle.grid.specs.Values.{isScore, isFinite, isFlag, isUnflagged};
 
 // Whether x is a score: within 0 to 1.

@@ -6,30 +6,28 @@ use Prim.Native.Nat.{ℕ}
 use lib.IntN.{pos, negsuc}
 use lib.Ieee.{Float, fin, binary32, ofBits, span, climb, size, odd, units, round, sum, add, neg, sub, mul, div, lt, eq, le, ofInt}
 use lib.ListN.{replicate}
-use Rattle.laws.specs.Square.{square}
-use Rattle.laws.specs.Offset.{offOf}
-use Rattle.laws.specs.Lengths.{short, lengthCost}
-use Rattle.basics.specs.Lists.{allOf}
+use Rattle.base_terms.specs.Lengths.{square, offOf, short, lengthCost}
+use Rattle.base_terms.specs.Lists.{allOf}
 use Rattle.grid.specs.Durations.{framesIn}
 use Rattle.grid.specs.declared.validate.Recording.{Recording}
 use Rattle.grid.specs.declared.validate.Domain.the-variants.{Scores}
-use Rattle.levels.specs.declared.threshold.Threshold.the-variants.{Auto}
-use Rattle.levels.specs.Keys.{kept}
-use Rattle.levels.specs.Threshold.{autoOf, resolveOf}
-use Rattle.levels.specs.Levels.{levelsOver, levelsOf}
-use Rattle.sounds.specs.Hysteresis.{reached, soundAt, soundsAfter, hysteresis}
-use Rattle.sounds.specs.Runs.{joined, runs, rewritten, rewrittenAll, eachRun}
-use Rattle.sounds.specs.Fill.{filledAs, fillShort}
-use Rattle.sounds.specs.Sounds.{isSilent, anySound, fillSilence, soundsOf}
-use Rattle.sounds.specs.Silences.{silentRuns, silencesOf}
-use Rattle.silences.specs.Silences.{soundsIn, silencesIn}
-use Rattle.silences.specs.declared.config.SegmentConfig.{SegmentConfig}
-use Rattle.pieces.specs.declared.lengths.Lengths.{Lengths}
-use Rattle.pieces.specs.Pieces.{pieceLength, overOf, lengthCostOf, withPiece, withCut, isWithin, withCutAt}
-use Rattle.path.specs.Least.{lowestLeast}
-use Rattle.path.specs.Paths.{mayStart, lastOf}
-use Rattle.path.specs.Table.{predecessorOf, nextScore, tableOf, bestScore, parentOf, wayBack, bestPath}
-use Rattle.path.specs.ByCount.{bestWith, parentWith, wayWith, bestPathByCount, bestScoreByCount}
+use Rattle.silence_levels.specs.declared.threshold.Threshold.the-variants.{Auto}
+use Rattle.silence_levels.specs.Keys.{kept}
+use Rattle.silence_levels.specs.Threshold.{autoOf, resolveOf}
+use Rattle.silence_levels.specs.Levels.{levelsOver, levelsOf}
+use Rattle.silence_runs.specs.Hysteresis.{reached, soundAt, soundsAfter, hysteresis}
+use Rattle.silence_runs.specs.Runs.{joined, runs, rewritten, rewrittenAll, eachRun}
+use Rattle.silence_runs.specs.Fill.{filledAs, fillShort}
+use Rattle.silence_runs.specs.Sounds.{isSilent, anySound, fillSilence, soundsOf}
+use Rattle.silence_runs.specs.Silences.{silentRuns, silencesOf}
+use Rattle.silence_list.specs.Silences.{soundsIn, silencesIn}
+use Rattle.silence_list.specs.declared.config.SegmentConfig.{SegmentConfig}
+use Rattle.path_pieces.specs.declared.lengths.Lengths.{Lengths}
+use Rattle.path_pieces.specs.Pieces.{pieceLength, overOf, lengthCostOf, withPiece, withCut, isWithin, withCutAt}
+use Rattle.path_by_length.specs.Least.{lowestLeast}
+use Rattle.path_by_length.specs.Paths.{mayStart, lastOf}
+use Rattle.path_by_length.specs.Table.{predecessorOf, nextScore, tableOf, bestScore, parentOf, wayBack, bestPath}
+use Rattle.path_by_length.specs.ByCount.{bestWith, parentWith, wayWith, bestPathByCount, bestScoreByCount}
 
 -- ---- the path
 

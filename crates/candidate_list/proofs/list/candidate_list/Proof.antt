@@ -4,9 +4,9 @@ use native.Mathlib.Omega.{arith}
 use mathlib.Core.Path.{_≡_, sym, _∙_}
 use lib.ListN.{length}
 use borrow.Author.Tests.{not-true, not-false}
-use Rattle.request.specs.Ready.{fine-ready}
-use Rattle.measure.specs.Measure.{candidatesIn}
-use Rattle.measure.specs.Ready.{ready-plannable}
+use Rattle.plan_tests.specs.Ready.{fine-ready}
+use Rattle.candidate_finder.specs.Measure.{candidatesIn}
+use Rattle.candidate_finder.specs.Ready.{ready-plannable}
 use Rattle.candidate_list.specs.CandidateListLaws.{stands, ends-refused, ends-listed}
 use Rattle.candidate_list.proofs.list.candidate_list.Statement.{statement}
 use Rattle.candidate_list.proofs.list.candidate_list.Tie as tie

@@ -3,7 +3,7 @@ use borrow.Author.Needs.{needs}
 use mathlib.Core.Path.{refl}
 use Prim.Native.Nat.{_+_, _*_}
 use lib.ListN.{length, drop}
-use Rattle.basics.specs.Front.{onto}
+use Rattle.base_terms.specs.Lists.{onto}
 use Rattle.candidate_list.specs.CandidateListLaws.{room-parts, part-room, part-onto}
 use Rattle.candidate_list.proofs.list.copy_out.Statement.{statement}
 use Rattle.candidate_list.proofs.list.copy_out.Tie as tie

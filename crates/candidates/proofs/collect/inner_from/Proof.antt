@@ -3,7 +3,7 @@ use borrow.Author.Needs.{needs}
 use native.Mathlib.Omega.{arith}
 use mathlib.Core.Path.{sym, _∙_}
 use borrow.Author.Tests.{lt-ltb, eq-eqb, ne-eqb}
-use Rattle.span.specs.Listed.{startAt}
+use Rattle.candidate_span.specs.Listed.{startAt}
 use Rattle.candidates.specs.Collect.{innerFrom}
 use Rattle.candidates.proofs.collect.inner_from.Statement.{statement}
 use Rattle.candidates.proofs.collect.inner_from.Tie as tie

@@ -4,7 +4,7 @@ use native.Mathlib.Omega.{arith}
 use mathlib.Core.Path.{sym, _∙_}
 use Prim.Native.Nat.{_-_}
 use borrow.Author.Tests.{lt-ltb, eq-eqb, ne-eqb}
-use Rattle.span.specs.Listed.{endAt}
+use Rattle.candidate_span.specs.Listed.{endAt}
 use Rattle.candidates.specs.Collect.{innerTo}
 use Rattle.candidates.proofs.collect.inner_to.Statement.{statement}
 use Rattle.candidates.proofs.collect.inner_to.Tie as tie

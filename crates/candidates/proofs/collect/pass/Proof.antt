@@ -4,7 +4,7 @@ use native.Mathlib.Omega.{arith}
 use mathlib.Core.Path.{sym, ap, _∙_}
 use mathlib.Core.List.{List}
 use Prim.Native.Nat.{_+_, _*_}
-use Rattle.blocks.specs.Placed.{placed}
+use Rattle.candidate_points.specs.Placed.{placed}
 use Rattle.candidates.specs.declared.candidate.Candidate.{Candidate}
 use Rattle.candidates.specs.Held.{heldAt, costsAt, entriesOf, costsOf}
 use Rattle.candidates.specs.HeldLaws.{placed-none}

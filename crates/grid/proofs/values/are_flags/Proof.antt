@@ -1,7 +1,7 @@
 -- `values::are_flags` tests every byte, and `ok` tells at each turn whether all of them have passed so far.
 use borrow.Author.Needs.{needs}
 use Prim.Native.Nat.{_-_}
-use Rattle.basics.specs.Lists.{Tested, tested-start, tested-next, tested-done}
+use Rattle.base_code.specs.ListsLaws.{Tested, tested-start, tested-next, tested-done}
 use Rattle.grid.specs.Values.{isFlag}
 use Rattle.grid.proofs.values.are_flags.Statement.{statement}
 use Rattle.grid.proofs.values.are_flags.Tie as tie

@@ -2,7 +2,7 @@
 use borrow.Author.Needs.{needs}
 use Prim.Native.Nat.{_-_}
 use lib.Ieee.{nan}
-use Rattle.basics.specs.Lists.{Tested, tested-start, tested-next, tested-done}
+use Rattle.base_code.specs.ListsLaws.{Tested, tested-start, tested-next, tested-done}
 use Rattle.grid.specs.Values.{isScore}
 use Rattle.grid.proofs.values.are_scores.Statement.{statement}
 use Rattle.grid.proofs.values.are_scores.Tie as tie

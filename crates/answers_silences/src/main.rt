@@ -1,0 +1,32 @@
+// Replays a stored sample of the Rust's silences, which stands on standard input, and prints how many differ.
+// What a record holds is said in record.rt.
+mod record;
+
+use answers_shared::record::differs;
+use answers_shared::report;
+use answers_shared::report::Tally;
+
+fn replay_all(s: &[u8]) -> Tally {
+    if report::MOST < s.len() {
+        return report::too_long();
+    }
+    let mut records: u64 = 0;
+    let mut differences: u64 = 0;
+    let mut at: usize = 0;
+    while at < s.len() {
+        let replayed = record::replay(&s[at..]);
+        at += replayed.size;
+        records += 1;
+        differences += differs(replayed);
+    }
+    Tally {
+        records,
+        differences,
+    }
+}
+
+fn main() {
+    let mut buf = [0u8; report::MOST + 1];
+    let n = io::read_full(0, &mut buf);
+    report::print(b"silences", replay_all(&buf[..n]));
+}

@@ -1,0 +1,187 @@
+// One record: a recording, settings, and the silences that the Rust found. All numbers are little-endian, with nothing between them.
+// Its front has 72 bytes. From byte 0 on, of 32 bits each: frames, sample rate, channels, frame rate, hop, domain (1 for decibels), kind of threshold, its number (a float); from byte 32 on, of 64 bits each: length, min silence, min sound, pre, tail.
+// Then the values (floats of 32 bits), the flags (bytes) and, for decibels alone, the levels (floats of 64 bits) of its frames; the number of silences, and two numbers of 32 bits for each.
+use answers_shared::lists;
+use answers_shared::number;
+use answers_shared::record::Replayed;
+use answers_shared::record::broken;
+use answers_shared::tests;
+use capi::silences;
+ghost use Prim.Native.Nat.{_+_, _*_, _≤_, _<_};
+ghost use lib.ListN.{length};
+
+const FRONT: usize = 72;
+
+const MOST_FRAMES: usize = 60;
+
+const MOST_SILENCES: usize = 30;
+
+// Work memory for 60 frames, which is 16 × 61 entries, and room for more silences than they can have.
+const WORK: usize = 976;
+
+const OUT: usize = 64;
+
+// What stands in the lists of u32 before the call: the number of no frame.
+const BEFORE: u32 = 2_882_343_476;
+
+// A number of 16 bits or fewer; 0, which the operation refuses, for any other.
+fn channels(w: u32) -> u16 {
+    if 65_535 < w {
+        return 0;
+    }
+    w as u16
+}
+
+// The kind of threshold; one that does not exist, which the operation refuses, for a number that is none.
+fn kind(w: u32) -> u8 {
+    if 2 < w {
+        return 3;
+    }
+    w as u8
+}
+
+// Asks the port. The numbers come from the record's front.
+fn ask(
+    r: &[u8],
+    values: &[f32],
+    flags: &[u8],
+    levels: &[f64],
+    work_u32: &mut [u32],
+    work_u64: &mut [u64],
+    work_f64: &mut [f64],
+    out: &mut [u32],
+    count: &mut u64,
+) -> u32
+    requires { ⌜ 72 ≤ length (now r) ⌝ }
+{
+    silences::buchawzer_silence_list(
+        number::u32_at(r, 4),
+        channels(number::u32_at(r, 8)),
+        number::u32_at(r, 12),
+        number::u32_at(r, 16),
+        number::u64_at(r, 32),
+        number::u32_at(r, 20) == 1,
+        values,
+        flags,
+        levels,
+        kind(number::u32_at(r, 24)),
+        number::f32_at(r, 28),
+        number::u64_at(r, 40),
+        number::u64_at(r, 48),
+        number::u64_at(r, 56),
+        number::u64_at(r, 64),
+        work_u32,
+        work_u64,
+        work_f64,
+        out,
+        count,
+    )
+}
+
+// The output has the stored numbers at a place of the record, two for each silence, and is beyond them as before.
+fn as_stored(r: &[u8], at: usize, silences: usize, out: &[u32]) -> bool
+    requires { ⌜ at + 8 * silences ≤ length (now r) ⌝ }
+    requires { ⌜ 2 * silences ≤ length (now out) ⌝ }
+{
+    let end = 2 * silences;
+    tests::same_u32(end, out, r, at) & tests::only_u32(&out[end..], BEFORE)
+}
+
+// The answer is the stored one, number by number, at a place of the record; the output beyond it is as before, and the work lists are cleared.
+fn agrees(
+    r: &[u8],
+    values: &[f32],
+    flags: &[u8],
+    levels: &[f64],
+    at: usize,
+    silences: usize,
+) -> bool
+    requires { ⌜ silences ≤ 30 ⌝ }
+    requires { ⌜ 72 ≤ length (now r) ⌝ }
+    requires { ⌜ at + 8 * silences ≤ length (now r) ⌝ }
+{
+    let mut work_u32 = [BEFORE; WORK];
+    let mut work_u64 = [1u64; WORK];
+    let mut work_f64 = [1f64; WORK];
+    let mut out = [BEFORE; OUT];
+    let mut count = number::NO_ANSWER;
+    let refusal = ask(
+        r,
+        values,
+        flags,
+        levels,
+        &mut work_u32,
+        &mut work_u64,
+        &mut work_f64,
+        &mut out,
+        &mut count,
+    );
+    (refusal == 0)
+        & (count == silences as u64)
+        & as_stored(r, at, silences, &out)
+        & tests::cleared(&work_u32, &work_u64, &work_f64)
+}
+
+// The port's answer is the stored one.
+fn same(r: &[u8], frames: usize, levels: usize, silences: usize) -> bool
+    requires { ⌜ frames ≤ 60 ⌝ }
+    requires { ⌜ levels ≤ 60 ⌝ }
+    requires { ⌜ silences ≤ 30 ⌝ }
+    requires { ⌜ 76 + 5 * frames + 8 * levels + 8 * silences ≤ length (now r) ⌝ }
+{
+    let flags = FRONT + 4 * frames;
+    let after = flags + frames;
+    let mut value = [0f32; MOST_FRAMES];
+    let mut level = [0f64; MOST_FRAMES];
+    lists::copy_f32(r, FRONT, frames, &mut value);
+    lists::copy_f64(r, after, levels, &mut level);
+    agrees(
+        r,
+        &value[..frames],
+        &r[flags..after],
+        &level[..levels],
+        after + 8 * levels + 4,
+        silences,
+    )
+}
+
+// Only decibels come with levels.
+fn level_count(domain: u32, frames: usize) -> usize
+    ensures { λ r. ⌜ r ≤ frames ⌝ }
+{
+    if domain == 1 { frames } else { 0 }
+}
+
+// The record at the front of s.
+pub fn replay(s: &[u8]) -> Replayed
+    requires { ⌜ 0 < length (now s) ⌝ }
+    ensures { λ r. ⌜ 0 < r .size ⌝ }
+    ensures { λ r. ⌜ r .size ≤ length (now (s .entry)) ⌝ }
+{
+    if s.len() < FRONT {
+        return broken(s);
+    }
+    let frames = number::u32_at(s, 0) as usize;
+    let domain = number::u32_at(s, 20);
+    if MOST_FRAMES < frames {
+        return broken(s);
+    }
+    if 1 < domain {
+        return broken(s);
+    }
+    let levels = level_count(domain, frames);
+    let after = FRONT + 5 * frames + 8 * levels;
+    if s.len() < after + 4 {
+        return broken(s);
+    }
+    let silences = number::u32_at(s, after) as usize;
+    if MOST_SILENCES < silences {
+        return broken(s);
+    }
+    let size = after + 4 + 8 * silences;
+    if s.len() < size {
+        return broken(s);
+    }
+    let same = same(s, frames, levels, silences);
+    Replayed { size, same }
+}

@@ -1,0 +1,60 @@
+-- Document 01's "silence candidates": one for each silence with sound on both sides. Where the padding overlaps it is the middle of the overlap; else it is the whole gap where gaps are dropped, and the placed boundary where silence is kept.
+-- `silenceCut` is what contracts cite; CutLaws says where it lies and what its level is.
+use mathlib.Core.Path.{_≡_}
+use mathlib.Core.Bool.{true, false, cond}
+use mathlib.Core.List.{List}
+use Prim.Native.Nat.{ℕ, _+_, _/_, _≤_, _<_, min, max}
+use lib.Dec.{ltb}
+use lib.Ieee.{Float, nan, inf}
+use lib.ListN.{length, getD}
+use Rattle.base_terms.specs.Floats.{minOf}
+use Rattle.grid.specs.Limits.{maxFrames}
+use Rattle.candidate_settings.specs.declared.config.Gap.{Gap}
+use Rattle.candidate_settings.specs.declared.config.Gap.the-variants.{Keep, Drop}
+use Rattle.candidate_settings.specs.declared.config.Placement.{Placement}
+use Rattle.candidate_span.specs.Bounds.{lowOf, highOf}
+use Rattle.candidate_settings.specs.Tests.{ratioOk}
+use Rattle.candidate_cuts.specs.declared.cut.SilenceCut.{SilenceCut}
+use Rattle.candidate_cuts.specs.Walk.{foldOver}
+use Rattle.candidate_cuts.specs.Place.{placed}
+
+-- ---- definitions
+
+-- the middle of the overlap of two paddings, kept within the silence from start to end
+unfoldable pub splitPoint : ℕ → ℕ → ℕ → ℕ → ℕ
+splitPoint next prev start end = min (max ((next + prev) / 2) start) end
+
+-- the lesser of a level and that of boundary k
+unfoldable pub quieterLevel : List Float → Float → ℕ → Float
+quieterLevel levels least k = minOf least (getD levels k nan)
+
+-- the least level of the boundaries from start to end, both inclusive
+unfoldable pub leastLevel : List Float → ℕ → ℕ → Float
+leastLevel levels start end = foldOver (quieterLevel levels) (inf false) start end
+
+-- a cut at one boundary
+abbrev pub pointCut : List Float → ℕ → SilenceCut
+pointCut levels k = record { left = k; right = k; level = getD levels k nan }
+
+-- in a silence from start to end, of which lo to hi is left beside its padding: the placed boundary, or all of it with the least level of the whole silence
+unfoldable pub openCut : Gap → Placement → List Float → ℕ → ℕ → ℕ → ℕ → SilenceCut
+openCut Keep placement levels start end lo hi = pointCut levels (placed placement levels lo hi)
+openCut Drop placement levels start end lo hi = record { left = lo; right = hi; level = leastLevel levels start end }
+
+-- the candidate of a silence of n frames, with `pre` frames kept before sound and `tail` after it
+unfoldable pub silenceCut : Gap → Placement → ℕ → ℕ → ℕ → List Float → ℕ → ℕ → SilenceCut
+silenceCut gap placement n pre tail levels start end =
+    let lo = lowOf n tail start in
+    let hi = highOf n pre end in
+    cond (ltb hi lo) (pointCut levels (splitPoint hi lo start end)) (openCut gap placement levels start end lo hi)
+
+-- ---- what it asks
+
+-- a silence with sound on both sides, a level for each frame boundary, and a ratio that refusal 9 passes
+pub record Inner (placement : Placement) (n : ℕ) (levels : List Float) (start end : ℕ) : Type 0 where
+  pub after-sound : 0 < start
+  pub some : start < end
+  pub before-sound : end < n
+  pub few : n ≤ maxFrames
+  pub held : n < length levels
+  pub ratio : ratioOk placement ≡ true

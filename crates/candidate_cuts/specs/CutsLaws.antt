@@ -1,0 +1,124 @@
+-- The candidates of a list of silences: inside the span, in order, and those with two ends are document 01's dropped gaps.
+-- A cut lies in its silence, silences are apart, and inner silences lie strictly inside the span.
+use mathlib.Core.Path.{_≡_, refl, sym, subst, _∙_}
+use mathlib.Core.Logic.{inl, inr}
+use mathlib.Core.Bool.{true}
+use mathlib.Core.List.{List, List·Memᴰ, List·Memᴰ·not-nil}
+use Prim.Native.Nat.{ℕ, zero, suc, _≤_, _<_}
+use native.Mathlib.Nat.{eq-or-lt-of-le}
+use native.Mathlib.Omega.{arith}
+use lib.Ieee.{Float}
+use lib.ListN.{length}
+use borrow.Author.Tests.{lt-ltb}
+use Rattle.base_laws.specs.Tests.{holds}
+use Rattle.grid.specs.Limits.{maxFrames}
+use Rattle.candidate_settings.specs.declared.config.Gap.{Gap}
+use Rattle.candidate_settings.specs.declared.config.Gap.the-variants.{Keep, Drop}
+use Rattle.candidate_settings.specs.declared.config.Placement.{Placement}
+use Rattle.candidate_span.specs.Listed.{count, startAt, endAt}
+use Rattle.candidate_span.specs.ListedLaws.{listed-own, listed-apart, listed-within}
+use Rattle.candidate_span.specs.Bounds.{isInner}
+use Rattle.candidate_span.specs.BoundsLaws.{inner-parts, inner-is}
+use Rattle.candidate_span.specs.Span.{firstOf, lastOf}
+use Rattle.candidate_span.specs.SpanLaws.{Spanned, inner-first, inner-last}
+use Rattle.candidate_span.specs.Gaps.{Cut, gapOf, gapsOf}
+use Rattle.candidate_span.specs.GapsLaws.{gap-parts}
+use Rattle.candidate_span.specs.GapsFrom.{GapAt, gap-from, gap-in}
+use Rattle.candidate_settings.specs.Tests.{ratioOk}
+use Rattle.candidate_cuts.specs.declared.cut.SilenceCut.{SilenceCut}
+use Rattle.candidate_cuts.specs.Cut.{silenceCut, Inner}
+use Rattle.candidate_cuts.specs.CutLaws.{cut-within, hasGap, has-gap, edgesOf, cut-gap, cut-gap-is}
+
+-- what a plan has when its silences are cut: a span, a level for each frame boundary, and a ratio that refusal 9 passes
+pub record Prepared (gap : Gap) (placement : Placement) (n : ℕ) (levels : List Float) (ss : List ℕ) : Type 0 where
+  pub spanned : Spanned gap n ss
+  pub few : n ≤ maxFrames
+  pub held : n < length levels
+  pub ratio : ratioOk placement ≡ true
+
+-- the candidate of silence i
+abbrev pub cutAt : Gap → Placement → ℕ → ℕ → ℕ → List Float → List ℕ → ℕ → SilenceCut
+cutAt gap placement n pre tail levels ss i = silenceCut gap placement n pre tail levels (startAt ss i) (endAt ss i)
+
+-- silence i of the list has sound on both sides
+pub record InnerAt (n : ℕ) (ss : List ℕ) (i : ℕ) : Type 0 where
+  pub listed : i < count ss
+  pub inner : isInner n (startAt ss i) (endAt ss i) ≡ true
+
+positive : (k : ℕ) → (k ≡ 0 → ⊥) → 0 < k
+positive zero f = absurd (f refl)
+positive (suc k) f = omega arith
+
+below : (k n : ℕ) → k ≤ n → (k ≡ n → ⊥) → k < n
+below k n h f = elim (eq-or-lt-of-le h) [ inl e ↦ absurd (f e) | inr l ↦ l ]
+
+module _ (gap : Gap) (placement : Placement) (n pre tail : ℕ) (levels : List Float) (ss : List ℕ) (p : Prepared gap placement n levels ss) where
+  -- each inner silence can be cut
+  pub inner-cut : (i : ℕ) → InnerAt n ss i → Inner placement n levels (startAt ss i) (endAt ss i)
+  inner-cut i a =
+      let q = inner-parts n (startAt ss i) (endAt ss i) (a .inner) in
+      record {
+        after-sound = positive (startAt ss i) (q .0);
+        some = listed-own (p .spanned .listed) i (a .listed);
+        before-sound = below (endAt ss i) n (listed-within (p .spanned .listed) i (a .listed)) (q .1);
+        few = p .few;
+        held = p .held;
+        ratio = p .ratio;
+      }
+
+  -- its cut lies strictly inside the span
+  pub cut-inside : (i : ℕ) → InnerAt n ss i
+      → (firstOf gap pre ss < cutAt gap placement n pre tail levels ss i .left) × (cutAt gap placement n pre tail levels ss i .right < lastOf gap n tail ss)
+  cut-inside i a =
+      let q = inner-parts n (startAt ss i) (endAt ss i) (a .inner) in
+      let w = cut-within placement n pre tail levels (startAt ss i) (endAt ss i) (inner-cut i a) gap in
+      (omega (arith, w .0, inner-first gap n pre ss (p .spanned) i (a .listed) (q .0)), omega (arith, w .2, inner-last gap n tail ss (p .spanned) i (a .listed) (q .1)))
+
+  -- and before that of a later one
+  pub cuts-apart : (i j : ℕ) → i < j → InnerAt n ss i → InnerAt n ss j
+      → cutAt gap placement n pre tail levels ss i .right < cutAt gap placement n pre tail levels ss j .left
+  cuts-apart i j h a b =
+      let v = cut-within placement n pre tail levels (startAt ss i) (endAt ss i) (inner-cut i a) gap in
+      let w = cut-within placement n pre tail levels (startAt ss j) (endAt ss j) (inner-cut j b) gap in
+      omega (arith, v .2, w .0, listed-apart (p .spanned .listed) i j h (b .listed))
+
+  -- ---- dropped gaps
+
+  -- the inner silence whose cut has these ends
+  pub record CutWith (g : Cut) : Type 0 where
+    pub number : ℕ
+    pub at : InnerAt n ss number
+    pub is : g ≡ edgesOf (cutAt gap placement n pre tail levels ss number)
+
+  gap-listed : (drop : Gap) (i : ℕ) → i < count ss → hasGap drop n pre tail (startAt ss i) (endAt ss i) ≡ true
+      → List·Memᴰ (gapOf n pre tail (startAt ss i) (endAt ss i)) (gapsOf drop n pre tail ss)
+  unfolding hasGap gapsOf
+  gap-listed Keep i h t = absurd (holds t)
+  gap-listed Drop i h t = gap-in n pre tail ss i h t
+
+  -- a cut whose left end is below its right end is a dropped gap
+  pub cut-dropped : (i : ℕ) → InnerAt n ss i → cutAt gap placement n pre tail levels ss i .left < cutAt gap placement n pre tail levels ss i .right
+      → List·Memᴰ (edgesOf (cutAt gap placement n pre tail levels ss i)) (gapsOf gap n pre tail ss)
+  cut-dropped i a h =
+      let c = cutAt gap placement n pre tail levels ss i in
+      let q = inner-cut i a in
+      let t : hasGap gap n pre tail (startAt ss i) (endAt ss i) ≡ true =
+      sym (cut-gap placement n pre tail levels (startAt ss i) (endAt ss i) q gap) ∙ lt-ltb (c .left) (c .right) h in
+      subst (λ (g : Cut). List·Memᴰ g (gapsOf gap n pre tail ss)) (sym (cut-gap-is placement n pre tail levels (startAt ss i) (endAt ss i) q gap t)) (gap-listed gap i (a .listed) t)
+
+  gap-has : (drop : Gap) (g : Cut) → List·Memᴰ g (gapsOf drop n pre tail ss) → (drop ≡ Drop) × GapAt n pre tail ss g
+  unfolding gapsOf
+  gap-has Keep g m = absurd (List·Memᴰ·not-nil m)
+  gap-has Drop g m = (refl, gap-from n pre tail ss g m)
+
+  -- each dropped gap is the cut of its silence
+  pub dropped-cut : (g : Cut) → List·Memᴰ g (gapsOf gap n pre tail ss) → CutWith g
+  dropped-cut g m =
+      let d = gap-has gap g m in
+      let f = d .1 in
+      let s = startAt ss (f .number) in
+      let e = endAt ss (f .number) in
+      let q = gap-parts n pre tail s e (f .left) in
+      let a : InnerAt n ss (f .number) = record { listed = f .listed; inner = inner-is n s e (q .0) (q .1) } in
+      let t : hasGap gap n pre tail s e ≡ true = has-gap gap n pre tail s e (d .0) (f .left) in
+      record { number = f .number; at = a; is = f .is ∙ sym (cut-gap-is placement n pre tail levels s e (inner-cut (f .number) a) gap t) }

@@ -1,0 +1,229 @@
+-- What holds while the flags of blocked boundaries become marks of grid points, in place: behind boundary k all are marks, from k on all are flags.
+use mathlib.Core.Path.{_≡_, refl, sym, ap, subst, _∙_}
+use mathlib.Core.Logic.{inl, inr}
+use mathlib.Core.Bool.{Bool, true, false, _||_, cond}
+use mathlib.Core.List.{List}
+use Prim.Native.Nat.{ℕ, suc, _+_, _≤_, _<_}
+use native.Mathlib.Omega.{arith}
+use lib.Dec.{eqb}
+use lib.Ieee.{Float}
+use lib.ListN.{length, getD, set, length-set}
+use lib.Seq.{getD-set-same, getD-set-other, ext-getD}
+use borrow.Author.Tests.{eq-eqb, ne-eqb, eqb-true, eqb-false, not-false}
+use Rattle.base_laws.specs.Tests.{lt-or-le}
+use Rattle.base_terms.specs.Lists.{tabulate}
+use Rattle.base_code.specs.FrontLaws.{tabulate-at, tabulate-length}
+use Rattle.silence_runs.specs.Runs.{putRun}
+use Rattle.candidate_points.specs.Flags.{flagOf, flag-yes, flag-no, or-no}
+use Rattle.candidate_points.specs.RangeLaws.{put-length, put-before, put-in, put-after}
+use Rattle.candidate_points.specs.Points.{blockEnd, quietestOf, gridPoints, isIn, isPoint, isSet, markAt, marksOf}
+use Rattle.candidate_points.specs.BlocksLaws.{end-within, end-after, end-open, end-same, quietest-within}
+use Rattle.candidate_points.specs.PointsLaws.{Walk, Opened, points-walk, walk-pass, walk-open, opened-in, walk-before, walk-beyond}
+
+-- ---- one step
+
+-- the boundary that follows k
+unfoldable pub nextOf : (ℕ → Bool) → ℕ → ℕ → ℕ → ℕ
+nextOf blocked block last k = cond (blocked k) (suc k) (blockEnd blocked block last k)
+
+-- the flag of a blocked boundary goes; the point of a block is marked
+unfoldable pub stepped : List Float → ℕ → ℕ → ℕ → List ℕ → List ℕ
+stepped levels block last k xs = cond (isSet xs k) (set xs k 0) (set xs (quietestOf levels k (blockEnd (isSet xs) block last k)) 1)
+
+-- what the functions need: a block of a boundary at least, boundaries in order, a level and a flag for each
+pub record Ready (block k last : ℕ) (levels : List Float) (marks : List ℕ) : Type 0 where
+  pub some : 1 ≤ block
+  pub order : k < last
+  pub heard : last ≤ length levels
+  pub flagged : last ≤ length marks
+
+-- what the walk leaves: a mark at each boundary strictly inside the span
+pub record Marked (levels : List Float) (block first last : ℕ) (flags marks : List ℕ) : Type 0 where
+  pub same : length marks ≡ length flags
+  pub inside : (j : ℕ) → first < j → j < last → getD marks j 0 ≡ markAt levels block first last flags j
+
+-- ---- the walk
+
+-- `points` are the points that are still to be marked
+pub record Walking (levels : List Float) (block first last : ℕ) (flags marks : List ℕ) (k : ℕ) : Type 0 where
+  pub some : 1 ≤ block
+  pub heard : last ≤ length levels
+  pub flagged : last ≤ length flags
+  pub after : first < k
+  pub within : k ≤ last
+  pub same : length marks ≡ length flags
+  pub rest : (j : ℕ) → k ≤ j → getD marks j 0 ≡ getD flags j 0
+  pub points : List ℕ
+  pub walk : Walk (isSet flags) levels block last k points
+  pub ahead : (j : ℕ) → k ≤ j → isIn points j ≡ isPoint (isSet flags) levels block first last j
+  pub behind : (j : ℕ) → first < j → j < k → getD marks j 0 ≡ markAt levels block first last flags j
+
+module _ (levels : List Float) (block first last : ℕ) (flags : List ℕ) where
+  pub walking-start : Ready block first last levels flags → Walking levels block first last flags flags (first + 1)
+  walking-start r = record {
+    some = r .some;
+    heard = r .heard;
+    flagged = r .flagged;
+    after = omega arith;
+    within = omega (arith, r .order);
+    same = refl;
+    rest = λ (j : ℕ) (h : first + 1 ≤ j). refl;
+    points = gridPoints (isSet flags) levels block first last;
+    walk = rw one (points-walk (isSet flags) levels block last (r .some) first);
+    ahead = all;
+    behind = λ (j : ℕ) (h : first < j) (l : j < first + 1). absurd (omega arith);
+  }
+    where
+      one : first + 1 ≡ suc first
+      one = omega arith
+
+      all : (j : ℕ) → first + 1 ≤ j → isIn (gridPoints (isSet flags) levels block first last) j ≡ isPoint (isSet flags) levels block first last j
+      all j h = unfold isPoint in refl
+
+  module _ (marks : List ℕ) (k : ℕ) (l : k < last) where
+    mark : (j : ℕ) (b : Bool) → isPoint (isSet flags) levels block first last j ≡ b → flagOf b ≡ markAt levels block first last flags j
+    unfolding markAt
+    mark j b e = rw e
+
+    -- k is blocked
+    pub walking-pass : Walking levels block first last flags marks k → isSet flags k ≡ true → Walking levels block first last flags (set marks k 0) (suc k)
+    walking-pass w e = record {
+      some = w .some;
+      heard = w .heard;
+      flagged = w .flagged;
+      after = omega (arith, w .after);
+      within = l;
+      same = length-set marks k 0 ∙ w .same;
+      rest = λ (j : ℕ) (h : suc k ≤ j). getD-set-other marks k j 0 0 (λ (s : j ≡ k). omega arith) ∙ w .rest j (omega arith);
+      points = w .points;
+      walk = on;
+      ahead = λ (j : ℕ) (h : suc k ≤ j). w .ahead j (omega arith);
+      behind = λ (j : ℕ) (h : first < j) (m : j < suc k). elim (lt-or-le j k) [
+        | inl q ↦ getD-set-other marks k j 0 0 (λ (s : j ≡ k). omega arith) ∙ w .behind j h q
+        | inr q ↦ here j (omega arith)
+      ];
+    }
+      where
+        on : Walk (isSet flags) levels block last (suc k) (w .points)
+        on = walk-pass (w .walk) l e
+
+        here : (j : ℕ) → j ≡ k → getD (set marks k 0) j 0 ≡ markAt levels block first last flags j
+        here j s =
+            rw s
+            (getD-set-same marks k 0 0 (omega (arith, w .same, w .flagged)) ∙ sym flag-no
+            ∙ mark k false (sym (w .ahead k (omega arith)) ∙ walk-before (isSet flags) levels block last (w .some) on k (omega arith)))
+
+    -- a block starts at k and ends at `end`, and `point` is its quietest boundary
+    module _ (w : Walking levels block first last flags marks k) (e : isSet flags k ≡ false) (end point : ℕ) (f : end ≡ blockEnd (isSet flags) block last k) (q : point ≡ quietestOf levels k end) where
+      over : k < end
+      over = omega (arith, f, end-after (isSet flags) block last k (w .some) l e)
+
+      inside : (k ≤ point) × (point < end)
+      inside = rw q (quietest-within levels k end over)
+
+      starts : Opened (isSet flags) levels block last k (w .points)
+      starts = walk-open (w .walk) l e
+
+      -- the points from k on are this one and those after the block
+      now : (j : ℕ) → k ≤ j → (eqb point j || isIn (starts .others) j) ≡ isPoint (isSet flags) levels block first last j
+      now j h = ap (λ (p : ℕ). eqb p j || isIn (starts .others) j) (q ∙ ap (quietestOf levels k) f) ∙ sym (opened-in starts j) ∙ w .ahead j h
+
+      pub walking-open : Walking levels block first last flags (set marks point 1) end
+      walking-open = record {
+        some = w .some;
+        heard = w .heard;
+        flagged = w .flagged;
+        after = omega (arith, w .after, over);
+        within = omega (arith, f, end-within (isSet flags) block last k l);
+        same = length-set marks point 1 ∙ w .same;
+        rest = λ (j : ℕ) (h : end ≤ j). getD-set-other marks point j 1 0 (λ (s : j ≡ point). omega (arith, inside)) ∙ w .rest j (omega (arith, over));
+        points = starts .others;
+        walk = subst (λ (m : ℕ). Walk (isSet flags) levels block last m (starts .others)) (sym f) (starts .walk);
+        ahead = ahead;
+        behind = λ (j : ℕ) (h : first < j) (m : j < end). elim (lt-or-le j k) [
+          | inl a ↦ getD-set-other marks point j 1 0 (λ (s : j ≡ point). omega (arith, inside)) ∙ w .behind j h a
+          | inr a ↦ here j a m (eqb point j) (eqb-true point j) (eqb-false point j) refl
+        ];
+      }
+        where
+          ahead : (j : ℕ) → end ≤ j → isIn (starts .others) j ≡ isPoint (isSet flags) levels block first last j
+          ahead j h = (rw (ne-eqb point j (λ (s : point ≡ j). omega (arith, inside))) at (now j (omega (arith, over))))
+
+          none : (j : ℕ) → j < end → isIn (starts .others) j ≡ false
+          none j h = walk-before (isSet flags) levels block last (w .some) (starts .walk) j (omega (arith, f))
+
+          clear : (j : ℕ) → k ≤ j → j < end → getD flags j 0 ≡ 0
+          clear j a m = eqb-true (getD flags j 0) 0 (not-false (eqb (getD flags j 0) 0) (end-open (isSet flags) block last k j a (omega (arith, f))))
+
+          alone : (j : ℕ) → k ≤ j → j < end → isPoint (isSet flags) levels block first last j ≡ eqb point j
+          alone j a m = sym (now j a) ∙ rw (none j m) (or-no (eqb point j))
+
+          here : (j : ℕ) → k ≤ j → j < end → (b : Bool) → (b ≡ true → point ≡ j) → (b ≡ false → point ≡ j → ⊥) → eqb point j ≡ b → getD (set marks point 1) j 0 ≡ markAt levels block first last flags j
+          here j a m true y n t = rw (← y refl) (getD-set-same marks point 1 0 (omega (arith, inside, f, end-within (isSet flags) block last k l, w .same, w .flagged)) ∙ sym flag-yes ∙ mark point true (alone point (inside .0) (inside .1) ∙ eq-eqb point point refl))
+          here j a m false y n t = getD-set-other marks point j 1 0 (λ (s : j ≡ point). n refl (sym s)) ∙ w .rest j a ∙ clear j a m ∙ sym flag-no ∙ mark j false (alone j a m ∙ t)
+
+  -- ---- a step, whichever it is
+
+  -- the flags from k on are as they were
+  still : (marks : List ℕ) (k : ℕ) → Walking levels block first last flags marks k → (j : ℕ) → k ≤ j → isSet marks j ≡ isSet flags j
+  still marks k w j h = rw (w .rest j h)
+
+  pub walking-next : (marks marks′ : List ℕ) (k k′ : ℕ) → k < last → k′ ≡ nextOf (isSet marks) block last k → marks′ ≡ stepped levels block last k marks
+      → Walking levels block first last flags marks k → Walking levels block first last flags marks′ k′
+  unfolding nextOf stepped
+  walking-next marks marks′ k k′ l a b w = go (isSet flags k) refl (still marks k w k (omega arith)) a b
+    where
+      same-end : blockEnd (isSet marks) block last k ≡ blockEnd (isSet flags) block last k
+      same-end = end-same (isSet flags) block last k (isSet marks) (λ (j : ℕ) (h : k ≤ j) (m : j < last). still marks k w j h)
+
+      go : (t : Bool) → isSet flags k ≡ t → isSet marks k ≡ isSet flags k → k′ ≡ cond (isSet marks k) (suc k) (blockEnd (isSet marks) block last k)
+          → marks′ ≡ cond (isSet marks k) (set marks k 0) (set marks (quietestOf levels k (blockEnd (isSet marks) block last k)) 1) → Walking levels block first last flags marks′ k′
+      go true t s c d = rw (rw (s, t) at c, rw (s, t) at d) (walking-pass marks k l w t)
+      go false t s c d = rw (rw (s, t) at c, rw (s, t) at d, same-end)
+          (walking-open marks k l w t (blockEnd (isSet flags) block last k) (quietestOf levels k (blockEnd (isSet flags) block last k)) refl refl)
+
+  pub walking-ready : (marks : List ℕ) (k : ℕ) → k < last → Walking levels block first last flags marks k → Ready block k last levels marks
+  walking-ready marks k l w = record { some = w .some; order = l; heard = w .heard; flagged = omega (arith, w .same, w .flagged) }
+
+  -- all boundaries strictly inside the span are marked
+  pub walking-done : (marks : List ℕ) (k : ℕ) → last ≤ k → Walking levels block first last flags marks k → Marked levels block first last flags marks
+  walking-done marks k h w = record { same = w .same; inside = λ (j : ℕ) (a : first < j) (b : j < last). w .behind j a (omega arith) }
+
+  -- ---- the others are cleared
+
+  pub marked-all : (marks marks′ marks″ : List ℕ) (start end : ℕ) → Ready block first last levels flags → Marked levels block first last flags marks → start ≡ first + 1 → end ≡ length marks′
+      → marks′ ≡ putRun 0 start 0 marks → marks″ ≡ putRun last end 0 marks′ → marks″ ≡ marksOf levels block first last flags
+  unfolding marksOf
+  marked-all marks marks′ marks″ start end r m s z a b =
+      ext-getD 0 marks″ (tabulate (markAt levels block first last flags) (length flags)) (size ∙ sym (tabulate-length (markAt levels block first last flags) (length flags)))
+      (λ (j : ℕ) (h : j < length marks″). at j (omega (arith, size)) ∙ sym (tabulate-at (markAt levels block first last flags) (length flags) j 0 (omega (arith, size))))
+    where
+      fits : start ≤ length marks
+      fits = omega (arith, m .same, r .order, r .flagged)
+
+      size′ : length marks′ ≡ length flags
+      size′ = rw a (put-length 0 start 0 marks (omega arith) fits) ∙ m .same
+
+      to : last ≤ end
+      to = omega (arith, size′, r .flagged)
+
+      size : length marks″ ≡ length flags
+      size = rw b (put-length last end 0 marks′ to (omega arith)) ∙ size′
+
+      none : (j : ℕ) → isIn (gridPoints (isSet flags) levels block first last) j ≡ false → 0 ≡ markAt levels block first last flags j
+      none j e = unfold markAt in unfold isPoint in rw (e, flag-no)
+
+      points : Walk (isSet flags) levels block last (suc first) (gridPoints (isSet flags) levels block first last)
+      points = points-walk (isSet flags) levels block last (r .some) first
+
+      before : (j : ℕ) → j < last → getD marks″ j 0 ≡ getD marks′ j 0
+      before j h = rw b (put-before last end 0 marks′ to (omega arith) j 0 h)
+
+      at : (j : ℕ) → j < length flags → getD marks″ j 0 ≡ markAt levels block first last flags j
+      at j h = elim (lt-or-le j last) [
+        | inl l ↦ elim (lt-or-le j start) [
+          | inl k ↦ before j l ∙ rw a (put-in 0 start 0 marks (omega arith) fits j 0 (omega arith) k) ∙ none j (walk-before (isSet flags) levels block last (r .some) points j (omega arith))
+          | inr k ↦ before j l ∙ rw a (put-after 0 start 0 marks (omega arith) fits j 0 k) ∙ m .inside j (omega arith) l
+        ]
+        | inr l ↦ rw b (put-in last end 0 marks′ to (omega arith) j 0 l (omega (arith, size′))) ∙ none j (walk-beyond (isSet flags) levels block last (r .some) points j l)
+      ]

@@ -1,0 +1,51 @@
+-- The padded bounds of a silence are inside it, and inside the recording.
+use mathlib.Core.Path.{_≡_, refl}
+use mathlib.Core.Bool.{Bool, true, false, not, cond}
+use Prim.Native.Nat.{ℕ, _+_, _-_, _≤_, min}
+use native.Mathlib.Omega.{arith}
+use lib.Dec.{eqb}
+use borrow.Author.Tests.{eqb-true, eqb-false, ne-eqb, not-true}
+use Rattle.base_laws.specs.Tests.{both}
+use Rattle.candidate_span.specs.Bounds.{lowOf, highOf, isInner}
+
+-- ---- an inner silence
+
+pub inner-parts : (n start end : ℕ) → isInner n start end ≡ true → (start ≡ 0 → ⊥) × (end ≡ n → ⊥)
+unfolding isInner
+inner-parts n start end h =
+    let p = both (not (eqb start 0)) (not (eqb end n)) h in
+    (eqb-false start 0 (not-true (eqb start 0) (p .0)), eqb-false end n (not-true (eqb end n) (p .1)))
+
+pub inner-is : (n start end : ℕ) → (start ≡ 0 → ⊥) → (end ≡ n → ⊥) → isInner n start end ≡ true
+unfolding isInner
+inner-is n start end h k = rw (ne-eqb start 0 h, ne-eqb end n k)
+
+-- ---- the bounds of one
+
+pub low-inner : (n tail start : ℕ) → (start ≡ 0 → ⊥) → lowOf n tail start ≡ min (start + tail) n
+unfolding lowOf
+low-inner n tail start h = rw (ne-eqb start 0 h)
+
+pub high-inner : (n pre end : ℕ) → (end ≡ n → ⊥) → highOf n pre end ≡ end - pre
+unfolding highOf
+high-inner n pre end h = rw (ne-eqb end n h)
+
+-- ---- of any silence
+
+-- the lower bound is not before the silence's start, and within the frame count
+pub low-within : (n tail start : ℕ) → start ≤ n → (start ≤ lowOf n tail start) × (lowOf n tail start ≤ n)
+unfolding lowOf
+low-within n tail start h = go (eqb start 0) (eqb-true start 0)
+  where
+    go : (b : Bool) → (b ≡ true → start ≡ 0) → (start ≤ cond b 0 (min (start + tail) n)) × (cond b 0 (min (start + tail) n) ≤ n)
+    go true f = (omega (arith, f refl), omega arith)
+    go false f = (omega arith, omega arith)
+
+-- the upper bound is not after the silence's end
+pub high-within : (n pre end : ℕ) → highOf n pre end ≤ end
+unfolding highOf
+high-within n pre end = go (eqb end n) (eqb-true end n)
+  where
+    go : (b : Bool) → (b ≡ true → end ≡ n) → cond b n (end - pre) ≤ end
+    go true f = omega (arith, f refl)
+    go false f = omega arith

@@ -1,0 +1,53 @@
+-- Each dropped gap is what is left of an inner silence, and each inner silence of which something is left gives one.
+use mathlib.Core.Path.{_≡_, refl}
+use mathlib.Core.Bool.{Bool, true, false, cond}
+use mathlib.Core.List.{List, [], _∷_, List·Memᴰ, List·Memᴰ·head, List·Memᴰ·tail, List·Memᴰ·not-nil}
+use Prim.Native.Nat.{ℕ, zero, suc, _<_}
+use native.Mathlib.Omega.{arith}
+use Rattle.candidate_span.specs.Listed.{count, startAt, endAt}
+use Rattle.candidate_span.specs.ListedLaws.{start-after, end-after}
+use Rattle.candidate_span.specs.Gaps.{Cut, isGap, gapOf, innerGaps}
+
+module _ (n pre tail : ℕ) where
+  -- silence i has a gap, and g is it
+  pub record GapAt (ss : List ℕ) (g : Cut) : Type 0 where
+    pub number : ℕ
+    pub listed : number < count ss
+    pub left : isGap n pre tail (startAt ss number) (endAt ss number) ≡ true
+    pub is : g ≡ gapOf n pre tail (startAt ss number) (endAt ss number)
+
+  -- the same silence behind one more
+  behind : (s e : ℕ) (ss : List ℕ) (g : Cut) → GapAt ss g → GapAt (s ∷ (e ∷ ss)) g
+  behind s e ss g a = record {
+    number = suc (a .number);
+    listed = omega (arith, a .listed);
+    left = rw (start-after s e ss (a .number), end-after s e ss (a .number)) (a .left);
+    is = rw (start-after s e ss (a .number), end-after s e ss (a .number)) (a .is);
+  }
+
+  pub gap-from : (ss : List ℕ) (g : Cut) → List·Memᴰ g (innerGaps n pre tail ss) → GapAt ss g
+  unfolding innerGaps
+  gap-from [] g m = absurd (List·Memᴰ·not-nil m)
+  gap-from (s ∷ []) g m = absurd (List·Memᴰ·not-nil m)
+  gap-from (s ∷ (e ∷ ss)) g m = go (isGap n pre tail s e) refl m (gap-from ss g)
+    where
+      go : (b : Bool) → isGap n pre tail s e ≡ b → List·Memᴰ g (cond b (gapOf n pre tail s e ∷ innerGaps n pre tail ss) (innerGaps n pre tail ss))
+          → (List·Memᴰ g (innerGaps n pre tail ss) → GapAt ss g) → GapAt (s ∷ (e ∷ ss)) g
+      go true t (List·Memᴰ·head q) f = record { number = 0; listed = omega arith; left = t; is = q }
+      go true t (List·Memᴰ·tail i) f = behind s e ss g (f i)
+      go false t i f = behind s e ss g (f i)
+
+  pub gap-in : (ss : List ℕ) (i : ℕ) → i < count ss → isGap n pre tail (startAt ss i) (endAt ss i) ≡ true
+      → List·Memᴰ (gapOf n pre tail (startAt ss i) (endAt ss i)) (innerGaps n pre tail ss)
+  unfolding innerGaps
+  gap-in [] i h t = absurd (omega arith)
+  gap-in (s ∷ []) i h t = absurd (omega arith)
+  gap-in (s ∷ (e ∷ ss)) zero h t = rw t (List·Memᴰ·head refl)
+  gap-in (s ∷ (e ∷ ss)) (suc i) h t =
+      rw (start-after s e ss i, end-after s e ss i)
+      (later (isGap n pre tail s e) (gap-in ss i (omega arith) (rw (start-after s e ss i, end-after s e ss i) at t)))
+    where
+      later : (b : Bool) → List·Memᴰ (gapOf n pre tail (startAt ss i) (endAt ss i)) (innerGaps n pre tail ss)
+          → List·Memᴰ (gapOf n pre tail (startAt ss i) (endAt ss i)) (cond b (gapOf n pre tail s e ∷ innerGaps n pre tail ss) (innerGaps n pre tail ss))
+      later true m = List·Memᴰ·tail m
+      later false m = m

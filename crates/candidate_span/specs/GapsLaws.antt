@@ -1,0 +1,118 @@
+-- A gap lies inside its silence, silences are apart, and inner silences lie strictly inside the span: so the gaps do, with a frame at least between them.
+use mathlib.Core.Path.{_≡_, refl, sym, ap, subst, _∙_}
+use mathlib.Core.Bool.{Bool, true, false, _&&_, cond}
+use mathlib.Core.List.{List, [], _∷_, List·Memᴰ, List·Memᴰ·head, List·Memᴰ·tail}
+use Prim.Native.Nat.{ℕ, zero, suc, _+_, _-_, _*_, _≤_, _<_}
+use native.Mathlib.Omega.{arith}
+use lib.Dec.{ltb}
+use lib.ListN.{length, getD}
+use borrow.Author.Tests.{ltb-true, ltb-false}
+use Rattle.base_laws.specs.Tests.{both}
+use Rattle.silence_runs.specs.SilencesLaws.{Rising}
+use Rattle.candidate_settings.specs.declared.config.Gap.{Gap}
+use Rattle.candidate_settings.specs.declared.config.Gap.the-variants.{Keep, Drop}
+use Rattle.candidate_span.specs.Listed.{count, startAt, endAt}
+use Rattle.candidate_span.specs.ListedLaws.{start-after, end-after, rising-least}
+use Rattle.candidate_span.specs.Bounds.{lowOf, highOf, isInner}
+use Rattle.candidate_span.specs.BoundsLaws.{inner-parts, low-within, high-within}
+use Rattle.candidate_span.specs.Span.{firstOf, lastOf}
+use Rattle.candidate_span.specs.SpanLaws.{Spanned, ends-order, inner-first, inner-last}
+use Rattle.candidate_span.specs.Gaps.{Cut, isGap, gapOf, gapWidth, innerGaps, gapsOf, dropped, Spread}
+
+-- ---- one gap
+
+-- a gap belongs to an inner silence, and its left end is below its right end
+pub gap-parts : (n pre tail start end : ℕ) → isGap n pre tail start end ≡ true → (start ≡ 0 → ⊥) × (end ≡ n → ⊥) × (lowOf n tail start < highOf n pre end)
+unfolding isGap
+gap-parts n pre tail start end h =
+    let p = both (isInner n start end) (ltb (lowOf n tail start) (highOf n pre end)) h in
+    let i = inner-parts n start end (p .0) in
+    (i .0, i .1, ltb-true (lowOf n tail start) (highOf n pre end) (p .1))
+
+-- ---- all of them
+
+-- every number of silences that starts after boundary a, or ends before boundary z
+abbrev StartsAfter : ℕ → List ℕ → Type 0
+StartsAfter a ss = (i : ℕ) → i < count ss → (startAt ss i ≡ 0 → ⊥) → a < startAt ss i
+
+abbrev EndsBefore : ℕ → ℕ → List ℕ → Type 0
+EndsBefore n z ss = (i : ℕ) → i < count ss → (endAt ss i ≡ n → ⊥) → endAt ss i < z
+
+starts-rest : (a s e : ℕ) (ss : List ℕ) → StartsAfter a (s ∷ (e ∷ ss)) → StartsAfter a ss
+starts-rest a s e ss f i h d =
+    subst (λ (x : ℕ). a < x) (start-after s e ss i) (f (suc i) (omega arith) (λ q. d (sym (start-after s e ss i) ∙ q)))
+
+ends-rest : (n z s e : ℕ) (ss : List ℕ) → EndsBefore n z (s ∷ (e ∷ ss)) → EndsBefore n z ss
+ends-rest n z s e ss f i h d =
+    subst (λ (x : ℕ). x < z) (end-after s e ss i) (f (suc i) (omega arith) (λ q. d (sym (end-after s e ss i) ∙ q)))
+
+-- silences after one lie after what is left of it
+starts-next : (a e n : ℕ) (ss : List ℕ) → a ≤ e → Rising (suc e) n ss → StartsAfter a ss
+starts-next a e n ss h r i l d = omega (arith, rising-least (suc e) n ss (2 * i) r (omega arith))
+
+spread-from : (n pre tail a z lo : ℕ) (ss : List ℕ) → Rising lo n ss → a < z → StartsAfter a ss → EndsBefore n z ss → Spread a (innerGaps n pre tail ss) z
+unfolding innerGaps
+spread-from n pre tail a z lo [] r h f g = h
+spread-from n pre tail a z lo (s ∷ []) r h f g = h
+spread-from n pre tail a z lo (s ∷ (e ∷ ss)) r h f g =
+    go (isGap n pre tail s e) (gap-parts n pre tail s e) (spread-from n pre tail a z (suc e) ss (r .2 .2) h (starts-rest a s e ss f) (ends-rest n z s e ss g))
+    (λ t. spread-from n pre tail (highOf n pre e) z (suc e) ss (r .2 .2) t (starts-next (highOf n pre e) e n ss (high-within n pre e) (r .2 .2)) (ends-rest n z s e ss g))
+  where
+    go : (b : Bool) → (b ≡ true → (s ≡ 0 → ⊥) × (e ≡ n → ⊥) × (lowOf n tail s < highOf n pre e)) → Spread a (innerGaps n pre tail ss) z
+        → (highOf n pre e < z → Spread (highOf n pre e) (innerGaps n pre tail ss) z)
+        → Spread a (cond b (gapOf n pre tail s e ∷ innerGaps n pre tail ss) (innerGaps n pre tail ss)) z
+    go true p w k =
+        let q = p refl in
+        (omega (arith, f 0 (omega arith) (q .0), low-within n tail s (r .1) .0), q .2, k (omega (arith, g 0 (omega arith) (q .1), high-within n pre e)))
+    go false p w k = w
+
+-- document 01's dropped gaps lie strictly inside the span, with a frame at least between them
+pub gaps-spread : (gap : Gap) (n pre tail : ℕ) (ss : List ℕ) → Spanned gap n ss → Spread (firstOf gap pre ss) (gapsOf gap n pre tail ss) (lastOf gap n tail ss)
+unfolding gapsOf
+gaps-spread Keep n pre tail ss p = ends-order Keep n pre tail ss p .0
+gaps-spread Drop n pre tail ss p =
+    spread-from n pre tail (firstOf Drop pre ss) (lastOf Drop n tail ss) 0 ss (p .listed .rises) (ends-order Drop n pre tail ss p .0)
+    (λ i h d. inner-first Drop n pre ss p i h d) (λ i h d. inner-last Drop n tail ss p i h d)
+
+-- ---- what that says of each gap
+
+pub spread-ends : (a : ℕ) (gs : List Cut) (z : ℕ) → Spread a gs z → a < z
+spread-ends a [] z s = s
+spread-ends a (g ∷ gs) z s = omega (arith, s .0, s .1, spread-ends (g .right) gs z (s .2))
+
+pub spread-inside : (a : ℕ) (gs : List Cut) (z : ℕ) (g : Cut) → Spread a gs z → List·Memᴰ g gs → (a < g .left) × (g .left < g .right) × (g .right < z)
+spread-inside a (h ∷ gs) z g s (List·Memᴰ·head e) =
+    let l = ap (λ (c : Cut). c .left) e in
+    let r = ap (λ (c : Cut). c .right) e in
+    (omega (arith, s .0), omega (arith, s .1), omega (arith, spread-ends (h .right) gs z (s .2)))
+spread-inside a (h ∷ gs) z g s (List·Memᴰ·tail m) =
+    let i = spread-inside (h .right) gs z g (s .2) m in
+    (omega (arith, s .0, s .1, i .0), i .1, i .2)
+
+pub spread-apart : (a : ℕ) (gs : List Cut) (z : ℕ) (i : ℕ) (d : Cut) → Spread a gs z → suc i < length gs → getD gs i d .right < getD gs (suc i) d .left
+spread-apart a [] z i d s h = absurd (omega arith)
+spread-apart a (g ∷ []) z i d s h = absurd (omega arith)
+spread-apart a (g ∷ (k ∷ gs)) z zero d s h = s .2 .0
+spread-apart a (g ∷ (k ∷ gs)) z (suc i) d s h = spread-apart (g .right) (k ∷ gs) z i d (s .2) (omega arith)
+
+module _ (gap : Gap) (n pre tail : ℕ) (ss : List ℕ) (p : Spanned gap n ss) where
+  -- each gap lies strictly inside the span, and drops a frame at least
+  pub gaps-inside : (g : Cut) → List·Memᴰ g (gapsOf gap n pre tail ss) → (firstOf gap pre ss < g .left) × (g .left < g .right) × (g .right < lastOf gap n tail ss)
+  gaps-inside g m = spread-inside (firstOf gap pre ss) (gapsOf gap n pre tail ss) (lastOf gap n tail ss) g (gaps-spread gap n pre tail ss p) m
+
+  -- a frame at least lies between a gap and the next
+  pub gaps-apart : (i : ℕ) (d : Cut) → suc i < length (gapsOf gap n pre tail ss) → getD (gapsOf gap n pre tail ss) i d .right < getD (gapsOf gap n pre tail ss) (suc i) d .left
+  gaps-apart i d h = spread-apart (firstOf gap pre ss) (gapsOf gap n pre tail ss) (lastOf gap n tail ss) i d (gaps-spread gap n pre tail ss p) h
+
+-- ---- how many frames gaps drop
+
+-- those of the first silence's gap, and those of the others
+pub dropped-first : (n pre tail s e : ℕ) (ss : List ℕ) → dropped (innerGaps n pre tail (s ∷ (e ∷ ss))) ≡ gapWidth n pre tail s e + dropped (innerGaps n pre tail ss)
+unfolding innerGaps isGap gapWidth dropped
+dropped-first n pre tail s e ss = go (isInner n s e) (ltb (lowOf n tail s) (highOf n pre e)) (ltb-false (lowOf n tail s) (highOf n pre e))
+  where
+    go : (a b : Bool) → (b ≡ false → highOf n pre e ≤ lowOf n tail s)
+        → dropped (cond (a && b) (gapOf n pre tail s e ∷ innerGaps n pre tail ss) (innerGaps n pre tail ss)) ≡ cond a (highOf n pre e - lowOf n tail s) 0 + dropped (innerGaps n pre tail ss)
+    go true true f = refl
+    go true false f = omega (arith, f refl)
+    go false b f = omega arith

@@ -1,0 +1,103 @@
+// The operation "silence list".
+use crate::recording;
+use silence_levels::threshold::Threshold;
+use silence_list::config::SegmentConfig;
+use silence_list::list;
+use silence_list::list::Answer;
+ghost use mathlib.Core.Path.{_≡_};
+ghost use Rattle.silence_list.specs.Silences.{silenceListOf};
+ghost use Rattle.capi.specs.Grid.{recordingOf};
+ghost use Rattle.capi.specs.Silences.{thresholdOf, segmentOf, countAfter, Called, calledOf};
+
+// The threshold of a kind and a number. A kind that does not exist has no number, and is refused like one.
+fn threshold_of(kind: u8, v: f32) -> Threshold
+    ensures { λ r. ⌜ r ≡ thresholdOf kind v ⌝ }
+{
+    if kind == 0 {
+        return Threshold::Auto;
+    }
+    if kind == 1 {
+        return Threshold::Abs(v);
+    }
+    if kind == 2 {
+        return Threshold::BelowRef(v);
+    }
+    Threshold::Abs(0.0 / 0.0)
+}
+
+// The segment settings with these numbers.
+pub fn segment_of(
+    threshold_kind: u8,
+    threshold: f32,
+    min_silence: u64,
+    min_sound: u64,
+    pre: u64,
+    tail: u64,
+) -> SegmentConfig
+    ensures { λ r. ⌜ r ≡ segmentOf «threshold_kind» threshold «min_silence» «min_sound» pre tail ⌝ }
+{
+    SegmentConfig {
+        threshold: threshold_of(threshold_kind, threshold),
+        min_silence,
+        min_sound,
+        pre,
+        tail,
+    }
+}
+
+// How many silences were found, or what stood there before.
+fn count_after(answer: Answer, before: u64) -> u64
+    ensures { λ r. ⌜ r ≡ countAfter answer before ⌝ }
+{
+    match answer {
+        Answer::Found(n) => n as u64,
+        Answer::BadRecording(_) => before,
+        Answer::LongDuration => before,
+        Answer::BadThreshold => before,
+        Answer::ShortWork => before,
+        Answer::ShortOutput => before,
+    }
+}
+
+// 0 where the list was made, and else document 01's number. Silence i has its first frame at out[2 i] and the frame after its last at out[2 i + 1].
+#[no_mangle]
+pub extern "C" fn buchawzer_silence_list(
+    sample_rate: u32,
+    channels: u16,
+    frame_rate: u32,
+    hop: u32,
+    len: u64,
+    decibels: bool,
+    values: &[f32],
+    flags: &[u8],
+    levels: &[f64],
+    threshold_kind: u8,
+    threshold: f32,
+    min_silence: u64,
+    min_sound: u64,
+    pre: u64,
+    tail: u64,
+    work_u32: &mut [u32],
+    work_u64: &mut [u64],
+    work_f64: &mut [f64],
+    out: &mut [u32],
+    count: &mut u64,
+) -> u32
+    ensures { λ r. ⌜ _≡_ {A = Called} (record { number = r; count = now (count .exit); out = now (out .exit); work32 = now («work_u32» .exit); work64 = now («work_u64» .exit); workf = now («work_f64» .exit) }) (calledOf (silenceListOf (recordingOf «sample_rate» channels «frame_rate» hop len decibels) (segmentOf «threshold_kind» threshold «min_silence» «min_sound» pre tail) (now (values .entry)) (now (flags .entry)) (now (levels .entry)) (now (out .entry)) (now («work_u32» .entry)) (now («work_u64» .entry)) (now («work_f64» .entry))) (now (count .entry))) ⌝ }
+{
+    let r = recording::recording_of(sample_rate, channels, frame_rate, hop, len, decibels);
+    let c = segment_of(threshold_kind, threshold, min_silence, min_sound, pre, tail);
+    let answer = list::silence_list(
+        r,
+        c,
+        values,
+        flags,
+        levels,
+        work_u32,
+        work_u64,
+        work_f64,
+        out,
+    );
+    *count = count_after(answer, *count);
+    list::number(answer)
+}

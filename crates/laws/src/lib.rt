@@ -1,1 +1,0 @@
-// laws: no code. The laws about floats that the path and the bound stand on are in specs/, whose Lib.antt is the index.

@@ -1,0 +1,73 @@
+-- Laws of the search by count: its steps one after the other.
+use mathlib.Core.Path.{_≡_, refl, sym, ap, _∙_}
+use mathlib.Core.List.{List, []}
+use Prim.Native.Nat.{ℕ, _+_, _-_, _*_, _≤_, _<_}
+use native.Mathlib.Nat.{le-refl}
+use native.Mathlib.Omega.{arith}
+use borrow.Rule.Slice.PartMut.{putMid}
+use lib.Ieee.{Float, binary64, ofBits}
+use lib.ListN.{length, getD, set}
+use Rattle.base_laws.specs.Nonneg.{nought-is}
+use Rattle.base_terms.specs.Lists.{onto}
+use Rattle.base_code.specs.FrontLaws.{onto-nil, onto-next}
+use Rattle.path_pieces.specs.declared.lengths.Lengths.{Lengths}
+use Rattle.path_pieces.specs.declared.score.Score.{Score}
+use Rattle.path_by_length.specs.Paths.{piecesOf, lastOf}
+use Rattle.path_by_length.specs.ByCount.{bestWith, wayWith, bestPathByCount, bestScoreByCount}
+use Rattle.path_by_count_search.specs.Tree.{Leaves}
+use Rattle.path_by_count_rows.specs.First.{FirstStarts}
+use Rattle.path_by_count_rows.specs.Rows.{Laid, leafScore}
+use Rattle.path_by_count.specs.Table.{RowsFilled}
+use Rattle.path_by_count.specs.TableLaws.{put-part}
+use Rattle.path_by_count.specs.Walk.{wayIn}
+use Rattle.path_by_count.specs.WalkLaws.{way-length, rows-back, rows-way}
+use Rattle.path_by_count.specs.Counted.{Room, Sought, SolutionByCount}
+
+module _ {l : Lengths} {left right : List ℕ} where
+  -- the first starts written behind the tree
+  pub room-laid : {over : List ℕ} {cost : List Float} {leaves : ℕ} (first : List ℕ) → Room l left right over cost → Leaves (length left) leaves
+      → FirstStarts (l .limit) left right first → length (putMid (length left * 4) (length left * 5 - length left * 4) over first) ≡ length over
+      → Laid l left right leaves (putMid (length left * 4) (length left * 5 - length left * 4) over first) cost
+  room-laid {over} {cost} {leaves} first r t f e =
+      let n = length left in
+      let d : n * 5 - n * 4 ≡ n = omega arith in
+      record {
+        lent = r .lent;
+        tree = t;
+        overs = omega (arith, r .overs, e);
+        costs = r .costs;
+        firsts = λ j h. ap (λ (w : ℕ). getD (putMid (n * 4) w over first) (n * 4 + j) 0) d ∙ put-part over first (n * 4) n 0 (f .each) (omega (arith, r .overs)) j h ∙ f .start j h;
+      }
+
+  module _ {cut : List Float} where
+    -- the rows give the score and the way back
+    pub rows-sought : {leaves : ℕ} {over : List ℕ} {cost : List Float} {parent : List ℕ} {pieces : ℕ} → RowsFilled l left right cut leaves over cost parent pieces
+        → pieces < length left → pieces * length left ≤ length parent → Sought l left right cut parent pieces (leafScore leaves over cost (lastOf left))
+    rows-sought {pieces = pieces} f h room = record {
+      is = f .scores (lastOf left) (omega arith) (omega arith);
+      back = rows-back f h room;
+      way = rows-way f pieces (lastOf left) (le-refl pieces) (omega arith) (omega arith);
+    }
+
+    -- the walk back writes the path
+    pub sought-solved : {count : ℕ} {parent path₀ path : List ℕ} {score : Score} (pieces : ℕ) → pieces ≡ piecesOf left count → Sought l left right cut parent pieces score
+        → path ≡ onto (wayIn parent (length left) pieces (lastOf left)) path₀
+        → SolutionByCount l left right cut count path₀ path (record { score = score; len = pieces + 1 })
+    unfolding bestPathByCount bestScoreByCount
+    sought-solved {count} {parent} {path₀} {path} pieces e s w = record {
+      score = rw (← e) (s .is);
+      count-is = rw (← e, ← s .way) (omega (arith, way-length parent (length left) pieces (lastOf left)));
+      written = rw (← e, ← s .way) w;
+    }
+
+    -- one candidate alone
+    pub none-solved : {count : ℕ} {path₀ : List ℕ} (pieces : ℕ) → pieces ≡ piecesOf left count → pieces ≡ 0 → lastOf left ≡ 0 → 0 < length path₀
+        → SolutionByCount l left right cut count path₀ (set path₀ 0 0) (record { score = record { over = 0; cost = ofBits binary64 0 }; len = 1 })
+    unfolding bestPathByCount bestScoreByCount bestWith wayWith
+    none-solved {count} {path₀} pieces e z last h =
+        let p : piecesOf left count ≡ 0 = sym e ∙ z in
+        record {
+          score = ap (λ (c : Float). record { over = 0; cost = c }) (nought-is binary64) ∙ sym (ap (λ (k : ℕ). bestWith l left right cut k (lastOf left)) p);
+          count-is = sym (ap (λ (k : ℕ). length (wayWith l left right cut k (lastOf left))) p);
+          written = rw p (rw last (ap (λ (xs : List ℕ). set xs 0 0) (sym (onto-nil path₀)) ∙ onto-next [] path₀ 0 0 refl h));
+        }

@@ -1,0 +1,235 @@
+-- Laws of the lowest least: that the definition gives it, that there is one only, how it goes from a range to a longer one, and the order of candidates behind it.
+use mathlib.Core.Path.{_≡_, refl, sym, ap, subst, _∙_}
+use mathlib.Core.Logic.{inl, inr}
+use mathlib.Core.Bool.{Bool, true, false, not, _&&_, _||_}
+use Prim.Native.Nat.{ℕ, zero, suc, _+_, _-_, _≤_, _<_}
+use native.Mathlib.Nat.{le-refl, le-trans, le-antisymm, le-of-lt, lt-trans}
+use native.Mathlib.Omega.{arith}
+use lib.Dec.{T, T-not, not-T, ltb, ltb→lt, nltb→le}
+use lib.Ieee.Fits.{and-l, and-r, and-i}
+use Rattle.base_terms.specs.Floats.{nonneg}
+use Rattle.base_laws.specs.Tests.{passes, or-l, or-r, or-split, lt-or-le}
+use Rattle.base_laws.specs.Scores.{score-eq-is, score-lt-le-trans}
+use Rattle.path_pieces.specs.Pieces.{atMost, lessThan, equalTo}
+use Rattle.path_pieces.specs.DomainLaws.{at-most-refl, at-most-trans, less-than-is, less-at-most}
+use Rattle.path_pieces.specs.declared.score.Score.{Score}
+use Rattle.path_by_count_search.specs.declared.best.Best.{Best}
+use Rattle.path_by_count_search.specs.Least.{entry, pickBest, leastOf, leastIn, IsLeast, aheadOf, Before}
+
+pub pick-yes : (b : Bool) (x y : Best) → T b → pickBest b x y ≡ x
+pick-yes true x y t = refl
+pick-yes false x y t = absurd t
+
+pub pick-no : (b : Bool) (x y : Best) → T (not b) → pickBest b x y ≡ y
+pick-no true x y t = absurd t
+pick-no false x y t = refl
+
+-- ---- scores that are not negative
+
+-- what is not at most the other is above it
+pub not-at-most : (a b : Score) → T (nonneg (a .cost)) → T (nonneg (b .cost)) → T (not (atMost a b)) → T (lessThan b a)
+not-at-most a b p q n = rw (less-than-is b a q p) n
+
+-- what is below the other is not at least it
+pub less-not-at-least : (a b : Score) → T (nonneg (a .cost)) → T (nonneg (b .cost)) → T (lessThan a b) → T (not (atMost b a))
+less-not-at-least a b p q l = subst T (less-than-is a b p q) l
+
+-- and what is not below is at least
+pub not-less : (a b : Score) → T (nonneg (a .cost)) → T (nonneg (b .cost)) → T (not (lessThan a b)) → T (atMost b a)
+not-less a b p q n = elim (passes (atMost b a)) [ inl t ↦ t | inr t ↦ absurd (T-not (lessThan a b) n (not-at-most b a q p t)) ]
+
+-- below and then at most is below
+pub less-at-most-trans : (a b c : Score) → T (lessThan a b) → T (atMost b c) → T (lessThan a c)
+less-at-most-trans a b c h k = score-lt-le-trans (a .over) (a .cost) (b .over) (b .cost) (c .over) (c .cost) h k
+
+-- equal scores are at most each other
+pub equal-both : (a b : Score) → T (equalTo a b) → T (atMost a b) × T (atMost b a)
+equal-both a b t =
+    let u : T (atMost a b && atMost b a) = subst T (score-eq-is (a .over) (a .cost) (b .over) (b .cost)) t in
+    (and-l (atMost a b) (atMost b a) u, and-r (atMost a b) (atMost b a) u)
+
+pub both-equal : (a b : Score) → T (atMost a b) → T (atMost b a) → T (equalTo a b)
+both-equal a b p q = rw (score-eq-is (a .over) (a .cost) (b .over) (b .cost)) (and-i (atMost a b) (atMost b a) p q)
+
+-- ---- the definition gives the lowest least, and there is no other
+
+module _ (score : ℕ → Score) where
+  -- a candidate in front is the lowest least where it is as good as all after it
+  front-best : (from to : ℕ) → from < to → T (nonneg (score from .cost)) → ((k : ℕ) → suc from ≤ k → k < to → T (atMost (score from) (score k)))
+      → IsLeast score from to (entry score from)
+  front-best from to h p a = record {
+    low = le-refl from;
+    high = h;
+    is = refl;
+    least = λ k g l. elim (lt-or-le from k) [
+      | inl m ↦ a k m l
+      | inr m ↦ let e : from ≡ k = omega arith in subst (λ (n : ℕ). T (atMost (score from) (score n))) e (at-most-refl (score from) p)
+    ];
+    lowest = λ k g l. absurd (omega arith);
+  }
+
+  -- else the one after it stays
+  after-best : (from to : ℕ) (b : Best) → T (lessThan (b .score) (score from)) → IsLeast score (suc from) to b → IsLeast score from to b
+  after-best from to b l a = record {
+    low = omega (arith, a .low);
+    high = a .high;
+    is = a .is;
+    least = λ k g h. elim (lt-or-le from k) [
+      | inl m ↦ a .least k m h
+      | inr m ↦ let e : from ≡ k = omega arith in
+          subst (λ (n : ℕ). T (atMost (b .score) (score n))) e (less-at-most (b .score) (score from) l)
+    ];
+    lowest = λ k g h. elim (lt-or-le from k) [
+      | inl m ↦ a .lowest k m h
+      | inr m ↦ let e : from ≡ k = omega arith in subst (λ (n : ℕ). T (lessThan (b .score) (score n))) e l
+    ];
+  }
+
+  -- the candidate just behind the range is the lowest least where it is better than that of the range
+  pub least-next : (from to : ℕ) (b : Best) → from ≤ to → T (nonneg (score to .cost)) → T (lessThan (score to) (b .score)) → IsLeast score from to b
+      → IsLeast score from (to + 1) (entry score to)
+  least-next from to b f p l a =
+      let below : (k : ℕ) → from ≤ k → k < to → T (lessThan (score to) (score k)) =
+      λ k g h. less-at-most-trans (score to) (b .score) (score k) l (a .least k g h) in
+      record {
+        low = f;
+        high = omega arith;
+        is = refl;
+        least = λ k g h. elim (lt-or-le k to) [
+          | inl m ↦ less-at-most (score to) (score k) (below k g m)
+          | inr m ↦ let e : to ≡ k = omega arith in subst (λ (n : ℕ). T (atMost (score to) (score n))) e (at-most-refl (score to) p)
+        ];
+        lowest = below;
+      }
+
+  -- else that of the range stays
+  pub least-stays : (from to : ℕ) (b : Best) → T (atMost (b .score) (score to)) → IsLeast score from to b → IsLeast score from (to + 1) b
+  least-stays from to b l a = record {
+    low = a .low;
+    high = omega (arith, a .high);
+    is = a .is;
+    least = λ k g h. elim (lt-or-le k to) [
+      | inl m ↦ a .least k g m
+      | inr m ↦ let e : to ≡ k = omega arith in subst (λ (n : ℕ). T (atMost (b .score) (score n))) e l
+    ];
+    lowest = a .lowest;
+  }
+
+  -- the choice between the two
+  pub least-more : (from to : ℕ) (b : Best) → ((k : ℕ) → k < to + 1 → T (nonneg (score k .cost))) → IsLeast score from to b
+      → IsLeast score from (to + 1) (pickBest (lessThan (score to) (b .score)) (entry score to) b)
+  least-more from to b fine a =
+      let p : T (nonneg (score to .cost)) = fine to (omega arith) in
+      let q : T (nonneg (b .score .cost)) =
+      subst (λ (s : Score). T (nonneg (s .cost))) (sym (a .is)) (fine (b .at) (omega (arith, a .high))) in
+      elim (passes (lessThan (score to) (b .score))) [
+        | inl t ↦ rw (pick-yes (lessThan (score to) (b .score)) (entry score to) b t) (least-next from to b (omega (arith, a .low, a .high)) p t a)
+        | inr t ↦ rw (pick-no (lessThan (score to) (b .score)) (entry score to) b t)
+            (least-stays from to b (not-less (score to) (b .score) p q t) a)
+      ]
+
+  -- one candidate alone
+  pub least-one : (i : ℕ) → T (nonneg (score i .cost)) → IsLeast score i (i + 1) (entry score i)
+  least-one i p = front-best i (i + 1) (omega arith) p (λ k g l. absurd (omega arith))
+
+module _ (score : ℕ → Score) (to : ℕ) (fine : (k : ℕ) → k < to → T (nonneg (score k .cost))) where
+  go-least : (n from : ℕ) → from + suc n ≡ to → IsLeast score from to (leastOf score from n)
+  unfolding leastOf
+  go-least zero from e = front-best score from to (omega arith) (fine from (omega arith)) (λ k g l. absurd (omega arith))
+  go-least (suc n) from e =
+      let after = leastOf score (suc from) n in
+      let a : IsLeast score (suc from) to after = go-least n (suc from) (omega arith) in
+      let q : T (nonneg (after .score .cost)) = subst (λ (s : Score). T (nonneg (s .cost))) (sym (a .is)) (fine (after .at) (a .high)) in
+      elim (passes (atMost (score from) (after .score))) [
+        | inl y ↦ rw (pick-yes (atMost (score from) (after .score)) (entry score from) after y)
+            (front-best score from to (omega arith) (fine from (omega arith))
+            (λ k g l. at-most-trans (score from) (after .score) (score k) y (a .least k g l)))
+        | inr n ↦ rw (pick-no (atMost (score from) (after .score)) (entry score from) after n)
+            (after-best score from to after (not-at-most (score from) (after .score) (fine from (omega arith)) q n) a)
+      ]
+
+  -- the definition gives it
+  pub least-is : (from : ℕ) → from < to → IsLeast score from to (leastIn score from to)
+  least-is from h = go-least (to - suc from) from (omega arith)
+
+  -- of two, neither is the earlier
+  none-earlier : (from : ℕ) (b c : Best) → IsLeast score from to b → IsLeast score from to c → c .at ≤ b .at
+  none-earlier from b c x y = elim (lt-or-le (b .at) (c .at)) [
+    | inr m ↦ m
+    | inl m ↦
+        let sb : T (nonneg (score (b .at) .cost)) = fine (b .at) (x .high) in
+        let sc : T (nonneg (score (c .at) .cost)) = fine (c .at) (y .high) in
+        let l : T (lessThan (score (c .at)) (score (b .at))) =
+        subst (λ (s : Score). T (lessThan s (score (b .at)))) (y .is) (y .lowest (b .at) (x .low) m) in
+        let g : T (atMost (score (b .at)) (score (c .at))) =
+        subst (λ (s : Score). T (atMost s (score (c .at)))) (x .is) (x .least (c .at) (y .low) (y .high)) in
+        absurd (T-not (atMost (score (b .at)) (score (c .at))) (less-not-at-least (score (c .at)) (score (b .at)) sc sb l) g)
+  ]
+
+  -- there is one only
+  pub least-unique : (from : ℕ) (b c : Best) → IsLeast score from to b → IsLeast score from to c → b ≡ c
+  least-unique from b c x y =
+      let e : b .at ≡ c .at = le-antisymm (none-earlier from c b y x) (none-earlier from b c x y) in
+      let f : b .score ≡ c .score = x .is ∙ ap score e ∙ sym (y .is) in
+      ap (λ (s : Score). record { score = s; at = b .at }) f ∙ ap (λ (i : ℕ). record { score = c .score; at = i }) e
+
+  -- so it is the definition's
+  pub least-only : (from : ℕ) (b : Best) → from < to → IsLeast score from to b → b ≡ leastIn score from to
+  least-only from b h x = least-unique from b (leastIn score from to) x (least-is from h)
+
+-- ---- which of two comes first
+
+-- a candidate does not come before itself
+pub before-refl : (a : Best) → T (nonneg (a .score .cost)) → Before a a
+before-refl a p = record { better = at-most-refl (a .score) p; earlier = λ t. le-refl (a .at) }
+
+pub before-trans : {a b c : Best} → Before a b → Before b c → Before a c
+before-trans {a} {b} {c} x y = record {
+  better = at-most-trans (a .score) (b .score) (c .score) (x .better) (y .better);
+  earlier = λ t. le-trans (x .earlier (at-most-trans (b .score) (c .score) (a .score) (y .better) t))
+      (y .earlier (at-most-trans (c .score) (a .score) (b .score) t (x .better)));
+}
+
+-- the one that is ahead comes first
+pub ahead-before : (a b : Best) → T (nonneg (a .score .cost)) → T (nonneg (b .score .cost)) → T (aheadOf a b) → Before a b
+unfolding aheadOf
+ahead-before a b p q t =
+    elim (or-split (lessThan (a .score) (b .score)) (equalTo (a .score) (b .score) && ltb (a .at) (b .at)) t) [
+      | inl l ↦ record {
+        better = less-at-most (a .score) (b .score) l;
+        earlier = λ u. absurd (T-not (atMost (b .score) (a .score)) (less-not-at-least (a .score) (b .score) p q l) u);
+      }
+      | inr e ↦ record {
+        better = equal-both (a .score) (b .score) (and-l (equalTo (a .score) (b .score)) (ltb (a .at) (b .at)) e) .0;
+        earlier = λ u. le-of-lt (ltb→lt (a .at) (b .at) (and-r (equalTo (a .score) (b .score)) (ltb (a .at) (b .at)) e));
+      }
+    ]
+
+-- and where a is not ahead of b, b comes first
+pub not-ahead-before : (a b : Best) → T (nonneg (a .score .cost)) → T (nonneg (b .score .cost)) → T (not (aheadOf a b)) → Before b a
+unfolding aheadOf
+not-ahead-before a b p q t =
+    let less = lessThan (a .score) (b .score) in
+    let level = equalTo (a .score) (b .score) in
+    let lower = ltb (a .at) (b .at) in
+    let g : T (atMost (b .score) (a .score)) = not-less (a .score) (b .score) p q (not-T less (λ (u : T less). T-not (less || (level && lower)) t (or-l less (level && lower) u))) in
+    record {
+      better = g;
+      earlier = λ u. nltb→le (a .at) (b .at) (not-T lower (λ (v : T lower). T-not (less || (level && lower)) t
+          (or-r less (level && lower) (and-i level lower (both-equal (a .score) (b .score) u g) v))));
+    }
+
+-- what comes before every candidate of a range, and is one of them, is the lowest least
+pub before-least : (score : ℕ → Score) (from to : ℕ) (b : Best) → ((k : ℕ) → from ≤ k → k < to → T (nonneg (score k .cost)))
+    → from ≤ b .at → b .at < to → b .score ≡ score (b .at) → ((k : ℕ) → from ≤ k → k < to → Before b (entry score k)) → IsLeast score from to b
+before-least score from to b fine low high is all = record {
+  low = low;
+  high = high;
+  is = is;
+  least = λ k g h. all k g h .better;
+  lowest = λ k g h.
+      let x = all k g (lt-trans h high) in
+      let p : T (nonneg (b .score .cost)) = subst (λ (s : Score). T (nonneg (s .cost))) (sym is) (fine (b .at) low high) in
+      not-at-most (score k) (b .score) (fine k g (lt-trans h high)) p
+      (not-T (atMost (score k) (b .score)) (λ (u : T (atMost (score k) (b .score))). let e = x .earlier u in omega arith));
+}

@@ -1,0 +1,44 @@
+// The best predecessor of a range of candidates, by the quicker of two searches.
+use crate::best::Best;
+use crate::narrow;
+use crate::scan;
+use crate::visit::Query;
+use path_pieces::lengths::Lengths;
+ghost use mathlib.Core.Path.{_≡_};
+ghost use Prim.Native.Nat.{_≤_, _<_};
+ghost use Rattle.path_by_count_search.specs.Least.{leastIn};
+ghost use Rattle.path_by_count_search.specs.Starts.{arrivalAt, Starts};
+ghost use Rattle.path_by_count_search.specs.Tree.{Covers};
+
+// The best predecessor among the candidates from..to of a piece that ends at the place `end`: a short range is searched
+// candidate by candidate, a longer one by the tree.
+pub fn least_predecessor(
+    right: &[u64],
+    over: &[u32],
+    cost: &[f64],
+    leaves: usize,
+    lengths: Lengths,
+    end: u64,
+    from: usize,
+    to: usize,
+) -> Best
+    requires { ⌜ Starts lengths (now right) (now over) (now cost) leaves to end ⌝ }
+    requires { ⌜ Covers leaves to (now over) (now cost) 1 0 leaves ⌝ }
+    requires { ⌜ from < to ⌝ }
+    requires { ⌜ to ≤ leaves ⌝ }
+    ensures { λ r. ⌜ r ≡ leastIn (arrivalAt lengths (now (right .entry)) (now (over .entry)) (now (cost .entry)) leaves end) from to ⌝ }
+{
+    if to - from <= 16 {
+        return scan::scan_least(right, over, cost, leaves, lengths, end, from, to);
+    }
+    let last = to - 1;
+    let score = scan::score_from(right, over, cost, lengths, end, leaves + last, last);
+    let query = Query {
+        lengths,
+        end,
+        from,
+        to,
+        leaves,
+    };
+    narrow::seek(right, over, cost, query, Best { score, at: last })
+}

@@ -1,0 +1,100 @@
+// The pruned search over the tree of least scores: ranges whose bound cannot improve the best so far are left out.
+//
+// Floating-point rounding can break Monge argmin ordering, even with convex real-valued costs, so only bounds prune.
+use crate::best;
+use crate::best::Best;
+use crate::halves;
+use crate::scan;
+use base_code::sizes;
+use path_pieces::lengths::Lengths;
+ghost use mathlib.Core.Path.{_≡_};
+ghost use Prim.Native.Nat.{_+_};
+ghost use lib.Dec.{T};
+ghost use Rattle.base_terms.specs.Floats.{nonneg};
+ghost use Rattle.path_by_count_search.specs.Least.{entry, firstOf};
+ghost use Rattle.path_by_count_search.specs.Starts.{Starts, Start};
+ghost use Rattle.path_by_count_search.specs.Tree.{Covers};
+ghost use Rattle.path_by_count_search.specs.Visit.{FirstIn, through};
+
+// So few candidates are compared one after the other: a bound costs about as much as a score, so that halving on would cost more than it leaves out.
+pub const FEW: usize = 8;
+
+// What is sought: the best predecessor among the candidates from..to of a piece that ends at the place `end`.
+// The leaf of candidate i stands at leaves + i.
+pub struct Query {
+    pub lengths: Lengths,
+    pub end: u64,
+    pub from: usize,
+    pub to: usize,
+    pub leaves: usize,
+}
+
+// The first of the best so far and the candidate i.
+fn at_leaf(right: &[u64], over: &[u32], cost: &[f64], query: Query, i: usize, best: Best) -> Best
+    requires { ⌜ Start (now right) (now over) (now cost) (query .leaves + i) i (query .end) ⌝ }
+    ensures { λ r. ⌜ r ≡ firstOf (entry (through query (now (right .entry)) (now (over .entry)) (now (cost .entry))) i) best ⌝ }
+{
+    let lengths = query.lengths;
+    let score = scan::score_from(right, over, cost, lengths, query.end, query.leaves + i, i);
+    best::first_of(Best { score, at: i }, best)
+}
+
+// The first of the best so far and the candidates of lo..hi that lie in the query, one after the other.
+fn at_leaves(
+    right: &[u64],
+    over: &[u32],
+    cost: &[f64],
+    query: Query,
+    lo: usize,
+    hi: usize,
+    best: Best,
+) -> Best
+    requires { ⌜ Starts (query .lengths) (now right) (now over) (now cost) (query .leaves) (query .to) (query .end) ⌝ }
+    requires { ⌜ T (nonneg (best .score .cost)) ⌝ }
+    ensures { λ r. ⌜ FirstIn (through query (now (right .entry)) (now (over .entry)) (now (cost .entry))) lo hi (query .from) (query .to) best r ⌝ }
+{
+    let start = sizes::larger(lo, query.from);
+    let stop = sizes::lesser(hi, query.to);
+    let mut first = best;
+    let mut i = start;
+    while i < stop {
+        first = at_leaf(right, over, cost, query, i, first);
+        i += 1;
+    }
+    first
+}
+
+// The first of the best so far and the candidates of lo..hi that lie in the query.
+pub fn visit(
+    right: &[u64],
+    over: &[u32],
+    cost: &[f64],
+    query: Query,
+    node: usize,
+    lo: usize,
+    hi: usize,
+    best: Best,
+) -> Best
+    requires { ⌜ Starts (query .lengths) (now right) (now over) (now cost) (query .leaves) (query .to) (query .end) ⌝ }
+    requires { ⌜ Covers (query .leaves) (query .to) (now over) (now cost) node lo hi ⌝ }
+    requires { ⌜ T (nonneg (best .score .cost)) ⌝ }
+    ensures { λ r. ⌜ FirstIn (through query (now (right .entry)) (now (over .entry)) (now (cost .entry))) lo hi (query .from) (query .to) best r ⌝ }
+{
+    if hi - lo <= FEW {
+        return at_leaves(right, over, cost, query, lo, hi, best);
+    }
+    let parts = halves::halves(right, over, cost, query, node, lo, hi);
+    let a = parts.first;
+    let b = parts.second;
+    if best::ahead(a.outlook, best) {
+        let found = visit(right, over, cost, query, a.node, a.lo, a.hi, best);
+        if best::ahead(b.outlook, found) {
+            return visit(right, over, cost, query, b.node, b.lo, b.hi, found);
+        }
+        return found;
+    }
+    if best::ahead(b.outlook, best) {
+        return visit(right, over, cost, query, b.node, b.lo, b.hi, best);
+    }
+    best
+}

@@ -1,0 +1,104 @@
+-- Document 01's "path": which pieces are allowed, which lists of candidates are paths, what a path scores, which path is best, and the tie rule.
+-- The limit is an argument of every definition, alone or in the length preferences.
+use mathlib.Core.Path.{_≡_}
+use mathlib.Core.Logic.{_⊎_}
+use mathlib.Core.Bool.{Bool, _||_}
+use mathlib.Core.List.{List, [], _∷_}
+use Prim.Native.Nat.{ℕ, suc, _-_, _<_, min}
+use lib.Dec.{T, eqb}
+use lib.Ieee.{Float}
+use lib.ListN.{length}
+use Rattle.path_pieces.specs.Pieces.{pieceLength, isWithin, noScore, withPiece, withCutAt, arrival, atMost}
+use Rattle.path_pieces.specs.declared.lengths.Lengths.{Lengths}
+use Rattle.path_pieces.specs.declared.score.Score.{Score}
+use Rattle.path_by_length.specs.Least.{LowestLeast}
+
+-- ---- pieces
+
+-- document 01's "piece rule": a piece that ends at candidate j may start at candidate i if it is no longer than the limit or i = j - 1
+unfoldable pub mayStart : ℕ → List ℕ → List ℕ → ℕ → ℕ → Bool
+mayStart limit left right j i = isWithin limit left right j i || eqb (suc i) j
+
+-- an allowed piece from candidate i to candidate j, by length
+abbrev pub Allowed : ℕ → List ℕ → List ℕ → ℕ → ℕ → Type 0
+Allowed limit left right i j = (i < j) × T (mayStart limit left right j i)
+
+-- by count "the first piece may have any length"
+abbrev pub AllowedByCount : ℕ → List ℕ → List ℕ → ℕ → ℕ → Type 0
+AllowedByCount limit left right i j = (i < j) × ((i ≡ 0) ⊎ T (mayStart limit left right j i))
+
+-- ---- paths: lists of candidates
+
+-- from candidate i on: each piece follows the rule, and the last one ends at `last`
+abbrev pub Run : (ℕ → ℕ → Type 0) → ℕ → List ℕ → ℕ → Type 0
+Run rule i [] last = i ≡ last
+Run rule i (j ∷ rest) last = rule i j × Run rule j rest last
+
+-- from the first candidate to `last`
+abbrev pub Path : (ℕ → ℕ → Type 0) → List ℕ → ℕ → Type 0
+Path rule [] last = ⊥
+Path rule (i ∷ rest) last = (i ≡ 0) × Run rule i rest last
+
+-- the last candidate
+abbrev pub lastOf : List ℕ → ℕ
+lastOf left = length left - 1
+
+-- document 01's "path" by length: from the first candidate to the last
+abbrev pub PathByLength : ℕ → List ℕ → List ℕ → List ℕ → Type 0
+PathByLength limit left right path = Path (Allowed limit left right) path (lastOf left)
+
+-- a path by count of k pieces, one fewer than candidates, to candidate j
+abbrev pub PathWith : ℕ → List ℕ → List ℕ → ℕ → ℕ → List ℕ → Type 0
+PathWith limit left right k j path = Path (AllowedByCount limit left right) path j × (length path ≡ suc k)
+
+-- document 01's number of pieces by count: min(count, last index)
+abbrev pub piecesOf : List ℕ → ℕ → ℕ
+piecesOf left count = min count (lastOf left)
+
+-- document 01's "path" by count
+abbrev pub PathByCount : ℕ → ℕ → List ℕ → List ℕ → List ℕ → Type 0
+PathByCount count limit left right path = PathWith limit left right (piecesOf left count) (lastOf left) path
+
+-- ---- scores
+
+module _ (l : Lengths) (left right : List ℕ) (cut : List Float) where
+  -- a path's score s at candidate i becomes this at candidate j: the piece is added, and then the cut
+  abbrev pub step : Score → ℕ → ℕ → Score
+  step s i j = withCutAt cut j (withPiece l s (pieceLength left right i j))
+
+  -- from the score s at candidate i on, piece by piece
+  unfoldable pub scoreFrom : Score → ℕ → List ℕ → Score
+  scoreFrom s i [] = s
+  scoreFrom s i (j ∷ rest) = scoreFrom (step s i j) j rest
+
+  -- document 01's "score" of a path: added left to right, each piece's and then the cut's, none after the last piece
+  unfoldable pub pathScore : List ℕ → Score
+  pathScore [] = noScore
+  pathScore (i ∷ rest) = scoreFrom noScore i rest
+
+  -- document 01's "best": allowed, and at most the score of every allowed path
+  pub record BestByLength (path : List ℕ) : Type 0 where
+    pub allowed : PathByLength (l .limit) left right path
+    pub least : (other : List ℕ) → PathByLength (l .limit) left right other → T (atMost (pathScore path) (pathScore other))
+
+  pub record BestByCount (count : ℕ) (path : List ℕ) : Type 0 where
+    pub allowed : PathByCount count (l .limit) left right path
+    pub least : (other : List ℕ) → PathByCount count (l .limit) left right other → T (atMost (pathScore path) (pathScore other))
+
+  -- document 01's "own best score" of each candidate: the score of an allowed path to it, and at most the score of every one
+  pub record OwnBest (own : ℕ → Score) : Type 0 where
+    pub path : ℕ → List ℕ
+    pub allowed : (j : ℕ) → j < length left → Path (Allowed (l .limit) left right) (path j) j
+    pub attained : (j : ℕ) → j < length left → pathScore (path j) ≡ own j
+    pub least : (j : ℕ) (other : List ℕ) → j < length left → Path (Allowed (l .limit) left right) other j → T (atMost (own j) (pathScore other))
+
+-- ---- ties
+
+module _ (l : Lengths) (left right : List ℕ) where
+  -- document 01's "tie rule" for the piece from i to j: i is the lowest candidate whose own best score, plus this piece, is least among the allowed pieces
+  abbrev pub Chosen : (ℕ → Score) → ℕ → ℕ → Type 0
+  Chosen own i j = LowestLeast (mayStart (l .limit) left right j) (arrival l left right own j) 0 j i
+
+  -- "reading from the end, each piece starts" there
+  abbrev pub TieRule : (ℕ → Score) → List ℕ → Type 0
+  TieRule own path = Path (Chosen own) path (lastOf left)

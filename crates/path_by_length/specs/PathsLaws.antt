@@ -1,0 +1,35 @@
+-- Laws of a path's score: one more piece at the end of a path is one more step of its score.
+use mathlib.Core.Path.{_≡_, refl, sym, ap, subst}
+use mathlib.Core.List.{List, [], _∷_, _++_}
+use Prim.Native.Nat.{ℕ}
+use lib.Ieee.{Float}
+use Rattle.path_pieces.specs.Pieces.{noScore}
+use Rattle.path_pieces.specs.declared.lengths.Lengths.{Lengths}
+use Rattle.path_pieces.specs.declared.score.Score.{Score}
+use Rattle.path_by_length.specs.Paths.{Run, Path, step, scoreFrom, pathScore}
+
+-- ---- one more piece at the end
+
+module _ (rule : ℕ → ℕ → Type 0) where
+  run-more : (a : ℕ) (rest : List ℕ) (i j : ℕ) → Run rule a rest i → rule i j → Run rule a (rest ++ (j ∷ [])) j
+  run-more a [] i j e p = (subst (λ (n : ℕ). rule n j) (sym e) p, refl)
+  run-more a (b ∷ rest) i j (q, r) p = (q, run-more b rest i j r p)
+
+  -- a path and an allowed piece are a path
+  pub path-more : (path : List ℕ) (i j : ℕ) → Path rule path i → rule i j → Path rule (path ++ (j ∷ [])) j
+  path-more [] i j a p = absurd a
+  path-more (b ∷ rest) i j (e, r) p = (e, run-more b rest i j r p)
+
+  module _ (l : Lengths) (left right : List ℕ) (cut : List Float) where
+    score-more : (s : Score) (a : ℕ) (rest : List ℕ) (i j : ℕ) → Run rule a rest i
+        → scoreFrom l left right cut s a (rest ++ (j ∷ [])) ≡ step l left right cut (scoreFrom l left right cut s a rest) i j
+    unfolding scoreFrom
+    score-more s a [] i j e = ap (λ (n : ℕ). step l left right cut s n j) e
+    score-more s a (b ∷ rest) i j (q, r) = score-more (step l left right cut s a b) b rest i j r
+
+    -- and its score is one more step
+    pub path-score-more : (path : List ℕ) (i j : ℕ) → Path rule path i
+        → pathScore l left right cut (path ++ (j ∷ [])) ≡ step l left right cut (pathScore l left right cut path) i j
+    unfolding pathScore
+    path-score-more [] i j a = absurd a
+    path-score-more (b ∷ rest) i j (e, r) = score-more noScore b rest i j r

@@ -1,0 +1,67 @@
+-- What the functions of this crate need and leave: the table in two lent lists, the path in a third, and the answer.
+use mathlib.Core.Path.{_≡_}
+use mathlib.Core.List.{List}
+use Prim.Native.Nat.{ℕ, _+_, _≤_, _<_}
+use lib.Ieee.{Float}
+use lib.ListN.{length, getD, take, drop}
+use Rattle.path_pieces.specs.Pieces.{scoreAt}
+use Rattle.base_terms.specs.Lists.{onto}
+use Rattle.path_pieces.specs.Limits.{maxIndex}
+use Rattle.path_pieces.specs.Domain.{Lent}
+use Rattle.path_pieces.specs.declared.lengths.Lengths.{Lengths}
+use Rattle.path_by_length.specs.declared.solve.Solved.{Solved}
+use Rattle.path_by_length.specs.Paths.{lastOf}
+use Rattle.path_by_length.specs.Table.{bestScore, parentOf, Falling, bestPath}
+
+-- ---- the table
+
+-- the costs of the cuts at n candidates: they stand behind the scores' costs, that of candidate j at n + j
+abbrev pub cutsIn : ℕ → List Float → List Float
+cutsIn n cost = take n (drop n cost)
+
+-- the parents of n candidates: they stand behind the counts of pieces over the limit, that of candidate j at n + j
+abbrev pub parentsIn : ℕ → List ℕ → List ℕ
+parentsIn n over = take n (drop n over)
+
+module _ (l : Lengths) (left right : List ℕ) where
+  -- the lists have two places for each candidate, and the costs of the cuts are there
+  pub record Room (over : List ℕ) (cost : List Float) : Type 0 where
+    pub lent : Lent l left right (cutsIn (length left) cost)
+    pub overs : length left + length left ≤ length over
+    pub costs : length left + length left ≤ length cost
+
+  -- the table holds the best scores of the candidates before j
+  pub record Ready (over : List ℕ) (cost : List Float) (j : ℕ) : Type 0 where
+    pub room : Room over cost
+    pub later : 0 < j
+    pub inside : j < length left
+    pub scores : (k : ℕ) → k < j → scoreAt over cost k ≡ bestScore l left right (cutsIn (length left) cost) k
+
+  -- the table holds the best scores and the parents of the first j candidates; the cuts' costs and the lengths are as they were
+  pub record Filled (over₀ : List ℕ) (cost₀ : List Float) (over : List ℕ) (cost : List Float) (j : ℕ) : Type 0 where
+    pub scores : (k : ℕ) → k < j → scoreAt over cost k ≡ bestScore l left right (cutsIn (length left) cost₀) k
+    pub parents : (k : ℕ) → k < j → getD over (length left + k) 0 ≡ parentOf l left right (cutsIn (length left) cost₀) k
+    pub cuts : cutsIn (length left) cost ≡ cutsIn (length left) cost₀
+    pub overs : length over ≡ length over₀
+    pub costs : length cost ≡ length cost₀
+
+-- ---- the way back
+
+-- the parent of candidate j in a list of parents
+abbrev pub parentAt : List ℕ → ℕ → ℕ
+parentAt parent j = getD parent j 0
+
+-- the list has a parent for each candidate up to `last`, an earlier one
+pub record Parents (parent : List ℕ) (last : ℕ) : Type 0 where
+  pub inside : last < length parent
+  pub few : last ≤ maxIndex
+  pub falling : Falling (parentAt parent) last
+
+-- ---- the answer
+
+module _ (l : Lengths) (left right : List ℕ) (cut : List Float) where
+  -- the score and the number of candidates of the path, which is written to the front of the last list
+  pub record Solution (path₀ path : List ℕ) (answer : Solved) : Type 0 where
+    pub score : answer .score ≡ bestScore l left right cut (lastOf left)
+    pub count : answer .len ≡ length (bestPath l left right cut)
+    pub written : path ≡ onto (bestPath l left right cut) path₀

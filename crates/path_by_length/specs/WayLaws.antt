@@ -1,0 +1,67 @@
+-- Laws of the way back: one step at a time, it ends at its candidate, and it looks at nothing but the parents on the way.
+use mathlib.Core.Path.{_≡_, refl, ap, _∙_}
+use mathlib.Core.List.{List, [], _∷_, _++_}
+use Prim.Native.Nat.{ℕ, zero, suc, _≤_, _<_}
+use native.Mathlib.Nat.{le-refl}
+use native.Mathlib.Omega.{arith}
+use lib.ListN.{length, length-append}
+use Rattle.path_by_length.specs.Table.{wayBack, wayTo, Falling}
+
+module _ (parent : ℕ → ℕ) where
+  -- the number of steps does not matter where it suffices
+  way-enough : (n m j : ℕ) → j ≤ n → j ≤ m → Falling parent j → wayBack parent n j ≡ wayBack parent m j
+  unfolding wayBack
+  way-enough zero zero j h g f = refl
+  way-enough zero (suc m) zero h g f = refl
+  way-enough zero (suc m) (suc j) h g f = absurd (omega arith)
+  way-enough (suc n) zero zero h g f = refl
+  way-enough (suc n) zero (suc j) h g f = absurd (omega arith)
+  way-enough (suc n) (suc m) zero h g f = refl
+  way-enough (suc n) (suc m) (suc j) h g f =
+      let b : parent (suc j) < suc j = f (suc j) (omega arith) (le-refl (suc j)) in
+      ap (λ (p : List ℕ). p ++ (suc j ∷ [])) (way-enough n m (parent (suc j)) (omega arith) (omega arith) (λ k u v. f k u (omega arith)))
+
+  -- it starts at the first candidate
+  pub way-first : wayTo parent 0 ≡ 0 ∷ []
+  unfolding wayBack
+  way-first = refl
+
+  -- it goes to the parent, and then to its candidate
+  pub way-step : (j : ℕ) → 0 < j → Falling parent j → wayTo parent j ≡ wayTo parent (parent j) ++ (j ∷ [])
+  unfolding wayBack
+  way-step zero h f = absurd (omega arith)
+  way-step (suc j) h f =
+      let b : parent (suc j) < suc j = f (suc j) (omega arith) (le-refl (suc j)) in
+      ap (λ (p : List ℕ). p ++ (suc j ∷ [])) (way-enough j (parent (suc j)) (parent (suc j)) (omega arith) (le-refl (parent (suc j))) (λ k u v. f k u (omega arith)))
+
+  -- so it has one candidate more
+  pub way-length : (j : ℕ) → 0 < j → Falling parent j → length (wayTo parent j) ≡ suc (length (wayTo parent (parent j)))
+  way-length j h f = ap length (way-step j h f) ∙ simp length-append (omega arith)
+
+  some-under : (n j : ℕ) → j < n → Falling parent j → (0 < length (wayTo parent j)) × (length (wayTo parent j) ≤ suc j)
+  some-under zero j h f = absurd (omega arith)
+  some-under (suc n) zero h f = rw way-first (omega arith, omega arith)
+  some-under (suc n) (suc j) h f =
+      let b : parent (suc j) < suc j = f (suc j) (omega arith) (le-refl (suc j)) in
+      let r = some-under n (parent (suc j)) (omega arith) (λ k u v. f k u (omega arith)) in
+      rw (way-length (suc j) (omega arith) f) (omega arith, omega arith)
+
+  -- and no more candidates than there are up to it
+  pub way-some : (j : ℕ) → Falling parent j → 0 < length (wayTo parent j)
+  way-some j f = some-under (suc j) j (omega arith) f .0
+
+  pub way-few : (j : ℕ) → Falling parent j → length (wayTo parent j) ≤ suc j
+  way-few j f = some-under (suc j) j (omega arith) f .1
+
+-- ---- it looks at the parents on the way alone
+
+pub way-same : (parent parent' : ℕ → ℕ) (j : ℕ) → Falling parent j → ((k : ℕ) → k ≤ j → parent k ≡ parent' k) → wayTo parent j ≡ wayTo parent' j
+unfolding wayBack
+way-same parent parent' j f e = go j j (le-refl j)
+  where
+    go : (n k : ℕ) → k ≤ j → wayBack parent n k ≡ wayBack parent' n k
+    go zero k h = refl
+    go (suc n) zero h = refl
+    go (suc n) (suc k) h =
+        let b : parent (suc k) < suc k = f (suc k) (omega arith) h in
+        ap (λ (p : List ℕ). p ++ (suc k ∷ [])) (go n (parent (suc k)) (omega arith) ∙ ap (wayBack parent' n) (e (suc k) h))

@@ -1,0 +1,61 @@
+-- Laws of a piece over the limit, what the test says and that it counts at most one, and of the cut at a candidate.
+use mathlib.Core.Path.{_≡_, refl}
+use mathlib.Core.Bool.{Bool, true, false, cond}
+use mathlib.Core.List.{List}
+use Prim.Native.Nat.{ℕ, suc, _≤_, _<_}
+use native.Mathlib.Omega.{arith}
+use borrow.Author.Tests.{lt-ltb, le-ltb}
+use mathlib.Core.Logic.{inl, inr}
+use lib.Dec.{ltb}
+use lib.Ieee.{Float, nan}
+use lib.ListN.{length, getD}
+use Rattle.base_laws.specs.Tests.{lt-or-le}
+use Rattle.path_pieces.specs.Pieces.{overOf, withCut, withCutAt}
+use Rattle.path_pieces.specs.declared.score.Score.{Score}
+
+-- a longer piece counts
+pub over-longer : (limit len : ℕ) → limit < len → overOf limit len ≡ 1
+unfolding overOf
+over-longer limit len h = rw (lt-ltb limit len h)
+
+-- a piece within the limit does not
+pub over-within : (limit len : ℕ) → len ≤ limit → overOf limit len ≡ 0
+unfolding overOf
+over-within limit len h = rw (le-ltb limit len h)
+
+-- it counts once at most
+pub over-one : (limit len : ℕ) → overOf limit len ≤ 1
+unfolding overOf
+over-one limit len = go (ltb limit len)
+  where
+    go : (b : Bool) → cond b 1 0 ≤ 1
+    go true = omega arith
+    go false = omega arith
+
+-- and no less for a longer piece
+pub over-mono : (limit len more : ℕ) → len ≤ more → overOf limit len ≤ overOf limit more
+over-mono limit len more h = elim (lt-or-le limit len) [
+  | inl l ↦ rw (over-longer limit len l, over-longer limit more (omega arith)) (omega arith)
+  | inr g ↦ rw (over-within limit len g) (omega arith)
+]
+
+-- ---- the cut at a candidate
+
+-- at an inner candidate it is added
+pub cut-at-inner : (cut : List Float) (j : ℕ) (s : Score) → suc j < length cut → withCutAt cut j s ≡ withCut s (getD cut j nan)
+unfolding withCutAt
+cut-at-inner cut j s h = rw (lt-ltb (suc j) (length cut) h)
+
+-- at the last there is none
+pub cut-at-last : (cut : List Float) (j : ℕ) (s : Score) → length cut ≤ suc j → withCutAt cut j s ≡ s
+unfolding withCutAt
+cut-at-last cut j s h = rw (le-ltb (suc j) (length cut) h)
+
+-- it adds no piece
+pub cut-at-over : (cut : List Float) (j : ℕ) (s : Score) → withCutAt cut j s .over ≡ s .over
+unfolding withCutAt withCut
+cut-at-over cut j s = go (ltb (suc j) (length cut))
+  where
+    go : (b : Bool) → cond b (withCut s (getD cut j nan)) s .over ≡ s .over
+    go true = refl
+    go false = refl

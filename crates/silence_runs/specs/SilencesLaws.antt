@@ -1,0 +1,185 @@
+-- A silence starts and ends where a silent and a sounding frame meet: the silent runs are the places where a walk sees an edge, in order.
+-- So they rise, are not empty and do not touch, and a frame is silent exactly where it is in one of them.
+use mathlib.Core.Path.{_≡_, refl, ap, subst, _∙_}
+use mathlib.Core.Bool.{Bool, true, false, not, cond, _&&_, _||_}
+use mathlib.Core.List.{List, [], _∷_, _++_}
+use Prim.Native.Nat.{ℕ, zero, suc, _+_, _*_, _/_, _≤_, _<_}
+use native.Mathlib.Nat.{le-refl}
+use native.Mathlib.Numerals.{add-one}
+use native.Mathlib.Omega.{arith}
+use lib.Dec.{eqb, ltb, leb, eqb·suc-zero}
+use lib.ListN.{length, getD, replicate}
+use borrow.Author.Tests.{ne-eqb, eqb-true, lt-ltb, le-ltb, le-leb, lt-leb}
+use Rattle.silence_runs.specs.Runs.{Run, run, joined, runs}
+use Rattle.silence_runs.specs.RunsLaws.{runs-run, longer}
+use Rattle.silence_runs.specs.Silences.{silentRuns, silencesOf, isEdge, edges, startsAt, startsAfter, silenceCount}
+
+-- ---- the walk
+
+suc-not-zero : (n : ℕ) → suc n ≡ 0 → ⊥
+suc-not-zero n e = omega arith
+
+one-up : (k n : ℕ) → k + suc n ≡ suc (k + n)
+one-up k n = omega arith
+
+one-on : (k n : ℕ) → k + suc n ≡ suc k + n
+one-on k n = omega arith
+
+other-joined : (k y : ℕ) (rs : List Run) → (y ≡ 0 → ⊥) → silentRuns k (joined y rs) ≡ silentRuns (suc k) rs
+unfolding silentRuns joined
+other-joined k y [] h = rw (ne-eqb y 0 h)
+other-joined k y (r ∷ rs) h = go (eqb y (r .flag)) refl
+  where
+    go : (b : Bool) → eqb y (r .flag) ≡ b → silentRuns k (cond b (run y (suc (r .frames)) ∷ rs) (run y 1 ∷ (r ∷ rs))) ≡ silentRuns (suc k) (r ∷ rs)
+    go true e = rw (← eqb-true y (r .flag) e, ne-eqb y 0 h, one-on k (r .frames))
+    go false e = rw (ne-eqb y 0 h, add-one)
+
+mutual
+  unfolding silentRuns runs edges isEdge
+
+  -- after sound
+  outside : (xs : List ℕ) (k p : ℕ) → (p ≡ 0 → ⊥) → silentRuns k (runs xs) ≡ edges k p xs
+  outside [] k p h = rw (ne-eqb p 0 h)
+  outside (zero ∷ xs) k p h = rw (ne-eqb p 0 h) (inside xs 0 k ∙ rw add-one)
+  outside (suc x ∷ xs) k p h = rw (ne-eqb p 0 h, eqb·suc-zero x) (other-joined k (suc x) (runs xs) (suc-not-zero x) ∙ outside xs (suc k) (suc x) (suc-not-zero x))
+
+  -- after n silent frames and one more, of which the first is k
+  inside : (xs : List ℕ) (n k : ℕ) → silentRuns k (runs (replicate (suc n) 0 ++ xs)) ≡ k ∷ edges (k + suc n) 0 xs
+  inside [] n k = rw (runs-run n 0 [] tt)
+  inside (zero ∷ xs) n k = ap (λ (l : List ℕ). silentRuns k (runs l)) (longer 0 (suc n) xs) ∙ inside xs (suc n) k ∙ ap (λ (m : ℕ). k ∷ edges m 0 xs) (one-up k (suc n))
+  inside (suc x ∷ xs) n k =
+      rw (runs-run n 0 (suc x ∷ xs) (suc-not-zero x), eqb·suc-zero x) (ap (λ (l : List ℕ). k ∷ ((k + suc n) ∷ l)) (other-joined (k + suc n) (suc x) (runs xs) (suc-not-zero x) ∙ outside xs (suc (k + suc n)) (suc x) (suc-not-zero x)))
+
+-- the silences are the edges, with sound before the first frame
+pub silences-edges : (xs : List ℕ) → silencesOf xs ≡ edges 0 1 xs
+unfolding silencesOf
+silences-edges xs = outside xs 0 1 (suc-not-zero 0)
+
+-- ---- order
+
+-- the numbers rise strictly, from lo on and up to hi
+abbrev pub Rising : ℕ → ℕ → List ℕ → Type 0
+Rising lo hi [] = Unit {0}
+Rising lo hi (y ∷ ys) = (lo ≤ y) × (y ≤ hi) × Rising (suc y) hi ys
+
+lower : (lo lo′ hi : ℕ) (ys : List ℕ) → lo′ ≤ lo → Rising lo hi ys → Rising lo′ hi ys
+lower lo lo′ hi [] l r = tt
+lower lo lo′ hi (y ∷ ys) l r = (omega (arith, r .0), r .1, r .2)
+
+edges-rise : (xs : List ℕ) (k p hi : ℕ) → k + length xs ≤ hi → Rising k hi (edges k p xs)
+unfolding edges
+edges-rise [] k p hi l = go (eqb p 0)
+  where
+    go : (b : Bool) → Rising k hi (cond b (k ∷ []) [])
+    go true = (le-refl k, omega arith, tt)
+    go false = tt
+edges-rise (x ∷ xs) k p hi l = go (isEdge p x) (edges-rise xs (suc k) x hi (omega arith))
+  where
+    go : (b : Bool) → Rising (suc k) hi (edges (suc k) x xs) → Rising k hi (cond b (k ∷ edges (suc k) x xs) (edges (suc k) x xs))
+    go true r = (le-refl k, omega arith, r)
+    go false r = lower (suc k) k hi (edges (suc k) x xs) (omega arith) r
+
+-- the silences are in order, none is empty, at least one frame lies between two, and all are within the frame count: the numbers rise strictly
+pub silences-rise : (xs : List ℕ) → Rising 0 (length xs) (silencesOf xs)
+silences-rise xs = rw (silences-edges xs) (edges-rise xs 0 1 (length xs) (omega arith))
+
+-- ---- number
+
+bit : ℕ → ℕ
+bit p = cond (eqb p 0) 1 0
+
+edges-count : (xs : List ℕ) (k p : ℕ) → length (edges k p xs) ≡ bit p + 2 * startsAfter p xs
+unfolding edges isEdge startsAfter startsAt bit
+edges-count [] k p = go (eqb p 0)
+  where
+    go : (b : Bool) → length (cond b (k ∷ []) []) ≡ cond b 1 0 + 2 * 0
+    go true = refl
+    go false = refl
+edges-count (x ∷ xs) k p = go (eqb p 0) (eqb x 0) (edges (suc k) x xs) (startsAfter x xs) (edges-count xs (suc k) x)
+  where
+    go : (b d : Bool) (l : List ℕ) (n : ℕ) → length l ≡ cond d 1 0 + 2 * n
+        → length (cond (cond b (not d) d) (k ∷ l) l) ≡ cond b 1 0 + 2 * (cond b 0 (cond d 1 0) + n)
+    go true true l n e = omega arith
+    go true false l n e = omega arith
+    go false true l n e = omega arith
+    go false false l n e = omega arith
+
+-- two numbers for each silence
+pub silences-length : (xs : List ℕ) → length (silencesOf xs) ≡ 2 * silenceCount xs
+unfolding silenceCount bit
+silences-length xs = rw (silences-edges xs) (omega (arith, edges-count xs 0 1))
+
+edges-few : (xs : List ℕ) (k p : ℕ) → length (edges k p xs) ≤ length xs + 1
+unfolding edges
+edges-few [] k p = go (eqb p 0)
+  where
+    go : (b : Bool) → length (cond b (k ∷ []) []) ≤ 1
+    go true = omega arith
+    go false = omega arith
+edges-few (x ∷ xs) k p = go (isEdge p x) (edges (suc k) x xs) (edges-few xs (suc k) x)
+  where
+    go : (b : Bool) (l : List ℕ) → length l ≤ length xs + 1 → length (cond b (k ∷ l) l) ≤ suc (length xs) + 1
+    go true l h = omega arith
+    go false l h = omega arith
+
+pub silences-room : (xs : List ℕ) → length (silencesOf xs) ≤ length xs + 1
+silences-room xs = rw (silences-edges xs) (edges-few xs 0 1)
+
+-- there are at most (frames + 1) / 2 silences
+pub silences-few : (xs : List ℕ) → silenceCount xs ≤ (length xs + 1) / 2
+silences-few xs = omega (arith, silences-room xs, silences-length xs)
+
+-- ---- membership
+
+-- a frame is in one of the silences
+unfoldable pub inSilence : ℕ → List ℕ → Bool
+inSilence f [] = false
+inSilence f (a ∷ []) = false
+inSilence f (a ∷ (b ∷ rest)) = (leb a f && ltb f b) || inSilence f rest
+
+-- below the first of rising numbers there is none
+below-rising : (f lo hi : ℕ) (ys : List ℕ) → f < lo → Rising lo hi ys → inSilence f ys ≡ false
+unfolding inSilence
+below-rising f lo hi [] l r = refl
+below-rising f lo hi (a ∷ []) l r = refl
+below-rising f lo hi (a ∷ (b ∷ rest)) l r = rw (lt-leb a f (omega (arith, r .0))) (below-rising f (suc b) hi rest (omega (arith, r .0, r .2 .0)) (r .2 .2))
+
+-- between the start of a silence that is still open and the walk's place
+in-open : (xs : List ℕ) (f s k : ℕ) → s ≤ f → f < k → inSilence f (s ∷ edges k 0 xs) ≡ true
+unfolding inSilence edges isEdge
+in-open [] f s k l m = rw (le-leb s f l, lt-ltb f k m)
+in-open (zero ∷ xs) f s k l m = in-open xs f s (suc k) l (omega arith)
+in-open (suc x ∷ xs) f s k l m = rw (eqb·suc-zero x) (go (edges (suc k) (suc x) xs))
+  where
+    go : (l′ : List ℕ) → inSilence f (s ∷ (k ∷ l′)) ≡ true
+    go l′ = rw (le-leb s f l, lt-ltb f k m)
+
+mutual
+  unfolding inSilence edges isEdge
+
+  -- after sound
+  exact-outside : (xs : List ℕ) (f k p : ℕ) → (p ≡ 0 → ⊥) → inSilence (k + f) (edges k p xs) ≡ eqb (getD xs f 1) 0
+  exact-outside [] f k p h = rw (ne-eqb p 0 h)
+  exact-outside (zero ∷ xs) zero k p h = rw (ne-eqb p 0 h) (in-open xs (k + 0) k (suc k) (omega arith) (omega arith))
+  exact-outside (zero ∷ xs) (suc f) k p h = rw (ne-eqb p 0 h, one-on k f) (exact-inside xs f k (suc k) (omega arith))
+  exact-outside (suc x ∷ xs) zero k p h =
+      rw (ne-eqb p 0 h, eqb·suc-zero x) (below-rising (k + 0) (suc k) (suc k + length xs) (edges (suc k) (suc x) xs) (omega arith) (edges-rise xs (suc k) (suc x) (suc k + length xs) (le-refl (suc k + length xs))))
+  exact-outside (suc x ∷ xs) (suc f) k p h = rw (ne-eqb p 0 h, eqb·suc-zero x, one-on k f) (exact-outside xs f (suc k) (suc x) (suc-not-zero x))
+
+  -- in a silence that started at s
+  exact-inside : (xs : List ℕ) (f s k : ℕ) → s ≤ k → inSilence (k + f) (s ∷ edges k 0 xs) ≡ eqb (getD xs f 1) 0
+  exact-inside [] f s k l = rw (le-leb s (k + f) (omega arith), le-ltb (k + f) k (omega arith))
+  exact-inside (zero ∷ xs) zero s k l = in-open xs (k + 0) s (suc k) (omega arith) (omega arith)
+  exact-inside (zero ∷ xs) (suc f) s k l = rw (one-on k f) (exact-inside xs f s (suc k) (omega arith))
+  exact-inside (suc x ∷ xs) zero s k l =
+      rw (eqb·suc-zero x, le-leb s (k + 0) (omega arith), le-ltb (k + 0) k (omega arith))
+      (below-rising (k + 0) (suc k) (suc k + length xs) (edges (suc k) (suc x) xs) (omega arith) (edges-rise xs (suc k) (suc x) (suc k + length xs) (le-refl (suc k + length xs))))
+  exact-inside (suc x ∷ xs) (suc f) s k l =
+      rw (eqb·suc-zero x, le-leb s (k + suc f) (omega arith), le-ltb (k + suc f) k (omega arith), one-on k f) (exact-outside xs f (suc k) (suc x) (suc-not-zero x))
+
+-- a frame is silent exactly where it is in one of the silences (a frame past the end is in none)
+pub silences-exact : (xs : List ℕ) (f : ℕ) → inSilence f (silencesOf xs) ≡ eqb (getD xs f 1) 0
+silences-exact xs f = rw (silences-edges xs) (subst (λ (g : ℕ). inSilence g (edges 0 1 xs) ≡ eqb (getD xs f 1) 0) (from f) (exact-outside xs f 0 1 (suc-not-zero 0)))
+  where
+    from : (g : ℕ) → 0 + g ≡ g
+    from g = omega arith

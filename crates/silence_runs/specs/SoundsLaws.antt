@@ -1,0 +1,28 @@
+-- There is a sound flag for each frame.
+use mathlib.Core.Path.{_≡_, refl, _∙_}
+use mathlib.Core.Bool.{Bool, true, false, cond}
+use mathlib.Core.List.{List}
+use Prim.Native.Nat.{ℕ}
+use lib.Ieee.{Float}
+use lib.ListN.{length}
+use Rattle.silence_runs.specs.Hysteresis.{hysteresis}
+use Rattle.silence_runs.specs.HysteresisLaws.{hysteresis-length}
+use Rattle.silence_runs.specs.Fill.{fillShort}
+use Rattle.silence_runs.specs.FillLaws.{fill-length}
+use Rattle.silence_runs.specs.Sounds.{anySound, fillSilence, soundsOf}
+
+-- filling keeps the number of frames
+silence-length : (minSilence : ℕ) (xs : List ℕ) → length (fillSilence minSilence xs) ≡ length xs
+unfolding fillSilence
+silence-length minSilence xs = go (anySound xs)
+  where
+    go : (b : Bool) → length (cond b (fillShort 0 minSilence xs) xs) ≡ length xs
+    go true = fill-length 0 minSilence xs
+    go false = refl
+
+module _ (on off : Float) (minSound minSilence : ℕ) (values : List Float) (flags : List ℕ) where
+  -- there is a flag for each frame
+  pub sounds-length : length flags ≡ length values → length (soundsOf on off minSound minSilence values flags) ≡ length values
+  unfolding soundsOf
+  sounds-length e =
+      silence-length minSilence (fillShort 1 minSound (hysteresis on off values flags)) ∙ fill-length 1 minSound (hysteresis on off values flags) ∙ hysteresis-length on off values flags e
