@@ -1,10 +1,11 @@
 # make run                    the main job: shows what the library does so far
-# make test                   the gate, which .ci/run calls: every crate proved from nothing, then the comparison with the Rust
+# make test                   the gate, which .ci/run calls: every crate proved from nothing, the trace and the reading lists
+#                             checked, then the comparison with the Rust
 # make compare N=.. SEED=..   the comparison alone, N inputs a subject; SUBJECTS=silences,path names some of them,
 #                             LARGE=.. sets the number of the largest inputs
 # make bench                  times beside the Rust's; PARTS=path names some of them
-# make sample                 writes the grid's stored answers anew, from the Rust alone; PART=silences and PART=path
-#                             the others'; COUNT=.. sets the number of records, of which 64 KiB are kept
+# make sample                 writes the stored answers anew, from the Rust alone; PART=candidates names one of the
+#                             samples, COUNT=.. sets the number of records, of which 64 KiB are kept
 #
 # FEATURES names the parts that the library has beyond the frame grid: silences, candidates, path.
 # The published sources of the Rust stay in $(SHARED). Where they are not there, what needs them says so and does nothing.
@@ -15,12 +16,8 @@ SUBJECTS ?= all
 LARGE ?=
 PARTS ?= all
 FEATURES ?= silences,candidates,path
-PART ?= grid
+PART ?= grid silences candidates path
 COUNT ?= 1024
-SAMPLE_grid := crates/answers_grid/stdin
-SAMPLE_silences := crates/answers_silences/stdin
-SAMPLE_path := crates/answers_path/stdin
-SAMPLE ?= $(SAMPLE_$(PART))
 
 STATICLIB := target/staticlib/libcapi.a
 DRIVER := target/reference/release/driver
@@ -53,8 +50,9 @@ bench: reference
 	$(DRIVER) bench $(PARTS)
 
 sample: reference
-	$(if $(SAMPLE),,$(error SAMPLE: the file for PART=$(PART)))
-	$(DRIVER) sample $(PART) $(COUNT) $(SEED) > $(SAMPLE)
+	set -e; for part in $(PART); do \
+		$(DRIVER) sample $$part $(COUNT) $(SEED) > crates/answers_$$part/stdin; \
+	done
 
 # rt knows by itself whether the library is up to date.
 $(STATICLIB):

@@ -48,3 +48,25 @@ pub fn hook_candidates(
     });
     core::hint::black_box(nodes).map_or(0, |nodes| nodes.len())
 }
+
+/// The candidates as completion leaves them, whether or not [`plan`] comes to it by count, and the
+/// limit with which it goes on; none where there is no span.
+#[must_use]
+pub fn hook_completed(
+    analysis: &Analysis,
+    segment: &SegmentConfig,
+    config: &PlanConfig,
+) -> Option<(Vec<crate::candidates::Shown>, u64)> {
+    let (context, grid) = hook_context(analysis, segment, config);
+    let (first, last) = context.ends(config.gap)?;
+    let mut nodes = context.candidates(config.gap, config.placement, &grid, first, last);
+    let max = analysis.samples_floor(config.max);
+    let limit = match config.count {
+        Some(n) => context.complete_count(&mut nodes, max, n.get()),
+        None => {
+            context.complete_max(&mut nodes, max);
+            max
+        }
+    };
+    Some((nodes.into_iter().map(Into::into).collect(), limit))
+}

@@ -10,6 +10,8 @@ mod cleared;
 mod grid;
 #[cfg(feature = "path")]
 mod path;
+#[cfg(feature = "plan")]
+mod plan;
 #[cfg(feature = "silences")]
 mod recordings;
 #[cfg(feature = "silences")]
@@ -35,6 +37,8 @@ const PARTS: &[Part] = &[
     ("candidates", candidates::run),
     #[cfg(feature = "path")]
     ("path", path::run),
+    #[cfg(feature = "plan")]
+    ("plan", plan::run),
 ];
 
 /// Times the named parts, or all where none is named.

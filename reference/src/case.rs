@@ -102,6 +102,19 @@ impl Case {
         }
     }
 
+    /// The Rust's error as document 01 numbers it, or 0.
+    pub fn refusal(&self) -> u32 {
+        match self.analysis() {
+            Ok(_) => 0,
+            Err(ConfigError::ZeroSampleRate) => 1,
+            Err(ConfigError::ZeroChannels) => 2,
+            Err(ConfigError::InvalidScoreFrames) => 3,
+            Err(ConfigError::InvalidValue) => 5,
+            Err(ConfigError::FrameCountMismatch) => 6,
+            Err(other) => panic!("{other:?} is no answer of `validate`"),
+        }
+    }
+
     /// How much a reader has to take in: the lists first, then the numbers.
     pub fn weight(&self) -> u64 {
         let lists = self.values.len() + self.flags.len() + self.levels.len();

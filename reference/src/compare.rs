@@ -9,6 +9,8 @@ mod grid;
 mod lists;
 #[cfg(feature = "path")]
 mod path;
+#[cfg(feature = "plan")]
+mod plan;
 #[cfg(feature = "silences")]
 mod silences;
 mod validate;
@@ -82,5 +84,7 @@ fn subjects() -> Vec<Subject> {
     all.extend(candidates::subjects());
     #[cfg(feature = "path")]
     all.extend(path::subjects());
+    #[cfg(feature = "plan")]
+    all.extend(plan::subjects());
     all
 }

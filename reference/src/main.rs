@@ -7,10 +7,10 @@ mod compare;
 mod conversions;
 mod domain;
 mod ours;
-// The stored sample alone needs less of it.
+// The stored samples alone need less of these two.
 #[cfg_attr(not(feature = "path"), allow(dead_code))]
 mod path_job;
-#[cfg(feature = "candidates")]
+#[cfg_attr(not(feature = "plan"), allow(dead_code))]
 mod plan_job;
 mod recording;
 mod rng;
@@ -25,7 +25,7 @@ use compare::Amount;
 
 /// Subjects and parts are names with commas between them, or `all`.
 const USAGE: &str = "usage: driver compare N SEED [SUBJECTS [LARGE]]
-       driver sample grid|silences|path COUNT SEED
+       driver sample grid|silences|candidates|path|plan COUNT SEED
        driver bench [PARTS]";
 
 fn main() -> ExitCode {

@@ -4,6 +4,8 @@
 pub mod candidates;
 #[cfg(feature = "path")]
 pub mod path;
+#[cfg(feature = "plan")]
+pub mod plan;
 #[cfg(feature = "silences")]
 pub mod silences;
 

@@ -1,14 +1,19 @@
-//! Recordings with settings for their silences and their plan, and the Rust's candidates.
+//! Recordings with settings for their silences and their plan, the Rust's candidates and its plan.
 
 mod make;
+pub mod places;
+pub mod planned;
+mod shapes;
 pub mod trials;
 
 use std::num::NonZeroUsize;
 use std::time::Duration;
 
+use silence_split::analyze::Analysis;
 use silence_split::candidates::{Shown, hook_smoothed};
 use silence_split::errors::ConfigError;
 use silence_split::plan::{self, CutReason, Gap, Placement, PlanConfig, hook_found};
+use silence_split::segment::SegmentConfig;
 
 use crate::silence_job;
 
@@ -101,6 +106,17 @@ impl Settings {
         }
         Ok(config)
     }
+
+    /// The first error of the Rust's builders as document 01 numbers it, or 0.
+    pub fn refusal(&self) -> u32 {
+        match self.config() {
+            Ok(_) => 0,
+            Err(ConfigError::InvalidLengths) => 7,
+            Err(ConfigError::InvalidRatio) => 9,
+            Err(ConfigError::InvalidWeights) => 10,
+            Err(other) => panic!("{other:?} is no answer of these builders"),
+        }
+    }
 }
 
 #[derive(Clone, Debug)]
@@ -128,11 +144,19 @@ impl Job {
         }
     }
 
+    /// The recording and the settings as the Rust takes them.
+    fn rust(&self) -> (Analysis, SegmentConfig, PlanConfig) {
+        (
+            self.recording.case.analysis().expect("made to be accepted"),
+            self.recording.settings.config(),
+            self.plan.config().expect("made to be accepted"),
+        )
+    }
+
     /// The Rust's silences and candidates.
     pub fn found(&self) -> Found {
-        let analysis = self.recording.case.analysis().expect("made to be accepted");
-        let config = self.plan.config().expect("made to be accepted");
-        let found = hook_found(&analysis, &self.recording.settings.config(), &config);
+        let (analysis, segment, config) = self.rust();
+        let found = hook_found(&analysis, &segment, &config);
         let candidates = &found.candidates;
         let ends = candidates.first().zip(candidates.last());
         assert_eq!(
@@ -150,11 +174,15 @@ impl Job {
 }
 
 fn row(c: &Shown) -> [u32; 3] {
-    let reason = match c.reason {
+    [c.left as u32, c.right as u32, reason(c.reason)]
+}
+
+/// A reason's number.
+fn reason(reason: CutReason) -> u32 {
+    match reason {
         CutReason::Silence => 0,
         CutReason::Quiet => 1,
         CutReason::Forced => 2,
         other => panic!("{other:?} is no reason of document 01"),
-    };
-    [c.left as u32, c.right as u32, reason]
+    }
 }

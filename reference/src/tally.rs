@@ -9,6 +9,8 @@ pub struct Tally {
     differences: u64,
     /// The smallest so far, by their weight.
     smallest: Vec<(u64, String)>,
+    /// How often something occurred.
+    occurred: Vec<(&'static str, u64)>,
 }
 
 impl Tally {
@@ -18,6 +20,16 @@ impl Tally {
             inputs: 0,
             differences: 0,
             smallest: Vec::new(),
+            occurred: Vec::new(),
+        }
+    }
+
+    /// Counts an input for which it is `so`. What never occurs is reported too.
+    #[cfg_attr(not(feature = "plan"), allow(dead_code))]
+    pub fn occurs(&mut self, what: &'static str, so: bool) {
+        match self.occurred.iter_mut().find(|(other, _)| *other == what) {
+            Some((_, times)) => *times += u64::from(so),
+            None => self.occurred.push((what, so.into())),
         }
     }
 
@@ -49,6 +61,9 @@ impl Tally {
     pub fn report(self) -> bool {
         let (name, n, d) = (self.name, self.inputs, self.differences);
         println!("compare {name}: {n} inputs, {d} differences");
+        for (what, times) in &self.occurred {
+            println!("  {name}: {what}: {times}");
+        }
         for (_, shown) in &self.smallest {
             eprintln!("  {name}: {shown}");
         }

@@ -1,90 +1,22 @@
-// Replays a stored sample of the Rust's answers, which stands on standard input, and prints how many differ.
-// A record is eight little-endian words of 64 bits: the subject, six arguments and the Rust's answer, a float as its bit pattern.
-use answers_shared::number;
-use answers_shared::number::bits;
-use answers_shared::number::narrow;
-use answers_shared::record::Replayed;
-use answers_shared::record::broken;
-use answers_shared::record::differs;
+// Replays a stored sample of the Rust's boundaries and durations, which stands on standard input, and prints how many records agree and how many differ.
+// What a record holds is said in record.rt.
+mod record;
+
 use answers_shared::report;
 use answers_shared::report::Tally;
-use capi::convert;
-ghost use Prim.Native.Nat.{_≤_, _<_};
-ghost use lib.ListN.{length};
-
-const RECORD: usize = 64;
-
-// The port's answer to the record at the front of s. An unknown subject never agrees.
-fn answer(s: &[u8]) -> u64
-    requires { ⌜ 64 ≤ length (now s) ⌝ }
-{
-    let subject = number::u64_at(s, 0);
-    let a = number::u64_at(s, 8);
-    let b = number::u64_at(s, 16);
-    let c = number::u64_at(s, 24);
-    let d = number::u64_at(s, 32);
-    let e = number::u64_at(s, 40);
-    let f = number::u64_at(s, 48);
-    match subject {
-        0 => convert::buchawzer_boundary(
-            narrow(a),
-            narrow(b),
-            narrow(c),
-            d,
-            e as usize,
-            f as usize,
-        ),
-        1 => convert::buchawzer_frames_in(narrow(a), narrow(b), c),
-        2 => convert::buchawzer_frames_ceil(narrow(a), narrow(b), c),
-        3 => convert::buchawzer_frames_floor(narrow(a), narrow(b), c),
-        4 => convert::buchawzer_samples_floor(narrow(a), b),
-        5 => bits(convert::buchawzer_samples_in(narrow(a), b)),
-        6 => bits(convert::buchawzer_seconds(a)),
-        7 => bits(convert::buchawzer_frame_secs(narrow(a), narrow(b))),
-        8 => coverage(narrow(a), narrow(b), narrow(c), d, e as usize),
-        _ => number::NO_ANSWER,
-    }
-}
-
-// 0 where the frames cover the length, and document 01's refusal where they do not.
-fn coverage(sample_rate: u32, frame_rate: u32, hop: u32, len: u64, frames: usize) -> u64 {
-    if convert::buchawzer_covers(sample_rate, frame_rate, hop, len, frames) {
-        0
-    } else {
-        6
-    }
-}
-
-// The record at the front of s.
-fn replay(s: &[u8]) -> Replayed
-    requires { ⌜ 0 < length (now s) ⌝ }
-    ensures { λ r. ⌜ 0 < r .size ⌝ }
-    ensures { λ r. ⌜ r .size ≤ length (now (s .entry)) ⌝ }
-{
-    if s.len() < RECORD {
-        return broken(s);
-    }
-    let same = answer(s) == number::u64_at(s, 56);
-    Replayed { size: RECORD, same }
-}
 
 fn replay_all(s: &[u8]) -> Tally {
     if report::MOST < s.len() {
         return report::too_long();
     }
-    let mut records: u64 = 0;
-    let mut differences: u64 = 0;
+    let mut tally = report::nothing();
     let mut at: usize = 0;
     while at < s.len() {
-        let replayed = replay(&s[at..]);
+        let replayed = record::replay(&s[at..]);
         at += replayed.size;
-        records += 1;
-        differences += differs(replayed);
+        tally = report::with_record(tally, replayed.same);
     }
-    Tally {
-        records,
-        differences,
-    }
+    tally
 }
 
 fn main() {

@@ -1,8 +1,7 @@
-// Replays a stored sample of the Rust's paths over lent candidates, which stands on standard input, and prints how many differ.
+// Replays a stored sample of the Rust's paths over lent candidates, which stands on standard input, and prints how many records agree and how many differ.
 // What a record holds is said in record.rt.
 mod record;
 
-use answers_shared::record::differs;
 use answers_shared::report;
 use answers_shared::report::Tally;
 
@@ -10,19 +9,14 @@ fn replay_all(s: &[u8]) -> Tally {
     if report::MOST < s.len() {
         return report::too_long();
     }
-    let mut records: u64 = 0;
-    let mut differences: u64 = 0;
+    let mut tally = report::nothing();
     let mut at: usize = 0;
     while at < s.len() {
         let replayed = record::replay(&s[at..]);
         at += replayed.size;
-        records += 1;
-        differences += differs(replayed);
+        tally = report::with_record(tally, replayed.same);
     }
-    Tally {
-        records,
-        differences,
-    }
+    tally
 }
 
 fn main() {

@@ -6,9 +6,12 @@ use answers_shared::number;
 use answers_shared::record::Replayed;
 use answers_shared::record::broken;
 use answers_shared::tests;
+use answers_shared::tests::BEFORE;
 use capi::best_path;
+ghost use mathlib.Core.Path.{_≡_};
 ghost use Prim.Native.Nat.{_+_, _*_, _≤_, _<_};
 ghost use lib.ListN.{length};
+ghost use Rattle.answers_path.specs.Record.{sameScore, sameLists};
 
 const FRONT: usize = 68;
 
@@ -18,9 +21,6 @@ const MOST: usize = 12;
 const WORK: usize = 192;
 
 const PARENTS: usize = 132;
-
-// What stands in the lists of u32 before the call: the number of no candidate.
-const BEFORE: u32 = 2_882_343_476;
 
 // Asks the port. The numbers come from the record's front.
 fn ask(
@@ -61,15 +61,39 @@ fn ask(
     )
 }
 
-// The list has the stored path at its front, from a place of the record on, and is beyond it as before.
-fn as_stored(r: &[u8], at: usize, n: usize, path: &[u32]) -> bool
-    requires { ⌜ at + 4 * n ≤ length (now r) ⌝ }
-    requires { ⌜ n ≤ length (now path) ⌝ }
+// The score is that of the record's front.
+fn same_score(r: &[u8], n: usize, refusal: u32, found: u64, over: u32, cost: f64) -> bool
+    requires { ⌜ 68 ≤ length (now r) ⌝ }
+    ensures { λ b. ⌜ b ≡ sameScore (now (r .entry)) n refusal found over cost ⌝ }
 {
-    tests::same_u32(n, path, r, at) & tests::only_u32(&path[n..], BEFORE)
+    (refusal == 0)
+        & (found == n as u64)
+        & (over == number::u32_at(r, 16))
+        & (number::bits(cost) == number::u64_at(r, 60))
 }
 
-// The path is the stored one, number by number, at a place of the record, and its score bit for bit; the list beyond it is as before, and the work lists and the parent list are cleared.
+// The lists are as the record says, the path from a place on.
+fn same_lists(
+    r: &[u8],
+    at: usize,
+    n: usize,
+    path: &[u32],
+    parent: &[u32],
+    work_u32: &[u32],
+    work_u64: &[u64],
+    work_f64: &[f64],
+) -> bool
+    requires { ⌜ at + 4 * n ≤ length (now r) ⌝ }
+    requires { ⌜ n ≤ length (now path) ⌝ }
+    ensures { λ b. ⌜ b ≡ sameLists (now (r .entry)) at n (now (path .entry)) (now (parent .entry))
+        (now («work_u32» .entry)) (now («work_u64» .entry)) (now («work_f64» .entry)) ⌝ }
+{
+    tests::holds_u32(n, path, r, at, BEFORE)
+        & tests::only_u32(parent, 0)
+        & tests::cleared(work_u32, work_u64, work_f64)
+}
+
+// The port's answer is the stored one, the path from a place of the record on.
 fn agrees(r: &[u8], left: &[u64], right: &[u64], cost: &[f64], at: usize, n: usize) -> bool
     requires { ⌜ n ≤ 12 ⌝ }
     requires { ⌜ 68 ≤ length (now r) ⌝ }
@@ -97,13 +121,8 @@ fn agrees(r: &[u8], left: &[u64], right: &[u64], cost: &[f64], at: usize, n: usi
         &mut over,
         &mut score_cost,
     );
-    (refusal == 0)
-        & (found == n as u64)
-        & (over == number::u32_at(r, 16))
-        & (number::bits(score_cost) == number::u64_at(r, 60))
-        & as_stored(r, at, n, &path)
-        & tests::only_u32(&parent, 0)
-        & tests::cleared(&work_u32, &work_u64, &work_f64)
+    same_score(r, n, refusal, found, over, score_cost)
+        & same_lists(r, at, n, &path, &parent, &work_u32, &work_u64, &work_f64)
 }
 
 // The port's answer is the stored one.

@@ -1,9 +1,13 @@
--- Laws for the readers of a sample.
--- Patterns: no-nan   which bit patterns are no NaN's
+-- What a stored sample says, and how its records are counted.
+-- Patterns: `no-nan`, which bit patterns are no NaN's
 pub mod Patterns
--- Parts: rest-length   how long the rest of a list is
+-- Parts: `rest-length`, how long the rest of a list is
 pub mod Parts
--- Sample: the numbers and floats of a sample (`u32At`, `u64At`, `f32At`, `f64At`, `bitsOf`), tests of lists
+-- Sample: the numbers and floats of a sample (`u32At`, `u64At`, `f32At`, `f64At`, `bitsOf`), tests of lists (`holds`, `holdsBits`, `areOnly`)
 pub mod Sample
--- SampleLaws: what holds while a number is read and a list is tested
+-- SampleLaws: what holds while a number is read (`number-next`), a list is copied (`copied-next`) and tested (`below-next`)
 pub mod SampleLaws
+-- Tally: the count of records with one more (`withRecord`), and its bound (`UpTo`)
+pub mod Tally
+-- TallyLaws: `up-next`, the bound with one record more
+pub mod TallyLaws

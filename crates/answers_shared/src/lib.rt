@@ -3,4 +3,5 @@ pub mod lists;
 pub mod number;
 pub mod record;
 pub mod report;
+pub mod settings;
 pub mod tests;

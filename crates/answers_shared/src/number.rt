@@ -50,7 +50,7 @@ pub fn narrow(w: u64) -> u32
     (w % 4_294_967_296) as u32
 }
 
-// A NaN's pattern, which no sample has, is read as a NaN.
+// A NaN's pattern is read as a NaN.
 pub fn f32_at(s: &[u8], at: usize) -> f32
     requires { ⌜ at + 4 ≤ length (now s) ⌝ }
     ensures { λ r. ⌜ r ≡ f32At (now (s .entry)) at ⌝ }
@@ -62,7 +62,7 @@ pub fn f32_at(s: &[u8], at: usize) -> f32
     f32::from_bits(w)
 }
 
-// A NaN's pattern, which no sample has, is read as a NaN.
+// A NaN's pattern is read as a NaN.
 pub fn f64_at(s: &[u8], at: usize) -> f64
     requires { ⌜ at + 8 ≤ length (now s) ⌝ }
     ensures { λ r. ⌜ r ≡ f64At (now (s .entry)) at ⌝ }

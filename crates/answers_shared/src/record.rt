@@ -1,6 +1,6 @@
 // What came of one record.
 ghost use mathlib.Core.Path.{_≡_};
-ghost use mathlib.Core.Bool.{false, cond};
+ghost use mathlib.Core.Bool.{false};
 ghost use Prim.Native.Nat.{_≤_, _<_};
 ghost use lib.ListN.{length};
 
@@ -21,12 +21,4 @@ pub fn broken(s: &[u8]) -> Replayed
         size: s.len(),
         same: false,
     }
-}
-
-// 1 where the port's answer is another one.
-pub fn differs(replayed: Replayed) -> u64
-    ensures { λ r. ⌜ r ≤ 1 ⌝ }
-    ensures { λ r. ⌜ r ≡ cond (replayed .same) 0 1 ⌝ }
-{
-    if replayed.same { 0 } else { 1 }
 }

@@ -1,35 +1,75 @@
 // What a program says of its sample.
 ghost use mathlib.Core.Path.{_≡_};
-ghost use lib.Dec.{eqb};
+ghost use Rattle.answers_shared.specs.Tally.{UpTo, withRecord};
 
 // A sample has at most so many bytes. A program has room for one more, so that longer input is seen and not cut.
 pub const MOST: usize = 65_536;
 
-// How many records were replayed, and how many of them were answered otherwise or are not whole.
+// How many records were replayed, how many of them before the first that differs, and how many were answered otherwise or are not whole.
+// The last records of a sample are spoiled on purpose: where these three are known, so is which records differ.
 pub struct Tally {
     pub records: u64,
+    pub agreeing: u64,
     pub differences: u64,
+}
+
+// Nothing is replayed yet.
+pub fn nothing() -> Tally
+    ensures { λ r. ⌜ r ≡ record { records = 0; agreeing = 0; differences = 0 } ⌝ }
+{
+    Tally {
+        records: 0,
+        agreeing: 0,
+        differences: 0,
+    }
 }
 
 // Longer input is no sample.
 pub fn too_long() -> Tally
-    ensures { λ r. ⌜ r ≡ record { records = 0; differences = 1 } ⌝ }
+    ensures { λ r. ⌜ r ≡ record { records = 0; agreeing = 0; differences = 1 } ⌝ }
 {
     Tally {
         records: 0,
+        agreeing: 0,
         differences: 1,
     }
 }
 
-// The number of records is part of the line, so that a sample that was not read is no success. Returns whether nothing differs.
-pub fn print(subject: &[u8], tally: Tally) -> bool
-    ensures { λ r. ⌜ r ≡ eqb (tally .differences) 0 ⌝ }
+// With one record more, answered as it is stored or not.
+pub fn with_record(t: Tally, same: bool) -> Tally
+    requires { ⌜ UpTo 65536 t ⌝ }
+    ensures { λ r. ⌜ r ≡ withRecord t same ⌝ }
 {
+    let records = t.records + 1;
+    if !same {
+        return Tally {
+            records,
+            agreeing: t.agreeing,
+            differences: t.differences + 1,
+        };
+    }
+    if t.differences == 0 {
+        return Tally {
+            records,
+            agreeing: records,
+            differences: t.differences,
+        };
+    }
+    Tally {
+        records,
+        agreeing: t.agreeing,
+        differences: t.differences,
+    }
+}
+
+// The number of records is part of the line, so that a sample that was not read is no success.
+pub fn print(subject: &[u8], tally: Tally) {
     io::write_all(1, subject);
     io::write_all(1, b": ");
     io::print_decimal(1, tally.records);
-    io::write_all(1, b" stored answers, ");
+    io::write_all(1, b" stored answers, the first ");
+    io::print_decimal(1, tally.agreeing);
+    io::write_all(1, b" agree, ");
     io::print_decimal(1, tally.differences);
-    io::write_all(1, b" differences\n");
-    tally.differences == 0
+    io::write_all(1, b" differ\n");
 }

@@ -5,10 +5,14 @@ use answers_shared::lists;
 use answers_shared::number;
 use answers_shared::record::Replayed;
 use answers_shared::record::broken;
+use answers_shared::settings;
 use answers_shared::tests;
+use answers_shared::tests::BEFORE;
 use capi::silences;
+ghost use mathlib.Core.Path.{_≡_};
 ghost use Prim.Native.Nat.{_+_, _*_, _≤_, _<_};
 ghost use lib.ListN.{length};
+ghost use Rattle.answers_silences.specs.Record.{agreesWith};
 
 const FRONT: usize = 72;
 
@@ -20,25 +24,6 @@ const MOST_SILENCES: usize = 30;
 const WORK: usize = 976;
 
 const OUT: usize = 64;
-
-// What stands in the lists of u32 before the call: the number of no frame.
-const BEFORE: u32 = 2_882_343_476;
-
-// A number of 16 bits or fewer; 0, which the operation refuses, for any other.
-fn channels(w: u32) -> u16 {
-    if 65_535 < w {
-        return 0;
-    }
-    w as u16
-}
-
-// The kind of threshold; one that does not exist, which the operation refuses, for a number that is none.
-fn kind(w: u32) -> u8 {
-    if 2 < w {
-        return 3;
-    }
-    w as u8
-}
 
 // Asks the port. The numbers come from the record's front.
 fn ask(
@@ -56,7 +41,7 @@ fn ask(
 {
     silences::buchawzer_silence_list(
         number::u32_at(r, 4),
-        channels(number::u32_at(r, 8)),
+        settings::channels(number::u32_at(r, 8)),
         number::u32_at(r, 12),
         number::u32_at(r, 16),
         number::u64_at(r, 32),
@@ -64,7 +49,7 @@ fn ask(
         values,
         flags,
         levels,
-        kind(number::u32_at(r, 24)),
+        settings::kind(number::u32_at(r, 24)),
         number::f32_at(r, 28),
         number::u64_at(r, 40),
         number::u64_at(r, 48),
@@ -78,16 +63,30 @@ fn ask(
     )
 }
 
-// The output has the stored numbers at a place of the record, two for each silence, and is beyond them as before.
-fn as_stored(r: &[u8], at: usize, silences: usize, out: &[u32]) -> bool
+// What the operation left is what the record says, its numbers from a place on.
+fn as_stored(
+    r: &[u8],
+    at: usize,
+    silences: usize,
+    refusal: u32,
+    count: u64,
+    out: &[u32],
+    work_u32: &[u32],
+    work_u64: &[u64],
+    work_f64: &[f64],
+) -> bool
     requires { ⌜ at + 8 * silences ≤ length (now r) ⌝ }
     requires { ⌜ 2 * silences ≤ length (now out) ⌝ }
+    ensures { λ b. ⌜ b ≡ agreesWith (now (r .entry)) at silences refusal count (now (out .entry))
+        (now («work_u32» .entry)) (now («work_u64» .entry)) (now («work_f64» .entry)) ⌝ }
 {
-    let end = 2 * silences;
-    tests::same_u32(end, out, r, at) & tests::only_u32(&out[end..], BEFORE)
+    (refusal == 0)
+        & (count == silences as u64)
+        & tests::holds_u32(2 * silences, out, r, at, BEFORE)
+        & tests::cleared(work_u32, work_u64, work_f64)
 }
 
-// The answer is the stored one, number by number, at a place of the record; the output beyond it is as before, and the work lists are cleared.
+// The port's answer is the one that stands in the record from a place on.
 fn agrees(
     r: &[u8],
     values: &[f32],
@@ -116,10 +115,17 @@ fn agrees(
         &mut out,
         &mut count,
     );
-    (refusal == 0)
-        & (count == silences as u64)
-        & as_stored(r, at, silences, &out)
-        & tests::cleared(&work_u32, &work_u64, &work_f64)
+    as_stored(
+        r,
+        at,
+        silences,
+        refusal,
+        count,
+        &out,
+        &work_u32,
+        &work_u64,
+        &work_f64,
+    )
 }
 
 // The port's answer is the stored one.
@@ -145,13 +151,6 @@ fn same(r: &[u8], frames: usize, levels: usize, silences: usize) -> bool
     )
 }
 
-// Only decibels come with levels.
-fn level_count(domain: u32, frames: usize) -> usize
-    ensures { λ r. ⌜ r ≤ frames ⌝ }
-{
-    if domain == 1 { frames } else { 0 }
-}
-
 // The record at the front of s.
 pub fn replay(s: &[u8]) -> Replayed
     requires { ⌜ 0 < length (now s) ⌝ }
@@ -169,7 +168,7 @@ pub fn replay(s: &[u8]) -> Replayed
     if 1 < domain {
         return broken(s);
     }
-    let levels = level_count(domain, frames);
+    let levels = settings::level_count(domain, frames);
     let after = FRONT + 5 * frames + 8 * levels;
     if s.len() < after + 4 {
         return broken(s);

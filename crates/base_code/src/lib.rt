@@ -4,3 +4,4 @@ pub mod floats;
 pub mod front;
 pub mod numbers;
 pub mod sizes;
+pub mod work;

@@ -5,7 +5,7 @@ use Prim.Native.Nat.{ℕ, suc, _+_, _^_, _≤_}
 use mathlib.Core.Bool.{false, cond}
 use lib.IntN.{pos, negsuc}
 use lib.Dec.{T, lit≤}
-use lib.Ieee.{Float, fin, Format, binary32, binary64, emax, add, sub, mul, div, ofInt, lt, le, fits}
+use lib.Ieee.{Float, fin, Format, binary32, binary64, emax, add, sub, mul, div, ofInt, lt, le}
 use lib.Ieee.Scale.{finite}
 use lib.Ieee.Positive.{positive, positive-finite, between}
 use Rattle.base_laws.specs.Tests.{passes, cond-yes, cond-no}
@@ -16,21 +16,20 @@ use Rattle.base_laws.specs.Sums.{float-add-mono, float-add-nonneg, float
 use Rattle.base_laws.specs.Differences.{float-sub-mono, float-sub-nonneg, float-sub-within}
 use Rattle.base_laws.specs.Products.{float-mul-number, float-mul-mono, float-mul-nonneg}
 use Rattle.base_laws.specs.Quotients.{float-div-mono, float-div-nonneg}
-use Rattle.base_laws.specs.Whole.{whole-nonneg, whole-within}
+use Rattle.base_laws.specs.Whole.{whole-nonneg, whole-within, power-fits}
 use Rattle.base_terms.specs.Lengths.{square, offOf, short, lengthCost, lengthBound}
 use Rattle.base_laws.specs.Square.{square-fits, square-nonneg}
 use Rattle.base_laws.specs.Offset.{off-finite, off-closest-finite, square-closest}
 
 -- ---- what is asked: wt and ws are the weights of the target and of the shortfall, m is the minimum, t the target, x a length
 
--- what the planner asks of its preferences: the target is from 2 ^ -40 to 2 ^ 60, and the minimum can be zero
+-- what the planner asks of its preferences: the target is from 2 ^ -40 to 2 ^ 60, and the minimum is at most 2 ^ 60
 pub record Preferences (f : Format) (wt ws m t : Float) : Type 0 where
   pub target-weight-nonneg : T (nonneg wt)
   pub target-weight-finite : T (finite wt)
   pub short-weight-nonneg : T (nonneg ws)
   pub short-weight-finite : T (finite ws)
-  pub min-finite : T (finite m)
-  pub min-fits : T (fits f m)
+  pub min-high : T (le m (fin false 1 (pos 60)))
   pub target-low : T (le (fin false 1 (negsuc 39)) t)
   pub target-high : T (le t (fin false 1 (pos 60)))
 
@@ -39,36 +38,38 @@ pub record Length (x : Float) : Type 0 where
   pub length-nonneg : T (nonneg x)
   pub length-high : T (le x (fin false 1 (pos 60)))
 
--- a whole number up to there is one
+-- both formats hold 2 ^ 60
+room : (f : Format) → 60 ≤ emax f
+room binary32 = lit≤ tt
+room binary64 = lit≤ tt
+
+-- a whole number up to there is a length
 pub length-whole : (f : Format) (n : ℕ) → n ≤ 2 ^ 60 → Length (ofInt f (pos n))
 length-whole f n h = record { length-nonneg = whole-nonneg f n; length-high = whole-within f n 60 h (room f) }
-  where
-    room : (f : Format) → 60 ≤ emax f
-    room binary32 = lit≤ tt
-    room binary64 = lit≤ tt
 
 -- ---- the shortfall
 
 -- the difference that it weighs
-gap : (f : Format) (m x : Float) → T (positive m) → T (fits f m) → T (nonneg x) → T (le x m)
+gap : (f : Format) (m x : Float) → T (positive m) → T (le m (fin false 1 (pos 60))) → T (nonneg x) → T (le x m)
     → T (finite x) × (T (finite (sub f m x)) × T (nonneg (sub f m x)))
 gap f m x p v n h =
     let fm : T (finite m) = positive-finite m p in
     let fx : T (finite x) = finite-between nought x m tt fm n h in
-    let w : T (le (absOf (sub f m x)) m) = float-sub-within f m x m (positive-nonneg m p) n (float-le-refl m (finite-number m fm)) h fm v in
-    (fx, (finite-within (sub f m x) m fm w, float-sub-nonneg f m x fm fx h))
+    let top : Float = fin false 1 (pos 60) in
+    let w : T (le (absOf (sub f m x)) top) = float-sub-within f m x top (positive-nonneg m p) n v (float-le-trans x m top h v) tt (power-fits f 60 (room f)) in
+    (fx, (finite-within (sub f m x) top tt w, float-sub-nonneg f m x fm fx h))
 
 -- up to the minimum the shortfall is not negative
-pub short-nonneg : (f : Format) (ws m x : Float) → T (nonneg ws) → T (finite ws) → T (positive m) → T (fits f m) → T (nonneg x) → T (le x m)
-    → T (nonneg (short f ws m x))
+pub short-nonneg : (f : Format) (ws m x : Float) → T (nonneg ws) → T (finite ws) → T (positive m) → T (le m (fin false 1 (pos 60))) → T (nonneg x)
+    → T (le x m) → T (nonneg (short f ws m x))
 unfolding short
 short-nonneg f ws m x p fw q v n h =
     let g = gap f m x q v n h in
     float-div-nonneg f (mul f ws (sub f m x)) m q (float-mul-nonneg f ws (sub f m x) p (g .1 .1) (float-mul-number f ws (sub f m x) fw (g .1 .0)))
 
 -- and falls as the length grows
-pub short-falls : (f : Format) (ws m x x' : Float) → T (nonneg ws) → T (finite ws) → T (positive m) → T (fits f m) → T (nonneg x) → T (le x x')
-    → T (le x' m) → T (le (short f ws m x') (short f ws m x))
+pub short-falls : (f : Format) (ws m x x' : Float) → T (nonneg ws) → T (finite ws) → T (positive m) → T (le m (fin false 1 (pos 60))) → T (nonneg x)
+    → T (le x x') → T (le x' m) → T (le (short f ws m x') (short f ws m x))
 unfolding short
 short-falls f ws m x x' p fw q v n h k =
     let g = gap f m x q v n (float-le-trans x x' m h k) in
@@ -91,16 +92,21 @@ module _ {f : Format} {wt ws m t : Float} (ok : Preferences f wt ws m t) where
 
   -- so the offset of a length is finite
   finite-off : (x : Float) → Length x → T (finite (offOf f t x))
-  finite-off x l = off-finite f t x 60 39 (room f) (l .length-nonneg) (l .length-high) (ok .target-low) (ok .target-high)
+  finite-off x l = off-finite f t x 60 39 (wide f) (l .length-nonneg) (l .length-high) (ok .target-low) (ok .target-high)
     where
-      room : (f : Format) → 60 + suc 39 ≤ emax f
-      room binary32 = lit≤ tt
-      room binary64 = lit≤ tt
+      wide : (f : Format) → 60 + suc 39 ≤ emax f
+      wide binary32 = lit≤ tt
+      wide binary64 = lit≤ tt
+
+  -- a minimum above a length is above zero
+  min-positive : (x : Float) → T (nonneg x) → T (lt x m) → T (positive m)
+  min-positive x n h =
+      positive-above x m n h (finite-between nought m (fin false 1 (pos 60)) tt tt (float-le-trans nought x m n (float-lt-le x m h)) (ok .min-high))
 
   -- the shortfall of a length below the minimum is not negative
   below-min : (x : Float) → T (nonneg x) → T (lt x m) → T (nonneg (short f ws m x))
   below-min x n h =
-      short-nonneg f ws m x (ok .short-weight-nonneg) (ok .short-weight-finite) (positive-above x m n h (ok .min-finite)) (ok .min-fits) n
+      short-nonneg f ws m x (ok .short-weight-nonneg) (ok .short-weight-finite) (min-positive x n h) (ok .min-high) n
       (float-lt-le x m h)
 
   -- the square term is not negative where the offset is finite
@@ -154,8 +160,8 @@ module _ {f : Format} {wt ws m t : Float} (ok : Preferences f wt ws m t) where
             let nh : T (nonneg hi) = float-le-trans nought x hi (l .length-nonneg) k in
             rw (cond-yes (lt hi m) bs b i, cond-yes (lt x m) cs c j)
             (float-add-mono f b c (short f ws m hi) (short f ws m x) nb (below-min hi nh i) q
-            (short-falls f ws m x hi (ok .short-weight-nonneg) (ok .short-weight-finite) (positive-above x m (l .length-nonneg) j (ok .min-finite))
-            (ok .min-fits) (l .length-nonneg) k (float-lt-le hi m i)))
+            (short-falls f ws m x hi (ok .short-weight-nonneg) (ok .short-weight-finite) (min-positive x (l .length-nonneg) j)
+            (ok .min-high) (l .length-nonneg) k (float-lt-le hi m i)))
         | inr i ↦ elim (passes (lt x m)) [
           | inl j ↦ rw (cond-no (lt hi m) bs b i, cond-yes (lt x m) cs c j)
               (float-le-trans b c cs q (float-add-grows f c (short f ws m x) nc (square-fits f wt (offOf f t x)) (below-min x (l .length-nonneg) j)))

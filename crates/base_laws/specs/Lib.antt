@@ -90,6 +90,7 @@ pub mod Offset
 pub mod Lengths
 -- Scores: pieces over the maximum first, then the cost
 --   score-refl, score-total, score-trans   `scoreLe` is a total preorder of the scores whose costs are numbers
+--   score-over            at most has no more pieces over the maximum
 --   score-lt-is, score-eq-is   below is not at least; equal is at most both ways
 --   score-lt-le           below is at most
 --   score-lt-le-trans, score-le-lt-trans   below chains with at most

@@ -3,7 +3,7 @@
 use mathlib.Core.Path.{_≡_, refl, sym, subst, _∙_}
 use mathlib.Core.Logic.{_⊎_, inl, inr}
 use Prim.Native.Nat.{ℕ, _+_, _≤_, _<_}
-use native.Mathlib.Nat.{le-refl, le-antisymm}
+use native.Mathlib.Nat.{le-refl, le-antisymm, le-of-eq, le-of-lt}
 use native.Mathlib.Omega.{arith}
 use mathlib.Core.Bool.{Bool, not, _&&_, _||_}
 use lib.Dec.{T, ltb, eqb, eqb→eq, ltb→lt, lt→ltb, T-not, not-T}
@@ -58,6 +58,10 @@ score-total a x b y p q = elim (lt-or-le a b) [
 -- at most chains
 pub score-trans : (a : ℕ) (x : Float) (b : ℕ) (y : Float) (c : ℕ) (z : Float) → T (scoreLe a x b y) → T (scoreLe b y c z) → T (scoreLe a x c z)
 score-trans a x b y c z = chain a b c (le x y) (le y z) (le x z) (float-le-trans x y z)
+
+-- a score that is at most another has no more pieces over the maximum
+pub score-over : (a : ℕ) (x : Float) (b : ℕ) (y : Float) → T (scoreLe a x b y) → a ≤ b
+score-over a x b y h = elim (split a b (le x y) h) [ inl l ↦ le-of-lt l | inr e ↦ le-of-eq (e .0) ]
 
 -- ---- its strict part, and both ways
 

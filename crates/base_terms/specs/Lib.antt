@@ -2,6 +2,8 @@
 
 -- Floats: zero and not below it (`nought`, `nonneg`), the size of a value (`absOf`), Rust's min, max and clamp (`minOf`, `maxOf`, `clampOf`)
 pub mod Floats
+-- Limits: the greatest length in samples (`maxLen`)
+pub mod Limits
 -- Lengths: what a piece's length costs (`square`, `offOf`, `short`, `lengthCost`), and the least of that over a range (`lengthBound`)
 pub mod Lengths
 -- Scores: pieces over the limit first, then the cost (`scoreLe`, `scoreLt`, `scoreEq`)
@@ -10,3 +12,5 @@ pub mod Scores
 pub mod Round
 -- Lists: cleared (`filled`), written at the front (`onto`), made from a function (`tabulate`), tested (`allOf`)
 pub mod Lists
+-- Work: an operation's three work lists (`Work`, `workOf`), zeroed (`cleared`), and how long each must be (`workLength`, `workOk`: 13)
+pub mod Work

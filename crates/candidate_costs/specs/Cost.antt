@@ -2,7 +2,7 @@
 use lib.Ieee.{Float, binary64, add, sub, mul, div}
 use Rattle.base_terms.specs.Floats.{minOf}
 use Rattle.grid.specs.Durations.{secondsOf}
-use Rattle.candidate_settings.specs.declared.config.Weights.{Weights}
+use Rattle.path_pieces.specs.declared.weights.Weights.{Weights}
 use Rattle.candidate_costs.specs.Normalize.{unit}
 
 -- how much of the pause reference a stretch of so many seconds reaches, 1 at most

@@ -1,4 +1,4 @@
--- Every cost of a cut is a number that is not negative: finite weights can give +inf, and never a NaN.
+-- Every cost of a cut is above zero: the fixed cost is, and what is added to it is not negative. Finite weights can give +inf, and never a NaN.
 use mathlib.Core.Path.{_≡_}
 use mathlib.Core.Logic.{inl, inr}
 use mathlib.Core.Bool.{true}
@@ -7,11 +7,13 @@ use native.Mathlib.Omega.{arith}
 use lib.IntN.{pos}
 use lib.Dec.{T}
 use lib.Ieee.{Float, binary64, add, sum, sub, mul, div, ofInt, round, le, lt, eq, isNan, fits}
+use lib.Ieee.Fits.{add-fits}
 use lib.Ieee.Positive.{positive, between}
 use Rattle.base_laws.specs.Tests.{lt-or-le}
 use Rattle.base_terms.specs.Floats.{nought, nonneg}
 use Rattle.base_laws.specs.Nonneg.{nought-nonneg, nonneg-number, finite-within}
-use Rattle.base_laws.specs.Sums.{float-add-mono, float-add-nonneg}
+use Rattle.base_laws.specs.Order.{float-le-trans, float-lt-le-trans}
+use Rattle.base_laws.specs.Sums.{float-add-mono, float-add-nonneg, float-add-grows}
 use Rattle.base_laws.specs.Differences.{float-sub-nonneg, float-sub-within}
 use Rattle.base_laws.specs.Products.{float-mul-number, float-mul-nonneg}
 use Rattle.base_laws.specs.Quotients.{float-div-mono, float-div-nonneg}
@@ -21,7 +23,7 @@ use Rattle.grid.specs.Limits.{maxDuration, nanosPerSec}
 use Rattle.grid.specs.Durations.{secondsOf}
 use Rattle.candidate_settings.specs.Tests.{weightsOk}
 use Rattle.candidate_settings.specs.TestsLaws.{Weight, Weighed, weights-parts}
-use Rattle.candidate_settings.specs.declared.config.Weights.{Weights}
+use Rattle.path_pieces.specs.declared.weights.Weights.{Weights}
 use Rattle.candidate_costs.specs.Normalize.{unit}
 use Rattle.candidate_costs.specs.NormalizeLaws.{OnScale, scale-finite}
 use Rattle.candidate_costs.specs.Cost.{pauseOf, cutCost}
@@ -95,13 +97,36 @@ lack x s =
 times : (x y : Float) → Weight x → Weight y → T (nonneg (mul binary64 x y))
 times x y p q = float-mul-nonneg binary64 x y (p .not-below) (q .not-below) (float-mul-number binary64 x y (p .bounded) (q .bounded))
 
--- a cost is of the search's domain: not NaN, and not below zero
-pub cost-fine : (w : Weights) (level secs : Float) → weightsOk w ≡ true → OnScale level → T (nonneg secs) → T (nonneg (cutCost w level secs))
-unfolding cutCost
-cost-fine w level secs ok s h =
-    let p = weights-parts w ok in
-    let x : Float = sub binary64 unit (pauseOf w secs) in
-    let a : T (nonneg (mul binary64 (w .level) level)) = times (w .level) level (p .level-weight) (record { bounded = scale-finite level s; not-below = s .low }) in
-    let b : T (nonneg (mul binary64 (w .pause) x)) = times (w .pause) x (p .pause-weight) (lack (pauseOf w secs) (pause-scale w secs p h)) in
-    float-add-nonneg binary64 (add binary64 (w .cut) (mul binary64 (w .level) level)) (mul binary64 (w .pause) x)
-    (float-add-nonneg binary64 (w .cut) (mul binary64 (w .level) level) (p .cut-cost .not-below) a) b
+module _ (w : Weights) (level secs : Float) (ok : weightsOk w ≡ true) (s : OnScale level) (h : T (nonneg secs)) where
+  -- the level's part, and what the pause lacks
+  abbrev loud : Float
+  loud = mul binary64 (w .level) level
+
+  abbrev lacking : Float
+  lacking = mul binary64 (w .pause) (sub binary64 unit (pauseOf w secs))
+
+  loud-nonneg : T (nonneg loud)
+  loud-nonneg = times (w .level) level (weights-parts w ok .level-weight) (record { bounded = scale-finite level s; not-below = s .low })
+
+  lacking-nonneg : T (nonneg lacking)
+  lacking-nonneg =
+      let p = weights-parts w ok in
+      times (w .pause) (sub binary64 unit (pauseOf w secs)) (p .pause-weight) (lack (pauseOf w secs) (pause-scale w secs p h))
+
+  both-nonneg : T (nonneg (add binary64 (w .cut) loud))
+  both-nonneg = float-add-nonneg binary64 (w .cut) loud (weights-parts w ok .cut-cost .not-below) loud-nonneg
+
+  -- a cost is of the search's domain: not NaN, and not below zero
+  pub cost-fine : T (nonneg (cutCost w level secs))
+  unfolding cutCost
+  cost-fine = float-add-nonneg binary64 (add binary64 (w .cut) loud) lacking both-nonneg lacking-nonneg
+
+  -- it is above zero, or +inf: the fixed cost, an f64, is above zero, and a sum is at least each of its parts
+  pub cost-positive : T (fits binary64 (w .cut)) → T (lt nought (cutCost w level secs))
+  unfolding cutCost
+  cost-positive held =
+      let p = weights-parts w ok in
+      let one = add binary64 (w .cut) loud in
+      float-lt-le-trans nought (w .cut) (add binary64 one lacking) (p .cut-above)
+      (float-le-trans (w .cut) one (add binary64 one lacking) (float-add-grows binary64 (w .cut) loud (p .cut-cost .not-below) held loud-nonneg)
+      (float-add-grows binary64 one lacking both-nonneg (add-fits binary64 (w .cut) loud) lacking-nonneg))

@@ -2,7 +2,7 @@
 -- Window: partOf, clipped; halfOf, windowOf, smoothing, widthOf, maxWidth; sumFrom, sumOf, meanOf
 pub mod Window
 --   one-back, all-part, part-length, around-first, around-inner, around-last   parts of a list, and those around a boundary
---   Windowed, window-sums, window-mean, width-some, width-narrow   windows
+--   Windowed, part-sums, window-mean, width-some, width-narrow   windows
 --   Summing, sum-nonneg, mean-nonneg, window-nonneg   sums and means
 pub mod WindowLaws
 -- Normalize: unit, minRange, rangeOf, normalizeOf
@@ -27,4 +27,11 @@ pub mod StretchLaws
 pub mod Cost
 --   seconds-positive      a pause reference that passes test 10 is finite and above zero
 --   cost-fine             a cost is not negative and no NaN
+--   cost-positive         it is above zero, for a fixed cost that is an f64
 pub mod CostLaws
+-- Quietest: of neighbouring boundaries, the first of equals (quieter, quietestOf)
+pub mod Quietest
+--   Quietest, quietest-is, quietest-only   it is at most as loud as each and quieter than each before it, and the only one
+--   quietest-within       where it lies
+--   Seeking               what holds while it is sought
+pub mod QuietestLaws

@@ -85,19 +85,16 @@ half-below width h = omega arith
 window-some : (width i n : ℕ) → 0 < width → i < n → i - halfOf width < min (i + (width - halfOf width)) n
 window-some width i n h l = omega (arith, half-below width h)
 
-module _ (width : ℕ) (values : List Float) (i from to : ℕ) (ok : Windowed width values) (h : i < length values)
-    (a : from ≡ i - halfOf width) (b : to ≡ min (i + (width - halfOf width)) (length values))
-  where
-    -- it may be summed
-    pub window-sums : (0 < length (partOf from to values)) × (allOf isFinite (partOf from to values) ≡ true)
-    window-sums =
-        let l = window-some width i (length values) (ok .some) h in
-        (rw (part-length from to values (omega (arith, b))) (omega (arith, a, b, l)), all-part isFinite from to values (ok .bounded))
+-- any part with a value may be summed
+pub part-sums : (width : ℕ) (values : List Float) (from to : ℕ) → Windowed width values → from < to → to ≤ length values
+    → (0 < length (partOf from to values)) × (allOf isFinite (partOf from to values) ≡ true)
+part-sums width values from to ok h l = (rw (part-length from to values l) (omega arith), all-part isFinite from to values (ok .bounded))
 
-    -- and its sum over its length is its mean
-    pub window-mean : (total : Float) → total ≡ sumOf (partOf from to values) → div binary64 total (ofInt binary64 (pos (to - from))) ≡ meanOf (windowOf width values i)
-    unfolding meanOf windowOf clipped
-    window-mean total e = rw (← a, ← b, part-length from to values (omega (arith, b)), e)
+-- the sum of a window over its length is its mean
+pub window-mean : (width : ℕ) (values : List Float) (i from to : ℕ) → from ≡ i - halfOf width → to ≡ min (i + (width - halfOf width)) (length values)
+    → (total : Float) → total ≡ sumOf (partOf from to values) → div binary64 total (ofInt binary64 (pos (to - from))) ≡ meanOf (windowOf width values i)
+unfolding meanOf windowOf clipped
+window-mean width values i from to a b total e = rw (← a, ← b, part-length from to values (omega (arith, b)), e)
 
 -- the smoothing width is one of those
 pub width-some : (frameRate hop : ℕ) → 0 < widthOf frameRate hop
@@ -170,7 +167,7 @@ window-nonneg width values i ok h e =
     let to = min (i + (width - halfOf width)) (length values) in
     let part = partOf from to values in
     let l : length part ≡ to - from = part-length from to values (omega arith) in
-    mean-nonneg part (window-sums width values i from to ok h refl refl .0) (omega (arith, l, ok .few))
+    mean-nonneg part (part-sums width values from to ok (window-some width i (length values) (ok .some) h) (omega arith) .0) (omega (arith, l, ok .few))
     (λ (j : ℕ) (b : j < length part). score-nonneg (getD part j nan) (all-at isScore part j nan b (all-part isScore from to values e)))
   where
     score-nonneg : (x : Float) → isScore x ≡ true → T (nonneg x)

@@ -22,7 +22,7 @@ use Rattle.grid.specs.ValuesLaws.{value-finite, values-finite}
 use Rattle.grid.specs.Limits.{maxFrameRate, maxHop, maxFrames}
 use Rattle.grid.specs.Durations.{InFrames}
 use Rattle.grid.specs.Validate.{levelCount, framesOk, valuesOk}
-use Rattle.grid.specs.ValidateLaws.{Passed, within-most, within-pos, frames-parts, lists-parts}
+use Rattle.grid.specs.ValidateLaws.{AcceptedRecording, within-most, within-pos, frames-parts, lists-parts}
 use Rattle.grid.specs.declared.validate.Recording.{Recording}
 use Rattle.grid.specs.declared.validate.Domain.{Domain}
 use Rattle.grid.specs.declared.validate.Domain.the-variants.{Decibels, Scores}
@@ -125,7 +125,7 @@ smoothing-frames rate frameRate hop e =
       time = lit≤ tt;
     }
 
-module _ (r : Recording) (values : List Float) (flags : List ℕ) (lent : List Float) (p : Passed r values flags lent) where
+module _ (r : Recording) (values : List Float) (flags : List ℕ) (lent : List Float) (p : AcceptedRecording r values flags lent) where
   -- its windows
   pub passed-measured : Measured (r .domain) (widthOf (r .«frame_rate») (r .hop)) values lent
   passed-measured =

@@ -1,7 +1,7 @@
 // What a cut costs.
 use base_code::floats;
-use candidate_settings::config::Weights;
 use grid::durations;
+use path_pieces::weights::Weights;
 ghost use mathlib.Core.Path.{_≡_};
 ghost use Rattle.candidate_costs.specs.Cost.{pauseOf, cutCost};
 

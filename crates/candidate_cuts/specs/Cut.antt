@@ -3,7 +3,7 @@
 use mathlib.Core.Path.{_≡_}
 use mathlib.Core.Bool.{true, false, cond}
 use mathlib.Core.List.{List}
-use Prim.Native.Nat.{ℕ, _+_, _/_, _≤_, _<_, min, max}
+use Prim.Native.Nat.{ℕ, zero, suc, _+_, _-_, _/_, _≤_, _<_, min, max}
 use lib.Dec.{ltb}
 use lib.Ieee.{Float, nan, inf}
 use lib.ListN.{length, getD}
@@ -13,10 +13,10 @@ use Rattle.candidate_settings.specs.declared.config.Gap.{Gap}
 use Rattle.candidate_settings.specs.declared.config.Gap.the-variants.{Keep, Drop}
 use Rattle.candidate_settings.specs.declared.config.Placement.{Placement}
 use Rattle.candidate_span.specs.Bounds.{lowOf, highOf}
+use Rattle.candidate_span.specs.Listed.{startAt, endAt}
 use Rattle.candidate_settings.specs.Tests.{ratioOk}
 use Rattle.candidate_cuts.specs.declared.cut.SilenceCut.{SilenceCut}
-use Rattle.candidate_cuts.specs.Walk.{foldOver}
-use Rattle.candidate_cuts.specs.Place.{placed}
+use Rattle.candidate_cuts.specs.Place.{chosenBy}
 
 -- ---- definitions
 
@@ -24,13 +24,14 @@ use Rattle.candidate_cuts.specs.Place.{placed}
 unfoldable pub splitPoint : ℕ → ℕ → ℕ → ℕ → ℕ
 splitPoint next prev start end = min (max ((next + prev) / 2) start) end
 
--- the lesser of a level and that of boundary k
-unfoldable pub quieterLevel : List Float → Float → ℕ → Float
-quieterLevel levels least k = minOf least (getD levels k nan)
+-- the least of a level and those of m boundaries from k on
+unfoldable pub leastFrom : List Float → Float → ℕ → ℕ → Float
+leastFrom levels least k zero = least
+leastFrom levels least k (suc m) = leastFrom levels (minOf least (getD levels k nan)) (suc k) m
 
 -- the least level of the boundaries from start to end, both inclusive
 unfoldable pub leastLevel : List Float → ℕ → ℕ → Float
-leastLevel levels start end = foldOver (quieterLevel levels) (inf false) start end
+leastLevel levels start end = leastFrom levels (inf false) start (end + 1 - start)
 
 -- a cut at one boundary
 abbrev pub pointCut : List Float → ℕ → SilenceCut
@@ -38,7 +39,7 @@ pointCut levels k = record { left = k; right = k; level = getD levels k nan }
 
 -- in a silence from start to end, of which lo to hi is left beside its padding: the placed boundary, or all of it with the least level of the whole silence
 unfoldable pub openCut : Gap → Placement → List Float → ℕ → ℕ → ℕ → ℕ → SilenceCut
-openCut Keep placement levels start end lo hi = pointCut levels (placed placement levels lo hi)
+openCut Keep placement levels start end lo hi = pointCut levels (chosenBy placement levels lo hi)
 openCut Drop placement levels start end lo hi = record { left = lo; right = hi; level = leastLevel levels start end }
 
 -- the candidate of a silence of n frames, with `pre` frames kept before sound and `tail` after it
@@ -47,6 +48,10 @@ silenceCut gap placement n pre tail levels start end =
     let lo = lowOf n tail start in
     let hi = highOf n pre end in
     cond (ltb hi lo) (pointCut levels (splitPoint hi lo start end)) (openCut gap placement levels start end lo hi)
+
+-- the candidate of silence i of a list
+abbrev pub cutAt : Gap → Placement → ℕ → ℕ → ℕ → List Float → List ℕ → ℕ → SilenceCut
+cutAt gap placement n pre tail levels ss i = silenceCut gap placement n pre tail levels (startAt ss i) (endAt ss i)
 
 -- ---- what it asks
 

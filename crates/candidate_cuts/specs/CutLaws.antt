@@ -15,12 +15,13 @@ use Rattle.candidate_settings.specs.declared.config.Gap.the-variants.{Keep, Dro
 use Rattle.candidate_settings.specs.declared.config.Placement.{Placement}
 use Rattle.candidate_span.specs.Bounds.{lowOf, highOf, isInner}
 use Rattle.candidate_span.specs.BoundsLaws.{inner-is, low-within, high-within}
-use Rattle.candidate_span.specs.Gaps.{Cut, isGap, gapOf}
+use Rattle.candidate_span.specs.Gaps.{Cut, isGap, silenceGap}
+use Rattle.candidate_costs.specs.NormalizeLaws.{OnScale}
 use Rattle.candidate_cuts.specs.declared.cut.SilenceCut.{SilenceCut}
-use Rattle.candidate_cuts.specs.Place.{placed}
-use Rattle.candidate_cuts.specs.PlaceLaws.{placed-within}
+use Rattle.candidate_cuts.specs.Place.{chosenBy}
+use Rattle.candidate_cuts.specs.PlaceLaws.{chosen-within}
 use Rattle.candidate_cuts.specs.Cut.{splitPoint, pointCut, openCut, silenceCut, Inner}
-use Rattle.candidate_cuts.specs.LeastLaws.{WithinOne, least-within}
+use Rattle.candidate_cuts.specs.LeastLaws.{least-within}
 use Rattle.candidate_cuts.specs.CutWalk.{split-within, open-placeable}
 
 -- ---- where it lies
@@ -48,14 +49,14 @@ module _ (placement : Placement) (n pre tail : ℕ) (levels : List Float) (start
   split-inside : (start ≤ splitPoint (highOf n pre end) (lowOf n tail start) start end) × (splitPoint (highOf n pre end) (lowOf n tail start) start end ≤ end)
   split-inside = split-within (highOf n pre end) (lowOf n tail start) start end (omega (arith, p .some))
 
-  placed-inside : lowOf n tail start ≤ highOf n pre end → (start ≤ placed placement levels (lowOf n tail start) (highOf n pre end)) × (placed placement levels (lowOf n tail start) (highOf n pre end) ≤ end)
+  placed-inside : lowOf n tail start ≤ highOf n pre end → (start ≤ chosenBy placement levels (lowOf n tail start) (highOf n pre end)) × (chosenBy placement levels (lowOf n tail start) (highOf n pre end) ≤ end)
   placed-inside h =
-      let w = placed-within placement levels (lowOf n tail start) (highOf n pre end) (open-placeable Keep placement n pre tail levels start end (lowOf n tail start) (highOf n pre end) (bounds-within .1) h p) in
+      let w = chosen-within placement levels (lowOf n tail start) (highOf n pre end) (open-placeable Keep placement n pre tail levels start end (lowOf n tail start) (highOf n pre end) (bounds-within .1) h p) in
       (omega (arith, w .0, bounds-within .0), omega (arith, w .1, bounds-within .1))
 
   open-inside : (gap : Gap) → lowOf n tail start ≤ highOf n pre end → Inside start end (openCut gap placement levels start end (lowOf n tail start) (highOf n pre end))
   unfolding openCut
-  open-inside Keep h = (placed-inside h .0, le-refl (placed placement levels (lowOf n tail start) (highOf n pre end)), placed-inside h .1)
+  open-inside Keep h = (placed-inside h .0, le-refl (chosenBy placement levels (lowOf n tail start) (highOf n pre end)), placed-inside h .1)
   open-inside Drop h = (bounds-within .0, h, bounds-within .1)
 
   -- the cut lies in the silence
@@ -69,19 +70,19 @@ module _ (placement : Placement) (n pre tail : ℕ) (levels : List Float) (start
 
   -- ---- its level
 
-  module _ (scale : (k : ℕ) → k ≤ n → WithinOne (getD levels k nan)) where
-    scaled : (k : ℕ) → k ≤ end → WithinOne (getD levels k nan)
+  module _ (scale : (k : ℕ) → k ≤ n → OnScale (getD levels k nan)) where
+    scaled : (k : ℕ) → k ≤ end → OnScale (getD levels k nan)
     scaled k h = scale k (omega (arith, p .before-sound))
 
-    open-level : (gap : Gap) → lowOf n tail start ≤ highOf n pre end → WithinOne (openCut gap placement levels start end (lowOf n tail start) (highOf n pre end) .level)
+    open-level : (gap : Gap) → lowOf n tail start ≤ highOf n pre end → OnScale (openCut gap placement levels start end (lowOf n tail start) (highOf n pre end) .level)
     unfolding openCut
-    open-level Keep h = scaled (placed placement levels (lowOf n tail start) (highOf n pre end)) (placed-inside h .1)
+    open-level Keep h = scaled (chosenBy placement levels (lowOf n tail start) (highOf n pre end)) (placed-inside h .1)
     open-level Drop h = least-within levels start end (omega (arith, p .some)) scaled
 
     -- the level is a number from 0 to 1
-    pub cut-level : (gap : Gap) → WithinOne (silenceCut gap placement n pre tail levels start end .level)
+    pub cut-level : (gap : Gap) → OnScale (silenceCut gap placement n pre tail levels start end .level)
     cut-level gap =
-        by-bounds gap placement n pre tail levels start end (λ (c : SilenceCut). WithinOne (c .level))
+        by-bounds gap placement n pre tail levels start end (λ (c : SilenceCut). OnScale (c .level))
         (λ h. scaled (splitPoint (highOf n pre end) (lowOf n tail start) start end) (split-inside .1)) (open-level gap)
 
 -- ---- dropped gaps
@@ -115,7 +116,7 @@ module _ (placement : Placement) (n pre tail : ℕ) (levels : List Float) (start
 
   open-gap : (gap : Gap) → ltb (openCut gap placement levels start end (lowOf n tail start) (highOf n pre end) .left) (openCut gap placement levels start end (lowOf n tail start) (highOf n pre end) .right) ≡ hasGap gap n pre tail start end
   unfolding openCut hasGap isGap
-  open-gap Keep = point-none (placed placement levels (lowOf n tail start) (highOf n pre end))
+  open-gap Keep = point-none (chosenBy placement levels (lowOf n tail start) (highOf n pre end))
   open-gap Drop = rw (inner-is n start end (λ e. omega (arith, p .after-sound)) (λ e. omega (arith, p .before-sound)))
 
   -- the left end is below the right end exactly where the silence has a dropped gap
@@ -125,13 +126,13 @@ module _ (placement : Placement) (n pre tail : ℕ) (levels : List Float) (start
       by-bounds gap placement n pre tail levels start end (λ (c : SilenceCut). ltb (c .left) (c .right) ≡ hasGap gap n pre tail start end)
       (λ h. point-none (splitPoint (highOf n pre end) (lowOf n tail start) start end) ∙ sym (gap-none gap h)) (λ h. open-gap gap)
 
-  open-edges : (gap : Gap) → hasGap gap n pre tail start end ≡ true → edgesOf (openCut gap placement levels start end (lowOf n tail start) (highOf n pre end)) ≡ gapOf n pre tail start end
+  open-edges : (gap : Gap) → hasGap gap n pre tail start end ≡ true → edgesOf (openCut gap placement levels start end (lowOf n tail start) (highOf n pre end)) ≡ silenceGap n pre tail start end
   unfolding openCut hasGap
   open-edges Keep t = absurd (holds t)
   open-edges Drop t = refl
 
   -- and then its ends are the gap's
-  pub cut-gap-is : (gap : Gap) → hasGap gap n pre tail start end ≡ true → edgesOf (silenceCut gap placement n pre tail levels start end) ≡ gapOf n pre tail start end
+  pub cut-gap-is : (gap : Gap) → hasGap gap n pre tail start end ≡ true → edgesOf (silenceCut gap placement n pre tail levels start end) ≡ silenceGap n pre tail start end
   cut-gap-is gap t =
-      by-bounds gap placement n pre tail levels start end (λ (c : SilenceCut). edgesOf c ≡ gapOf n pre tail start end)
+      by-bounds gap placement n pre tail levels start end (λ (c : SilenceCut). edgesOf c ≡ silenceGap n pre tail start end)
       (λ h. absurd (holds (sym (gap-none gap h) ∙ t))) (λ h. open-edges gap t)

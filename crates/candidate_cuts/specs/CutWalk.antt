@@ -12,7 +12,7 @@ use Rattle.candidate_span.specs.declared.bounds.Bounds.{Bounds}
 use Rattle.candidate_span.specs.Bounds.{lowOf, highOf, boundsOf}
 use Rattle.candidate_span.specs.BoundsLaws.{high-within}
 use Rattle.candidate_cuts.specs.declared.cut.SilenceCut.{SilenceCut}
-use Rattle.candidate_cuts.specs.Place.{Bounded, Placeable, placed}
+use Rattle.candidate_cuts.specs.Place.{WithLevels, Placeable, chosenBy}
 use Rattle.candidate_cuts.specs.Cut.{splitPoint, leastLevel, pointCut, openCut, silenceCut, Inner}
 
 -- ---- the middle of overlapping padding
@@ -24,7 +24,7 @@ split-within next prev start end h = (omega arith, omega arith)
 -- ---- what the parts of the code ask
 
 module _ (gap : Gap) (placement : Placement) (n pre tail : ℕ) (levels : List Float) (start end : ℕ) where
-  pub whole-bounded : Inner placement n levels start end → Bounded levels start end
+  pub whole-bounded : Inner placement n levels start end → WithLevels levels start end
   whole-bounded p = record { order = omega (arith, p .some); held = omega (arith, p .before-sound, p .held); few = omega (arith, p .before-sound, p .few) }
 
   pub open-placeable : (lo hi : ℕ) → hi ≤ end → lo ≤ hi → Inner placement n levels start end → Placeable placement levels lo hi
@@ -52,7 +52,7 @@ module _ (gap : Gap) (placement : Placement) (n pre tail : ℕ) (levels : List F
     silence-overlaps r k h e q =
         rw (lt-ltb (highOf n pre end) (lowOf n tail start) (omega (arith, low, high)), ← low, ← high) (q ∙ ap (λ (j : ℕ). pointCut levels j) e)
 
-    pub silence-keeps : (r : SilenceCut) (k : ℕ) → gap ≡ Keep → b .lo ≤ b .hi → k ≡ placed placement levels (b .lo) (b .hi) → r ≡ pointCut levels k
+    pub silence-keeps : (r : SilenceCut) (k : ℕ) → gap ≡ Keep → b .lo ≤ b .hi → k ≡ chosenBy placement levels (b .lo) (b .hi) → r ≡ pointCut levels k
         → r ≡ silenceCut gap placement n pre tail levels start end
     unfolding silenceCut openCut
     silence-keeps r k g h e q =

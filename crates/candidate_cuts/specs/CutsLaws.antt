@@ -21,12 +21,11 @@ use Rattle.candidate_span.specs.Bounds.{isInner}
 use Rattle.candidate_span.specs.BoundsLaws.{inner-parts, inner-is}
 use Rattle.candidate_span.specs.Span.{firstOf, lastOf}
 use Rattle.candidate_span.specs.SpanLaws.{Spanned, inner-first, inner-last}
-use Rattle.candidate_span.specs.Gaps.{Cut, gapOf, gapsOf}
+use Rattle.candidate_span.specs.Gaps.{Cut, silenceGap, gapsOf}
 use Rattle.candidate_span.specs.GapsLaws.{gap-parts}
 use Rattle.candidate_span.specs.GapsFrom.{GapAt, gap-from, gap-in}
 use Rattle.candidate_settings.specs.Tests.{ratioOk}
-use Rattle.candidate_cuts.specs.declared.cut.SilenceCut.{SilenceCut}
-use Rattle.candidate_cuts.specs.Cut.{silenceCut, Inner}
+use Rattle.candidate_cuts.specs.Cut.{cutAt, Inner}
 use Rattle.candidate_cuts.specs.CutLaws.{cut-within, hasGap, has-gap, edgesOf, cut-gap, cut-gap-is}
 
 -- what a plan has when its silences are cut: a span, a level for each frame boundary, and a ratio that refusal 9 passes
@@ -35,10 +34,6 @@ pub record Prepared (gap : Gap) (placement : Placement) (n : ℕ) (levels : List
   pub few : n ≤ maxFrames
   pub held : n < length levels
   pub ratio : ratioOk placement ≡ true
-
--- the candidate of silence i
-abbrev pub cutAt : Gap → Placement → ℕ → ℕ → ℕ → List Float → List ℕ → ℕ → SilenceCut
-cutAt gap placement n pre tail levels ss i = silenceCut gap placement n pre tail levels (startAt ss i) (endAt ss i)
 
 -- silence i of the list has sound on both sides
 pub record InnerAt (n : ℕ) (ss : List ℕ) (i : ℕ) : Type 0 where
@@ -91,7 +86,7 @@ module _ (gap : Gap) (placement : Placement) (n pre tail : ℕ) (levels : List F
     pub is : g ≡ edgesOf (cutAt gap placement n pre tail levels ss number)
 
   gap-listed : (drop : Gap) (i : ℕ) → i < count ss → hasGap drop n pre tail (startAt ss i) (endAt ss i) ≡ true
-      → List·Memᴰ (gapOf n pre tail (startAt ss i) (endAt ss i)) (gapsOf drop n pre tail ss)
+      → List·Memᴰ (silenceGap n pre tail (startAt ss i) (endAt ss i)) (gapsOf drop n pre tail ss)
   unfolding hasGap gapsOf
   gap-listed Keep i h t = absurd (holds t)
   gap-listed Drop i h t = gap-in n pre tail ss i h t

@@ -1,16 +1,12 @@
--- Walk: a fold over neighbouring boundaries (`foldOver`), and what holds while a loop follows it
-pub mod Walk
--- Place: the boundary that a placement chooses (`placed`, `quietestIn`, `shareOf`)
+-- Place: the boundary that a placement chooses (`chosenBy`, `shareOf`)
 pub mod Place
 -- ShareLaws: a ratio's share of a width is at most the width (`share-within`)
 pub mod ShareLaws
--- QuietestLaws: the quietest boundary is the first of the least (`quietest-first`), and the only one (`first-only`)
-pub mod QuietestLaws
--- PlaceLaws: what a placement chooses lies within its bounds (`placed-within`)
+-- PlaceLaws: what a placement chooses lies within its bounds (`chosen-within`)
 pub mod PlaceLaws
--- Cut: a silence's candidate (`silenceCut`), and which silences have one (`Inner`)
+-- Cut: a silence's candidate (`silenceCut`, by number `cutAt`), and which silences have one (`Inner`)
 pub mod Cut
--- LeastLaws: the least level is at most each (`least-below`), and from 0 to 1 (`WithinOne`, `least-within`)
+-- LeastLaws: the least level is at most each (`least-below`), and from 0 to 1 (`least-within`); what holds while it is sought (`Lowering`)
 pub mod LeastLaws
 -- CutWalk: one law for each end of the code
 pub mod CutWalk

@@ -7,7 +7,7 @@ use candidate_span::bounds;
 ghost use mathlib.Core.Path.{_≡_};
 ghost use Prim.Native.Nat.{_≤_, _<_};
 ghost use lib.ListN.{length};
-ghost use Rattle.candidate_cuts.specs.Place.{Bounded};
+ghost use Rattle.candidate_cuts.specs.Place.{WithLevels};
 ghost use Rattle.candidate_cuts.specs.Cut.{Inner, splitPoint, leastLevel, pointCut, silenceCut};
 
 // The earlier piece ends at frame boundary `left`, the later starts at `right`; `level` is what the cut is charged for.
@@ -36,7 +36,7 @@ fn split_point(next_start: usize, prev_end: usize, start: usize, end: usize) -> 
 
 // The least level of the boundaries from start to end, both inclusive.
 fn least_level(levels: &[f64], start: usize, end: usize) -> f64
-    requires { ⌜ Bounded (now levels) start end ⌝ }
+    requires { ⌜ WithLevels (now levels) start end ⌝ }
     ensures { λ r. ⌜ r ≡ leastLevel (now (levels .entry)) start end ⌝ }
 {
     let mut least = 1.0 / 0.0;

@@ -9,6 +9,7 @@ use lib.ListN.{length, take, drop}
 use lib.Seq.{take-at}
 use borrow.Rule.Slice.PartMut.{putMid}
 use Rattle.base_terms.specs.Lists.{onto}
+use Rattle.base_terms.specs.Work.{workLength}
 use Rattle.base_code.specs.FrontLaws.{onto-take, tabulate-length}
 use Rattle.grid.specs.Durations.{InFrames, framesIn}
 use Rattle.grid.specs.declared.validate.Recording.{Recording}
@@ -20,27 +21,28 @@ use Rattle.silence_runs.specs.SoundsLaws.{sounds-length}
 use Rattle.silence_runs.specs.Silences.{silencesOf}
 use Rattle.silence_runs.specs.SilencesLaws.{silences-length, silences-room}
 use Rattle.silence_list.specs.Silences.{silencesIn, soundsIn}
-use Rattle.silence_list.specs.SilencesLaws.{Ready}
+use Rattle.silence_list.specs.RefusalLaws.{SoundReady}
 use Rattle.silence_list.specs.declared.config.SegmentConfig.{SegmentConfig}
-use Rattle.candidate_span.specs.Listed.{Listed}
+use Rattle.candidate_span.specs.ListedLaws.{Listed}
 use Rattle.candidate_span.specs.ListedLaws.{silences-listed}
-use Rattle.candidate_points.specs.Placed.{placed, placed-take, placed-part, placed-put}
+use Rattle.candidate_points.specs.Placed.{placed}
+use Rattle.candidate_points.specs.PlacedLaws.{placed-take, placed-part, placed-put}
 use Rattle.candidate_costs.specs.Window.{smoothing, widthOf}
 use Rattle.candidate_costs.specs.NormalizeLaws.{Scaled}
 use Rattle.candidate_costs.specs.Level.{boundaryLevels}
 use Rattle.candidate_costs.specs.LevelLaws.{Measured}
-use Rattle.candidates.specs.Held.{silencesHeld, runsHeld, levelsHeld}
-use Rattle.candidate_finder.specs.Measure.{heardIn, runsIn, levelsIn}
-use Rattle.candidate_finder.specs.Scale.{scaleOf, scale-on, scale-off, scale-levels}
+use Rattle.candidate_walk.specs.Held.{silencesHeld, runsHeld, levelsHeld}
+use Rattle.candidate_finder.specs.CandidatesIn.{recordingLevels, runsIn, levelsIn}
+use Rattle.candidate_finder.specs.NeededLevels.{neededLevels, needed-on, needed-off, needed-levels}
 
 -- a recording that can be measured in lists of these lengths
 pub record Measurable (r : Recording) (segment : SegmentConfig) (values : List Float) (flags : List ℕ) (lent : List Float) (n32 nf : ℕ) : Type 0 where
-  pub sounds : Ready r segment values flags
+  pub sounds : SoundReady r segment values flags
   pub smoothed : InFrames (r .«frame_rate») (r .hop) smoothing
   pub measured : Measured (r .domain) (widthOf (r .«frame_rate») (r .hop)) values lent
-  pub scaled : Scaled (heardIn r segment values flags)
-  pub room : 16 * (length values + 1) ≤ n32
-  pub roomf : 16 * (length values + 1) ≤ nf
+  pub scaled : Scaled (recordingLevels r segment values flags)
+  pub room : workLength (length values + 1) ≤ n32
+  pub roomf : workLength (length values + 1) ≤ nf
 
 -- a measured recording, with so many silences
 pub record Holds (r : Recording) (segment : SegmentConfig) (values : List Float) (flags : List ℕ) (lent : List Float) (count : ℕ) (work : List ℕ) (workf : List Float) : Type 0 where
@@ -71,17 +73,17 @@ unfolding silencesIn
 silences-even r segment values flags numbers e = omega (arith, silences-length (soundsIn r segment values flags))
 
 -- at the front of a list, found by these levels
-module _ (r : Recording) (segment : SegmentConfig) (values : List Float) (flags : List ℕ) (l : Levels) (minSound minSilence : ℕ) (e : l ≡ scaleOf (r .domain) (heardIn r segment values flags))
+module _ (r : Recording) (segment : SegmentConfig) (values : List Float) (flags : List ℕ) (l : Levels) (minSound minSilence : ℕ) (e : l ≡ neededLevels (r .domain) (recordingLevels r segment values flags))
     (f : minSound ≡ framesIn (r .«frame_rate») (r .hop) (segment .«min_sound»)) (g : minSilence ≡ framesIn (r .«frame_rate») (r .hop) (segment .«min_silence»))
   where
     silences-by : silencesOf (soundsOf (l .on) (l .off) minSound minSilence values flags) ≡ silencesIn r segment values flags
     unfolding silencesIn soundsIn
-    silences-by = rw (e, f, g, scale-on (r .domain) (heardIn r segment values flags), scale-off (r .domain) (heardIn r segment values flags))
+    silences-by = rw (e, f, g, needed-on (r .domain) (recordingLevels r segment values flags), needed-off (r .domain) (recordingLevels r segment values flags))
 
-    pub heard-front : (list list₀ : List ℕ) (numbers : ℕ) → numbers ≡ length (silencesOf (soundsOf (l .on) (l .off) minSound minSilence values flags))
+    pub silences-front : (list list₀ : List ℕ) (numbers : ℕ) → numbers ≡ length (silencesOf (soundsOf (l .on) (l .off) minSound minSilence values flags))
         → list ≡ silencesOf (soundsOf (l .on) (l .off) minSound minSilence values flags) ++ drop (length (silencesOf (soundsOf (l .on) (l .off) minSound minSilence values flags))) list₀
         → (2 * (numbers / 2) ≡ length (silencesIn r segment values flags)) × (take (2 * (numbers / 2)) list ≡ silencesIn r segment values flags)
-    heard-front list list₀ numbers m h =
+    silences-front list list₀ numbers m h =
         let s = silencesOf (soundsOf (l .on) (l .off) minSound minSilence values flags) in
         let is : numbers ≡ length (silencesIn r segment values flags) = m ∙ ap length silences-by in
         let even = silences-even r segment values flags numbers is in
@@ -90,7 +92,7 @@ module _ (r : Recording) (segment : SegmentConfig) (values : List Float) (flags 
 -- ---- all of it
 
 module _ (r : Recording) (segment : SegmentConfig) (values : List Float) (flags : List ℕ) (lent : List Float) (n32 nf : ℕ) (m : Measurable r segment values flags lent n32 nf)
-    (count : ℕ) (l : Levels) (work : List ℕ) (is : l ≡ scaleOf (r .domain) (heardIn r segment values flags)) (counted : 2 * count ≡ length (silencesIn r segment values flags))
+    (count : ℕ) (l : Levels) (work : List ℕ) (is : l ≡ neededLevels (r .domain) (recordingLevels r segment values flags)) (counted : 2 * count ≡ length (silencesIn r segment values flags))
     (front : take (2 * count) work ≡ silencesIn r segment values flags) (same : length work ≡ n32)
   where
     -- the stretches behind the silences, and the levels in the other list
@@ -108,7 +110,7 @@ module _ (r : Recording) (segment : SegmentConfig) (values : List Float) (flags 
         bl = boundaryLevels (r .domain) l width values lent
 
         runs-are : runs ≡ runsIn r segment values flags
-        runs-are = unfold runsIn in (e ∙ rw (is, scale-off (r .domain) (heardIn r segment values flags)))
+        runs-are = unfold runsIn in (e ∙ rw (is, needed-off (r .domain) (recordingLevels r segment values flags)))
 
         size : length runs ≡ length values
         size = ap length e ∙ quiet-length (belowOff (l .off) values flags) ∙ below-length (l .off) values flags (m .sounds .flagged)
@@ -120,7 +122,7 @@ module _ (r : Recording) (segment : SegmentConfig) (values : List Float) (flags 
         put = placed-put (length values + 1) runs work fits end (omega (arith, z, size))
 
         levels-are : bl ≡ levelsIn r segment values flags lent
-        levels-are = unfold levelsIn in (rw (is, w) (scale-levels (r .domain) (heardIn r segment values flags) (widthOf (r .«frame_rate») (r .hop)) values lent))
+        levels-are = unfold levelsIn in (rw (is, w) (needed-levels (r .domain) (recordingLevels r segment values flags) (widthOf (r .«frame_rate») (r .hop)) values lent))
 
         long : length bl ≡ length values + 1
         long = ap length levels-are ∙ (unfold levelsIn in unfold boundaryLevels in (tabulate-length _ (suc (length values)) ∙ sym (add-one (length values))))

@@ -1,14 +1,16 @@
--- The theorems on candidates hold of every list that the operation hands out: where the tests pass and the span is not empty.
--- `found-are` names the list, `found-planned` and `found-costed` what Order, Found, Alone, Cheapest and Costs of the crate candidates ask.
-use mathlib.Core.Path.{_≡_, refl, _∙_}
-use mathlib.Core.Bool.{false}
-use mathlib.Core.List.{List}
+-- What document 01 says of a plan's candidates holds of every list that is found: the tests give what the theorems of the crates below ask.
+-- `plan-candidates` and `plan-costs` are the theorems, where the span is not empty; `plan-empty` is the other case.
+use mathlib.Core.Path.{_≡_, refl, sym, subst, _∙_}
+use mathlib.Core.Bool.{true, false}
+use mathlib.Core.List.{List, [], List·Memᴰ}
 use Prim.Native.Nat.{ℕ, suc, _≤_, _<_}
+use native.Mathlib.Nat.{le-of-eq}
 use native.Mathlib.Omega.{arith}
-use lib.Ieee.{Float}
+use lib.Ieee.{Float, nan}
 use lib.ListN.{length, getD}
 use Rattle.base_code.specs.FrontLaws.{tabulate-length}
-use Rattle.grid.specs.Limits.{maxFrameRate}
+use Rattle.base_laws.specs.Nonneg.{nonneg-number}
+use Rattle.grid.specs.Limits.{maxFrameRate, maxFrames}
 use Rattle.grid.specs.Validate.{gridOf}
 use Rattle.grid.specs.ValidateLaws.{frames-parts, within-most}
 use Rattle.grid.specs.declared.boundary.FrameGrid.{FrameGrid}
@@ -19,24 +21,41 @@ use Rattle.silence_list.specs.Silences.{silencesIn}
 use Rattle.silence_list.specs.declared.config.SegmentConfig.{SegmentConfig}
 use Rattle.candidate_settings.specs.declared.config.PlanConfig.{PlanConfig}
 use Rattle.candidate_span.specs.Spacing.{spacingOf}
-use Rattle.candidate_span.specs.Span.{emptySpan, firstOf, lastOf}
-use Rattle.candidate_span.specs.SpanLaws.{ends-between, span-frames}
+use Rattle.candidate_span.specs.SpanLaws.{ends-between, ends-empty, span-frames}
 use Rattle.candidate_span.specs.declared.spacing.Spacing.{Spacing}
 use Rattle.candidate_costs.specs.Level.{boundaryLevels}
 use Rattle.candidate_costs.specs.Within.{level-within}
 use Rattle.candidate_cuts.specs.CutsLaws.{Prepared}
-use Rattle.plan_tests.specs.Ready.{Ready}
+use Rattle.candidate_points.specs.Points.{isIn, isPoint}
+use Rattle.candidate_points.specs.Theorems.{Levels, point-of, point-quietest, open-in}
+use Rattle.plan_tests.specs.Fitting.{Fitting}
+use Rattle.plan_tests.specs.PlanReady.{PlanReady, ready-levelled}
 use Rattle.candidates.specs.Candidates.{candidatesOf}
-use Rattle.candidates.specs.Sources.{Planned}
-use Rattle.candidates.specs.GridPoints.{Fits, grid-planned}
-use Rattle.candidates.specs.Costs.{Costed}
+use Rattle.candidates.specs.Sources.{Planned, Source, own, point, listed-source, point-ends, own-inside}
+use Rattle.candidates.specs.GridPoints.{Fits, grid-planned, grid-inside}
+use Rattle.candidates.specs.Order.{span-ends, candidates-first, candidates-last, candidates-some, candidate-within, candidates-rise, candidates-apart}
+use Rattle.candidates.specs.Found.{candidate-source, listed-found, listed-inside}
+use Rattle.candidates.specs.Alone.{gap-dropped, dropped-found, gap-alone}
+use Rattle.candidates.specs.Asked.{Sampled, candidates-asked, costs-asked}
+use Rattle.candidates.specs.Cheapest.{candidate-cheapest}
+use Rattle.candidates.specs.Costs.{Costed, candidate-cost, candidate-positive}
+use Rattle.candidates.specs.declared.candidate.Candidate.{Candidate}
 use Rattle.candidates.specs.declared.context.Context.{Context}
-use Rattle.candidate_finder.specs.Measure.{heardIn, runsIn, levelsIn, spacingIn, contextOf, pointsIn, candidatesWithin, candidatesFrom, candidatesIn}
+use Rattle.candidate_finder.specs.CandidatesIn.{recordingLevels, runsIn, levelsIn, spacingIn, contextOf, candidatesWithin, candidatesFrom, candidatesIn}
+use Rattle.candidate_finder.specs.SpanIn.{emptyIn, firstIn, lastIn, blockedIn, gridPointsIn, listedIn}
+use Rattle.candidate_finder.specs.PlanCandidates.{StartsAt, QuietestOfBlock, PlanCandidates, PlanCosts}
 use Rattle.candidate_finder.specs.Holds.{silences-are}
 use Rattle.candidate_finder.specs.Stretches.{stretches-most}
 
+-- an empty span has none
+pub plan-empty : (r : Recording) (segment : SegmentConfig) (plan : PlanConfig) (values : List Float) (flags : List ℕ) (lent : List Float)
+    → emptyIn r segment plan values flags ≡ true → candidatesIn r segment plan values flags lent ≡ []
+unfolding candidatesIn candidatesFrom candidatesWithin
+plan-empty r segment plan values flags lent e =
+    rw (ends-empty (plan .gap) (length values) (spacingIn r segment plan (length values) .pre) (spacingIn r segment plan (length values) .tail) (silencesIn r segment values flags) e)
+
 module _ (r : Recording) (segment : SegmentConfig) (plan : PlanConfig) (values : List Float) (flags : List ℕ) (lent : List Float) (n32 n64 nf : ℕ)
-    (p : Ready r segment plan values flags lent n32 n64 nf) (full : emptySpan (plan .gap) (length values) (silencesIn r segment values flags) ≡ false)
+    (p : PlanReady r segment plan values flags lent n32 n64 nf) (full : emptyIn r segment plan values flags ≡ false)
   where
     abbrev x : Context
     x = contextOf r segment plan (length values)
@@ -50,19 +69,27 @@ module _ (r : Recording) (segment : SegmentConfig) (plan : PlanConfig) (values :
     abbrev ss : List ℕ
     ss = silencesIn r segment values flags
 
+    abbrev runs : List ℕ
+    runs = runsIn r segment values flags
+
     abbrev levels : List Float
     levels = levelsIn r segment values flags lent
 
     abbrev first : ℕ
-    first = firstOf (plan .gap) (s .pre) ss
+    first = firstIn r segment plan values flags
 
     abbrev last : ℕ
-    last = lastOf (plan .gap) (length values) (s .tail) ss
+    last = lastIn r segment plan values flags
+
+    abbrev ks : List ℕ
+    ks = gridPointsIn r segment plan values flags lent
 
     -- the list is that of the span's candidates
-    pub found-are : candidatesIn r segment plan values flags lent ≡ candidatesOf x ss (runsIn r segment values flags) levels (pointsIn x g s ss levels first last) first last
+    found-are : candidatesIn r segment plan values flags lent ≡ candidatesOf x ss runs levels ks first last
     unfolding candidatesIn candidatesFrom candidatesWithin
     found-are = rw (ends-between (plan .gap) (length values) (s .pre) (s .tail) ss full)
+
+    -- ---- what the theorems ask
 
     some : 0 < length values
     some = span-frames (plan .gap) (length values) ss full
@@ -71,33 +98,107 @@ module _ (r : Recording) (segment : SegmentConfig) (plan : PlanConfig) (values :
     unfolding levelsIn boundaryLevels
     size = tabulate-length _ (suc (length values))
 
-    pub found-prepared : Prepared (plan .gap) (plan .placement) (length values) levels ss
-    found-prepared = record { spanned = record { listed = silences-are r segment values flags (p .sounds .flagged); some = full }; few = p .few; held = omega (arith, size); ratio = p .ratio }
+    prepared : Prepared (plan .gap) (plan .placement) (length values) levels ss
+    prepared = record { spanned = record { listed = silences-are r segment values flags (p .sounds .flagged); some = full }; few = p .few; held = omega (arith, size); ratio = p .ratio }
 
     fits : Fits x g s
     unfolding spacingOf
     fits = record { frames = refl; before = refl; after = refl; some = p .block-some }
 
-    -- its points stand at kept frame boundaries: what the theorems on order, gaps and survivors ask
-    pub found-planned : Planned x ss levels (pointsIn x g s ss levels first last) first last
-    found-planned = grid-planned x g s ss levels fits found-prepared
+    -- points stand at kept frame boundaries
+    planned : Planned x ss levels ks first last
+    planned = grid-planned x g s ss levels fits prepared
 
-    stretches : length (runsIn r segment values flags) ≡ length values
-    unfolding runsIn
-    stretches = quiet-length (belowOff (heardIn r segment values flags .off) values flags) ∙ below-length (heardIn r segment values flags .off) values flags (p .sounds .flagged)
+    -- and strictly inside the span
+    inside : (k : ℕ) → isIn ks k ≡ true → (first < k) × (k < last)
+    inside k t = grid-inside x g s ss levels fits first last k t
 
-    counted : (i : ℕ) → getD (runsIn r segment values flags) i 0 < 4294967296
-    unfolding runsIn
-    counted i = omega (arith, stretches-most 1048576 (heardIn r segment values flags .off) values flags (omega arith) (omega (arith, p .few, below-length (heardIn r segment values flags .off) values flags (p .sounds .flagged))) i)
+    -- the grid is of a length that refusal 6 passes
+    sampled : Sampled x g
+    sampled = record { accepted = p .accepted; same = refl; held = p .length-bounded }
 
-    -- its levels lie within 0 to 1: what the theorem on costs asks
-    pub found-costed : Costed x g (runsIn r segment values flags) levels
-    found-costed = record {
-      weighed = p .weights;
-      scale = λ (k : ℕ) (l : k ≤ length values). unfold levelsIn in level-within (heardIn r segment values flags) _ values flags lent (r .domain) (p .levelled) some k l;
-      bounded = p .accepted .bounded;
-      rate = within-most (r .«frame_rate») maxFrameRate (frames-parts (r .«sample_rate») (r .«frame_rate») (r .hop) (p .recording .frames) .0);
-      lasts = refl;
-      stretches = stretches;
-      counted = counted;
+    -- ---- where they lie
+
+    in-order : (c : Candidate) → Source x ss runs levels ks c → c .left ≤ c .right
+    in-order c (own i a e) = rw e (own-inside x ss runs levels ks first last planned i a .1)
+    in-order c (point k t e) = rw (e, point-ends x ss runs levels ks k .0, point-ends x ss runs levels ks k .1) (le-of-eq refl)
+
+    -- one survives for each left end that is listed
+    survives : (c : Candidate) → List·Memᴰ c (listedIn r segment plan values flags lent) → StartsAt (candidatesOf x ss runs levels ks first last) (c .left)
+    survives c m =
+        let i = listed-inside x ss runs levels ks first last planned inside c m in
+        let from = listed-source x ss runs levels ks c m in
+        let q = listed-found x ss runs levels ks first last c from (i .0) (omega (arith, i .1, in-order c from)) in
+        record { number = q .number; counted = q .counted; at = q .at }
+
+    pub plan-candidates : PlanCandidates r segment plan values flags lent (candidatesIn r segment plan values flags lent)
+    plan-candidates = subst (PlanCandidates r segment plan values flags lent) (sym found-are) record {
+      span = span-ends x ss runs levels ks first last planned;
+      two = candidates-some x ss runs levels ks first last;
+      first-end = candidates-first x ss runs levels ks first last;
+      last-end = candidates-last x ss runs levels ks first last;
+      within = candidate-within x ss runs levels ks first last planned;
+      rise = candidates-rise x ss runs levels ks first last planned;
+      apart = candidates-apart x ss runs levels ks first last planned;
+      source = candidate-source x ss runs levels ks first last;
+      inside = listed-inside x ss runs levels ks first last planned inside;
+      survivor = survives;
+      gap-dropped = gap-dropped x ss runs levels ks first last planned;
+      gap-found = λ gap m. let d = dropped-found x ss runs levels ks first last planned gap m in record { number = d .number; counted = d .counted; is = d .is };
+      alone = gap-alone x ss runs levels ks first last planned;
+      blocks = open-in (blockedIn r segment plan values flags) levels (s .block) last (fits .some) first;
+      asked = candidates-asked x ss runs levels ks first last planned g sampled;
     }
+
+    -- ---- what they cost
+
+    stretches : length runs ≡ length values
+    unfolding runsIn
+    stretches = quiet-length (belowOff (recordingLevels r segment values flags .off) values flags) ∙ below-length (recordingLevels r segment values flags .off) values flags (p .sounds .flagged)
+
+    counted : (i : ℕ) → getD runs i 0 < 4294967296
+    unfolding runsIn
+    counted i =
+        omega (
+          arith,
+          stretches-most maxFrames (recordingLevels r segment values flags .off) values flags (omega arith)
+              (omega (arith, p .few, below-length (recordingLevels r segment values flags .off) values flags (p .sounds .flagged))) i,
+        )
+
+    module _ (f : Fitting values lent) where
+      -- every level is a number from 0 to 1
+      costed : Costed x g runs levels
+      costed = record {
+        weighed = p .weights;
+        scale = λ (k : ℕ) (l : k ≤ length values). unfold levelsIn in
+            level-within (recordingLevels r segment values flags) _ values flags lent (r .domain) (ready-levelled r segment plan values flags lent n32 n64 nf p f) some k l;
+        bounded = p .accepted .bounded;
+        rate = within-most (r .«frame_rate») maxFrameRate (frames-parts (r .«sample_rate») (r .«frame_rate») (r .hop) (p .recording .frames) .0);
+        lasts = refl;
+        stretches = stretches;
+        counted = counted;
+      }
+
+      numbers : Levels (length values) levels
+      numbers = record { size = size; numbers = λ (k : ℕ) (l : k ≤ length values). nonneg-number (getD levels k nan) (costed .scale k l .low) }
+
+      quietest : (k : ℕ) → isIn ks k ≡ true → QuietestOfBlock (blockedIn r segment plan values flags) levels (s .block) first last k
+      quietest k t =
+          let blocked = blockedIn r segment plan values flags in
+          let is : isPoint blocked levels (s .block) first last k ≡ true = unfold isPoint in t in
+          let o = point-of blocked levels (s .block) last (fits .some) first k is in
+          record {
+            start = o .start;
+            own = o .own;
+            quietest = point-quietest blocked levels (s .block) last (fits .some) first k is (length values) numbers
+                (omega (arith, span-ends x ss runs levels ks first last planned .1));
+          }
+
+      pub plan-costs : PlanCosts r segment plan values flags lent (candidatesIn r segment plan values flags lent)
+      plan-costs = subst (PlanCosts r segment plan values flags lent) (sym found-are) record {
+        cost = candidate-cost x g runs levels costed ss ks first last planned;
+        positive = candidate-positive x g runs levels costed ss ks first last planned;
+        cheapest = candidate-cheapest x g runs levels costed ss ks first last planned;
+        quietest = quietest;
+        costs-asked = costs-asked x ss runs levels ks first last planned g costed;
+      }

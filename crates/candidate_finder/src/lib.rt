@@ -1,5 +1,5 @@
-// From a recording and the settings to the candidates in work memory.
-// Contracts cite specs/Measure; what work memory holds on the way is in specs/Holds and specs/Marks.
-pub mod hear;
-pub mod marks;
-pub mod plan;
+// From a recording and the settings of a plan to its candidates in work memory.
+// The contract of `finder::find_candidates` cites specs/CandidatesIn; what work memory holds on the way is in specs/Holds and specs/GridPointMarks.
+pub mod finder;
+pub mod grid_point_marks;
+pub mod silences_and_levels;

@@ -1,35 +1,44 @@
--- The operation "candidate list": the tests of document 01's operation Plan before 14, its answer, and what each lent list holds afterwards.
--- `candidateListOf` is what the entry point's contract cites; CandidateListLaws has a law for each of its ends.
+-- The operation "candidate list": the candidates of a plan, before completion adds to them, for the comparison with the Rust.
+-- `candidateListOf` is what the contract cites: the answer, and every list that was lent to be written, afterwards.
 use Prim.Native.Nat.{ℕ, _*_}
 use mathlib.Core.Bool.{Bool, _&&_, cond}
 use mathlib.Core.List.{List}
 use lib.Dec.{leb}
-use lib.Ieee.{Float, binary64, ofBits}
+use lib.Ieee.{Float}
 use lib.ListN.{length}
-use Rattle.base_terms.specs.Lists.{filled, onto}
+use Rattle.base_terms.specs.Lists.{onto}
+use Rattle.base_terms.specs.Work.{Work, cleared}
 use Rattle.grid.specs.declared.validate.Recording.{Recording}
 use Rattle.silence_list.specs.declared.config.SegmentConfig.{SegmentConfig}
 use Rattle.candidate_settings.specs.declared.config.PlanConfig.{PlanConfig}
-use Rattle.plan_tests.specs.Refusal as request
-use Rattle.candidates.specs.Held.{entriesOf, costsOf}
-use Rattle.candidate_finder.specs.Measure.{candidatesIn}
+use Rattle.plan_tests.specs.Refusal as tests
+use Rattle.candidates.specs.Entries.{entriesOf, costsOf}
+use Rattle.candidate_finder.specs.CandidatesIn.{candidatesIn}
 use Rattle.candidate_list.specs.declared.list.Answer.{Answer}
 use Rattle.candidate_list.specs.declared.list.Answer.the-variants.{Found, Refused, ShortOutput}
 
 -- document 01's number for each case; 0 where the list was made
 abbrev pub numberOf : Answer → ℕ
 numberOf (Found n) = 0
-numberOf (Refused v) = request.numberOf v
+numberOf (Refused v) = tests.numberOf v
 numberOf ShortOutput = 12
 
--- what a call leaves: its answer, and every list that was lent to be written
-pub record End : Type 0 where
-  pub answer : Answer
+-- the output: three numbers for each candidate, its left boundary, its right boundary and its reason, and a cost for each
+pub record Output : Type 0 where
   pub ends : List ℕ
   pub costs : List Float
-  pub work32 : List ℕ
-  pub work64 : List ℕ
-  pub workf : List Float
+
+abbrev pub outputOf : List ℕ → List Float → Output
+outputOf ends costs = record { ends = ends; costs = costs }
+
+-- what a call leaves
+pub record End : Type 0 where
+  pub answer : Answer
+  pub out : Output
+  pub work : Work
+
+abbrev pub endOf : Answer → Output → Work → End
+endOf answer out work = record { answer = answer; out = out; work = work }
 
 abbrev pub pick : Bool → End → End → End
 pick test a b = cond test a b
@@ -38,18 +47,16 @@ pick test a b = cond test a b
 unfoldable pub hasRoom : ℕ → ℕ → ℕ → Bool
 hasRoom candidates ends costs = leb candidates costs && leb (3 * candidates) ends
 
--- 12 or the list, of so many candidates with these entries and prices: either way work memory is zeroed whole, and the outputs are untouched beyond the answer
-unfoldable pub listedOf : ℕ → List ℕ → List Float → List ℕ → List Float → List ℕ → List ℕ → List Float → End
-listedOf candidates entries prices ends costs work32 work64 workf =
-    pick (hasRoom candidates (length ends) (length costs))
-    (record { answer = Found candidates; ends = onto entries ends; costs = onto prices costs; work32 = filled 0 work32; work64 = filled 0 work64; workf = filled (ofBits binary64 0) workf })
-    (record { answer = ShortOutput; ends = ends; costs = costs; work32 = filled 0 work32; work64 = filled 0 work64; workf = filled (ofBits binary64 0) workf })
+-- 12, or so many candidates with these entries and costs: either way work memory is zeroed whole, and the output is untouched beyond the answer
+unfoldable pub handedOutOf : ℕ → List ℕ → List Float → Output → Work → End
+handedOutOf candidates entries costs out work =
+    pick (hasRoom candidates (length (out .ends)) (length (out .costs)))
+    (endOf (Found candidates) (outputOf (onto entries (out .ends)) (onto costs (out .costs))) (cleared work))
+    (endOf ShortOutput out (cleared work))
 
--- a refusal before 12 leaves every list as it was; else the candidates are listed: left boundary, right boundary and reason of each, and its cost
-unfoldable pub candidateListOf : Recording → SegmentConfig → PlanConfig → List Float → List ℕ → List Float → List ℕ → List Float → List ℕ → List ℕ → List Float → End
-candidateListOf r segment plan values flags levels ends costs work32 work64 workf =
-    let verdict = request.firstRefusalOf r segment plan values flags levels (length work32) (length work64) (length workf) in
+-- a refusal before 12 leaves every list as it was; else the candidates are handed out
+unfoldable pub candidateListOf : Recording → SegmentConfig → PlanConfig → List Float → List ℕ → List Float → Output → Work → End
+candidateListOf r segment plan values flags levels out work =
+    let verdict = tests.firstRefusalOf r segment plan values flags levels (length (work .u32s)) (length (work .u64s)) (length (work .f64s)) in
     let cs = candidatesIn r segment plan values flags levels in
-    pick (request.isFine verdict)
-    (listedOf (length cs) (entriesOf cs) (costsOf cs) ends costs work32 work64 workf)
-    (record { answer = Refused verdict; ends = ends; costs = costs; work32 = work32; work64 = work64; workf = workf })
+    pick (tests.isFine verdict) (handedOutOf (length cs) (entriesOf cs) (costsOf cs) out work) (endOf (Refused verdict) out work)

@@ -10,16 +10,19 @@ use lib.ListN.{length, take, drop, length-take, length-drop}
 use borrow.Author.Tests.{le-leb, lt-leb, leb-true, leb-false}
 use Rattle.base_laws.specs.Tests.{both}
 use Rattle.base_terms.specs.Lists.{filled, onto}
+use Rattle.base_terms.specs.Work.{Work, workOf, cleared}
 use Rattle.grid.specs.declared.validate.Recording.{Recording}
 use Rattle.silence_list.specs.declared.config.SegmentConfig.{SegmentConfig}
 use Rattle.candidate_settings.specs.declared.config.PlanConfig.{PlanConfig}
 use Rattle.plan_tests.specs.Refusal.{firstRefusalOf, isFine}
 use Rattle.plan_tests.specs.declared.refusal.Verdict.{Verdict}
-use Rattle.candidates.specs.Held.{heldAt, costsAt, entriesOf, costsOf}
-use Rattle.candidates.specs.HeldLaws.{entries-length, costs-length}
+use Rattle.candidates.specs.Entries.{entriesOf, costsOf}
+use Rattle.candidate_walk.specs.Held.{heldAt, costsAt}
+use Rattle.candidates.specs.EntriesLaws.{entries-length, costs-length}
 use Rattle.candidates.specs.declared.candidate.Candidate.{Candidate}
-use Rattle.candidate_finder.specs.Measure.{candidatesIn}
-use Rattle.candidate_list.specs.CandidateList.{End, hasRoom, listedOf, candidateListOf}
+use Rattle.candidate_finder.specs.CandidatesIn.{candidatesIn}
+use Rattle.candidate_finder.specs.FinderLaws.{Stands}
+use Rattle.candidate_list.specs.CandidateList.{Output, endOf, hasRoom, handedOutOf, candidateListOf}
 use Rattle.candidate_list.specs.declared.list.Answer.the-variants.{Found, Refused, ShortOutput}
 
 -- ---- test 12
@@ -44,17 +47,17 @@ module _ (candidates ends costs : ℕ) where
 
 -- ---- what stands in work memory
 
--- entries and costs of so many candidates of so many frames
-pub record Standing (frames candidates : ℕ) (work : List ℕ) (workf : List Float) : Type 0 where
+-- room for the entries and costs of so many candidates of so many frames
+pub record Copyable (frames candidates : ℕ) (work : List ℕ) (workf : List Float) : Type 0 where
   pub fits : heldAt frames + 3 * candidates ≤ length work
   pub fitsf : costsAt frames + candidates ≤ length workf
 
--- where they are those of a list
-pub stands : (frames candidates : ℕ) (cs : List Candidate) (work : List ℕ) (workf : List Float) → heldAt frames ≤ length work → costsAt frames ≤ length workf → candidates ≡ length cs
-    → take (3 * candidates) (drop (heldAt frames) work) ≡ entriesOf cs → take candidates (drop (costsAt frames) workf) ≡ costsOf cs → Standing frames candidates work workf
-stands frames candidates cs work workf h hf n e f = record {
-  fits = omega (arith, length-take (3 * candidates) (drop (heldAt frames) work), length-drop (heldAt frames) work, ap length e, entries-length cs);
-  fitsf = omega (arith, length-take candidates (drop (costsAt frames) workf), length-drop (costsAt frames) workf, ap length f, costs-length cs);
+-- candidates that stand there have it
+pub stands-copyable : (frames candidates : ℕ) (cs : List Candidate) (work : List ℕ) (workf : List Float) → heldAt frames ≤ length work → costsAt frames ≤ length workf
+    → Stands frames candidates cs work workf → Copyable frames candidates work workf
+stands-copyable frames candidates cs work workf h hf s = record {
+  fits = omega (arith, s .number, length-take (3 * candidates) (drop (heldAt frames) work), length-drop (heldAt frames) work, ap length (s .entries), entries-length cs);
+  fitsf = omega (arith, s .number, length-take candidates (drop (costsAt frames) workf), length-drop (costsAt frames) workf, ap length (s .costs), costs-length cs);
 }
 
 -- ---- a part of b elements, as it is lent
@@ -71,33 +74,38 @@ module _ (a b e : ℕ) (is : e ≡ a + b) where
 
 -- ---- the list
 
-module _ (candidates : ℕ) (entries : List ℕ) (prices : List Float) (ends : List ℕ) (costs : List Float) (work32 work64 : List ℕ) (workf : List Float) (w32 w64 : List ℕ) (wf : List Float)
-    (e32 : w32 ≡ filled 0 work32) (e64 : w64 ≡ filled 0 work64) (ef : wf ≡ filled (ofBits binary64 0) workf)
-  where
-    -- an output is too short
-    pub listed-short : hasRoom candidates (length ends) (length costs) ≡ false
-        → _≡_ {A = End} (record { answer = ShortOutput; ends = ends; costs = costs; work32 = w32; work64 = w64; workf = wf }) (listedOf candidates entries prices ends costs work32 work64 workf)
-    unfolding listedOf
-    listed-short h = rw (h, e32, e64, ef)
+-- three cleared lists are cleared work memory
+pub cleared-lists : (work32 work64 : List ℕ) (workf : List Float) (w32 w64 : List ℕ) (wf : List Float) → w32 ≡ filled 0 work32 → w64 ≡ filled 0 work64 → wf ≡ filled (ofBits binary64 0) workf
+    → workOf w32 w64 wf ≡ cleared (workOf work32 work64 workf)
+cleared-lists work32 work64 workf w32 w64 wf e32 e64 ef = rw (e32, e64, ef)
 
-    -- both have room
-    pub listed-found : (ends′ : List ℕ) (costs′ : List Float) → hasRoom candidates (length ends) (length costs) ≡ true → ends′ ≡ onto entries ends → costs′ ≡ onto prices costs
-        → _≡_ {A = End} (record { answer = Found candidates; ends = ends′; costs = costs′; work32 = w32; work64 = w64; workf = wf }) (listedOf candidates entries prices ends costs work32 work64 workf)
-    unfolding listedOf
-    listed-found ends′ costs′ h a b = rw (h, e32, e64, ef, a, b)
+module _ (candidates : ℕ) (entries : List ℕ) (costs : List Float) (out : Output) (work w : Work) (e : w ≡ cleared work) where
+  -- an output is too short
+  pub out-short : hasRoom candidates (length (out .ends)) (length (out .costs)) ≡ false → endOf ShortOutput out w ≡ handedOutOf candidates entries costs out work
+  unfolding handedOutOf
+  out-short h = rw (h, e)
+
+  -- both have room
+  pub out-found : (out′ : Output) → hasRoom candidates (length (out .ends)) (length (out .costs)) ≡ true → out′ .ends ≡ onto entries (out .ends) → out′ .costs ≡ onto costs (out .costs)
+      → endOf (Found candidates) out′ w ≡ handedOutOf candidates entries costs out work
+  unfolding handedOutOf
+  out-found out′ h a b = rw (h, e, a, b)
 
 -- ---- the operation
 
-module _ (r : Recording) (segment : SegmentConfig) (plan : PlanConfig) (values : List Float) (flags : List ℕ) (levels : List Float) (ends : List ℕ) (costs : List Float) (work32 work64 : List ℕ) (workf : List Float) where
-  pub ends-refused : (v : Verdict) → v ≡ firstRefusalOf r segment plan values flags levels (length work32) (length work64) (length workf) → isFine v ≡ false
-      → _≡_ {A = End} (record { answer = Refused v; ends = ends; costs = costs; work32 = work32; work64 = work64; workf = workf }) (candidateListOf r segment plan values flags levels ends costs work32 work64 workf)
+module _ (r : Recording) (segment : SegmentConfig) (plan : PlanConfig) (values : List Float) (flags : List ℕ) (levels : List Float) (out : Output) (work : Work) where
+  -- the first test that fails
+  abbrev verdict : Verdict
+  verdict = firstRefusalOf r segment plan values flags levels (length (work .u32s)) (length (work .u64s)) (length (work .f64s))
+
+  pub ends-refused : (v : Verdict) → v ≡ verdict → isFine v ≡ false → endOf (Refused v) out work ≡ candidateListOf r segment plan values flags levels out work
   unfolding candidateListOf
   ends-refused v e n = rw (← e, n)
 
   -- the candidates stand in work memory, whose lists are as long as before, and are handed out
-  pub ends-listed : (v : Verdict) (k : ℕ) (entries : List ℕ) (prices : List Float) (w32 : List ℕ) (wf : List Float) → v ≡ firstRefusalOf r segment plan values flags levels (length work32) (length work64) (length workf) → isFine v ≡ true
-      → k ≡ length (candidatesIn r segment plan values flags levels) → entries ≡ entriesOf (candidatesIn r segment plan values flags levels) → prices ≡ costsOf (candidatesIn r segment plan values flags levels)
-      → length w32 ≡ length work32 → length wf ≡ length workf
-      → listedOf k entries prices ends costs w32 work64 wf ≡ candidateListOf r segment plan values flags levels ends costs work32 work64 workf
-  unfolding candidateListOf listedOf filled
-  ends-listed v k entries prices w32 wf e y n a b s sf = rw (← e, y, n, a, b, s, sf)
+  pub ends-listed : (v : Verdict) (k : ℕ) (entries : List ℕ) (costs : List Float) (w32 : List ℕ) (wf : List Float) → v ≡ verdict → isFine v ≡ true
+      → k ≡ length (candidatesIn r segment plan values flags levels) → entries ≡ entriesOf (candidatesIn r segment plan values flags levels) → costs ≡ costsOf (candidatesIn r segment plan values flags levels)
+      → length w32 ≡ length (work .u32s) → length wf ≡ length (work .f64s)
+      → handedOutOf k entries costs out (workOf w32 (work .u64s) wf) ≡ candidateListOf r segment plan values flags levels out work
+  unfolding candidateListOf handedOutOf filled
+  ends-listed v k entries costs w32 wf e y n a b s sf = rw (← e, y, n, a, b, s, sf)

@@ -1,20 +1,22 @@
 // The operation itself.
 use base_code::front;
-use candidate_finder::plan;
+use base_code::work;
+use candidate_finder::finder;
 use candidate_settings::config::PlanConfig;
 use grid::validate::Recording;
 use plan_tests::refusal;
 use plan_tests::refusal::Verdict;
 use silence_list::config::SegmentConfig;
-use silence_list::list;
 ghost use mathlib.Core.Path.{_≡_};
 ghost use Prim.Native.Nat.{_*_};
 ghost use mathlib.Core.Bool.{true};
 ghost use lib.ListN.{length, take, drop};
 ghost use Rattle.base_terms.specs.Lists.{onto};
-ghost use Rattle.candidates.specs.Held.{heldAt, costsAt};
-ghost use Rattle.candidate_list.specs.CandidateList.{End, hasRoom, listedOf, candidateListOf, numberOf};
-ghost use Rattle.candidate_list.specs.CandidateListLaws.{Standing};
+ghost use Rattle.base_terms.specs.Work.{workOf};
+ghost use Rattle.plan_tests.specs.Fitting.{Fitting};
+ghost use Rattle.candidate_walk.specs.Held.{heldAt, costsAt};
+ghost use Rattle.candidate_list.specs.CandidateList.{outputOf, endOf, hasRoom, handedOutOf, candidateListOf, numberOf};
+ghost use Rattle.candidate_list.specs.CandidateListLaws.{Copyable};
 
 // What the operation answers: how many candidates it wrote, or why it wrote none.
 pub enum Answer {
@@ -53,10 +55,12 @@ fn copy_out(
     ends: &mut [u32],
     costs: &mut [f64],
 )
-    requires { ⌜ Standing frames count (now «work_u32») (now «work_f64») ⌝ }
+    requires { ⌜ Copyable frames count (now «work_u32») (now «work_f64») ⌝ }
     requires { ⌜ hasRoom count (length (now ends)) (length (now costs)) ≡ true ⌝ }
-    ensures { λ _. ⌜ now (ends .exit) ≡ onto (take (3 * count) (drop (heldAt frames) (now («work_u32» .entry)))) (now (ends .entry)) ⌝ }
-    ensures { λ _. ⌜ now (costs .exit) ≡ onto (take count (drop (costsAt frames) (now («work_f64» .entry)))) (now (costs .entry)) ⌝ }
+    ensures { λ _. ⌜ now (ends .exit)
+        ≡ onto (take (3 * count) (drop (heldAt frames) (now («work_u32» .entry)))) (now (ends .entry)) ⌝ }
+    ensures { λ _. ⌜ now (costs .exit)
+        ≡ onto (take count (drop (costsAt frames) (now («work_f64» .entry)))) (now (costs .entry)) ⌝ }
 {
     let from = 3 * (frames + 1);
     let to = from + 3 * count;
@@ -76,19 +80,26 @@ fn hand_out(
     ends: &mut [u32],
     costs: &mut [f64],
 ) -> Answer
-    requires { ⌜ Standing frames count (now «work_u32») (now «work_f64») ⌝ }
-    ensures { λ a. ⌜ _≡_ {A = End} (record { answer = a; ends = now (ends .exit); costs = now (costs .exit); work32 = now («work_u32» .exit); work64 = now («work_u64» .exit); workf = now («work_f64» .exit) }) (listedOf count (take (3 * count) (drop (heldAt frames) (now («work_u32» .entry)))) (take count (drop (costsAt frames) (now («work_f64» .entry)))) (now (ends .entry)) (now (costs .entry)) (now («work_u32» .entry)) (now («work_u64» .entry)) (now («work_f64» .entry))) ⌝ }
+    requires { ⌜ Copyable frames count (now «work_u32») (now «work_f64») ⌝ }
+    ensures { λ a. ⌜ endOf a (outputOf (now (ends .exit)) (now (costs .exit)))
+        (workOf (now («work_u32» .exit)) (now («work_u64» .exit)) (now («work_f64» .exit)))
+        ≡ handedOutOf count
+        (take (3 * count) (drop (heldAt frames) (now («work_u32» .entry))))
+        (take count (drop (costsAt frames) (now («work_f64» .entry))))
+        (outputOf (now (ends .entry)) (now (costs .entry)))
+        (workOf (now («work_u32» .entry)) (now («work_u64» .entry)) (now («work_f64» .entry))) ⌝ }
 {
     if !has_room(count, ends.len(), costs.len()) {
-        list::clear_work(work_u32, work_u64, work_f64);
+        work::clear_work(work_u32, work_u64, work_f64);
         return Answer::ShortOutput;
     }
     copy_out(frames, count, &*work_u32, &*work_f64, ends, costs);
-    list::clear_work(work_u32, work_u64, work_f64);
+    work::clear_work(work_u32, work_u64, work_f64);
     Answer::Found(count)
 }
 
-// The candidates of a plan: for candidate i its left boundary at ends[3 i], its right boundary at ends[3 i + 1], its reason at ends[3 i + 2] and its cost at costs[i].
+// The candidates of a plan: for candidate i its left boundary at ends[3 i], its right boundary at ends[3 i + 1], its reason at ends[3 i + 2]
+// and its cost at costs[i].
 pub fn candidate_list(
     r: Recording,
     segment: SegmentConfig,
@@ -102,7 +113,12 @@ pub fn candidate_list(
     ends: &mut [u32],
     costs: &mut [f64],
 ) -> Answer
-    ensures { λ a. ⌜ _≡_ {A = End} (record { answer = a; ends = now (ends .exit); costs = now (costs .exit); work32 = now («work_u32» .exit); work64 = now («work_u64» .exit); workf = now («work_f64» .exit) }) (candidateListOf r segment plan (now (values .entry)) (now (flags .entry)) (now (levels .entry)) (now (ends .entry)) (now (costs .entry)) (now («work_u32» .entry)) (now («work_u64» .entry)) (now («work_f64» .entry))) ⌝ }
+    ensures { λ a. ⌜ endOf a (outputOf (now (ends .exit)) (now (costs .exit)))
+        (workOf (now («work_u32» .exit)) (now («work_u64» .exit)) (now («work_f64» .exit)))
+        ≡ candidateListOf r segment plan (now (values .entry)) (now (flags .entry)) (now (levels .entry))
+        (outputOf (now (ends .entry)) (now (costs .entry)))
+        (workOf (now («work_u32» .entry)) (now («work_u64» .entry)) (now («work_f64» .entry))) ⌝ }
+    ensures { λ _. ⌜ Fitting (now (values .entry)) (now (levels .entry)) ⌝ }
 {
     let verdict = refusal::first_refusal(
         r,
@@ -119,6 +135,15 @@ pub fn candidate_list(
         return Answer::Refused(verdict);
     }
     let n = values.len();
-    let count = plan::plan_candidates(r, segment, plan, values, flags, levels, work_u32, work_f64);
+    let count = finder::find_candidates(
+        r,
+        segment,
+        plan,
+        values,
+        flags,
+        levels,
+        work_u32,
+        work_f64,
+    );
     hand_out(n, count, work_u32, work_u64, work_f64, ends, costs)
 }

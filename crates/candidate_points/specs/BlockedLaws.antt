@@ -14,12 +14,14 @@ use Rattle.base_code.specs.FrontLaws.{tabulate-at, tabulate-length}
 use Rattle.grid.specs.declared.boundary.FrameGrid.{FrameGrid}
 use Rattle.silence_runs.specs.Runs.{putRun}
 use Rattle.candidate_settings.specs.declared.config.Gap.{Gap}
-use Rattle.candidate_span.specs.Listed.{count, startAt, endAt, Listed}
+use Rattle.candidate_span.specs.Listed.{count, startAt, endAt}
+use Rattle.candidate_span.specs.ListedLaws.{Listed}
 use Rattle.candidate_span.specs.ListedLaws.{listed-own, listed-apart, listed-within}
 use Rattle.candidate_span.specs.Bounds.{lowOf, highOf}
 use Rattle.candidate_span.specs.BoundsLaws.{low-within, high-within}
 use Rattle.candidate_span.specs.declared.spacing.Spacing.{Spacing}
-use Rattle.candidate_points.specs.Flags.{flagOf, flag-yes, flag-no, flag-set, and-no, or-no, or-yes}
+use Rattle.candidate_points.specs.Flags.{flagOf}
+use Rattle.candidate_points.specs.FlagsLaws.{flag-yes, flag-no, flag-set, and-no, or-no, or-yes}
 use Rattle.candidate_points.specs.RangeLaws.{put-length, put-before, put-in, put-after}
 use Rattle.candidate_points.specs.Blocked.{getsGrid, touches, opens, blocksAt, blockedBy, isBlocked, flagBy, flagsBy, blockedOf, shutBy}
 
@@ -33,10 +35,6 @@ module _ (start end k : ℕ) where
   pub touches-out : (k < start) ⊎ (end < k) → touches start end k ≡ false
   unfolding touches
   touches-out h = elim h [ inl l ↦ rw (lt-leb start k l) | inr l ↦ rw (lt-leb k end l) (and-no (leb start k)) ]
-
-  pub touches-parts : touches start end k ≡ true → (start ≤ k) × (k ≤ end)
-  unfolding touches
-  touches-parts t = let p = both (leb start k) (leb k end) t in (leb-true start k (p .0), leb-true k end (p .1))
 
 -- ---- the flags of one silence
 

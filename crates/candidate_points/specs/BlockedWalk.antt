@@ -13,14 +13,16 @@ use Rattle.grid.specs.Boundary.{Bounded}
 use Rattle.grid.specs.declared.boundary.FrameGrid.{FrameGrid}
 use Rattle.silence_runs.specs.Runs.{putRun}
 use Rattle.candidate_settings.specs.declared.config.Gap.{Gap}
-use Rattle.candidate_span.specs.Listed.{count, startAt, endAt, Listed}
+use Rattle.candidate_span.specs.Listed.{count, startAt, endAt}
+use Rattle.candidate_span.specs.ListedLaws.{Listed}
 use Rattle.candidate_span.specs.ListedLaws.{listed-own, listed-within}
 use Rattle.candidate_span.specs.Bounds.{lowOf, highOf, boundsOf}
 use Rattle.candidate_span.specs.BoundsLaws.{high-within}
 use Rattle.candidate_span.specs.declared.bounds.Bounds.{Bounds}
 use Rattle.candidate_span.specs.declared.spacing.Spacing.{Spacing}
-use Rattle.candidate_points.specs.Flags.{flag-no}
-use Rattle.candidate_points.specs.Placed.{placed, placed-length, placed-take, placed-before, placed-part, placed-again, placed-put, placed-same}
+use Rattle.candidate_points.specs.FlagsLaws.{flag-no}
+use Rattle.candidate_points.specs.Placed.{placed}
+use Rattle.candidate_points.specs.PlacedLaws.{placed-length, placed-take, placed-before, placed-part, placed-again, placed-put, placed-same}
 use Rattle.candidate_points.specs.RangeLaws.{put-length}
 use Rattle.candidate_points.specs.Blocked.{getsGrid, flagsBy, blockedOf, shutBy}
 use Rattle.candidate_points.specs.BlockedLaws.{flags-length, flags-at, flags-next, blocked-none, blocked-length}
@@ -33,7 +35,7 @@ pub record Silent (g : FrameGrid) (start end : ℕ) (flags : List ℕ) : Type 0 
   pub size : length flags ≡ suc (g .frames)
 
 -- the silences stand in front of the flags, in one list
-pub record Room (g : FrameGrid) (silences base : ℕ) (work : List ℕ) : Type 0 where
+pub record FlagRoom (g : FrameGrid) (silences base : ℕ) (work : List ℕ) : Type 0 where
   pub bounded : Bounded g
   pub apart : 2 * silences ≤ base
   pub fits : base + suc (g .frames) ≤ length work
@@ -74,14 +76,14 @@ module _ (gap : Gap) (g : FrameGrid) (s : Spacing) (start end : ℕ) (xs xs′ :
 
 -- what holds while a loop marks the silences; the flags end at `end`
 pub record Marking (gap : Gap) (g : FrameGrid) (s : Spacing) (silences base : ℕ) (work₀ : List ℕ) (end : ℕ) (work : List ℕ) (i : ℕ) : Type 0 where
-  pub room : Room g silences base work₀
+  pub room : FlagRoom g silences base work₀
   pub within : i ≤ silences
   pub stops : end ≡ base + suc (g .frames)
   pub same : length work ≡ length work₀
   pub flags : work ≡ placed base (flagsBy gap g s (take (2 * silences) work₀) i) work₀
 
 module _ (gap : Gap) (g : FrameGrid) (s : Spacing) (silences base : ℕ) (work₀ : List ℕ) where
-  pub marking-start : (end : ℕ) → end ≡ base + suc (g .frames) → Room g silences base work₀ → Cleared g base work₀ → Marking gap g s silences base work₀ end work₀ 0
+  pub marking-start : (end : ℕ) → end ≡ base + suc (g .frames) → FlagRoom g silences base work₀ → Cleared g base work₀ → Marking gap g s silences base work₀ end work₀ 0
   marking-start end e r c = record { room = r; within = omega arith; stops = e; same = refl; flags = sym start }
     where
       none : flagsBy gap g s (take (2 * silences) work₀) 0 ≡ replicate (suc (g .frames)) 0
@@ -182,7 +184,7 @@ module _ (gap : Gap) (g : FrameGrid) (s : Spacing) (silences base : ℕ) (work�
 
 -- ---- the flags are cleared first
 
-module _ (g : FrameGrid) (silences base : ℕ) (work work′ : List ℕ) (end : ℕ) (r : Room g silences base work) (z : end ≡ base + suc (g .frames)) (e : work′ ≡ putRun base end 0 work) where
+module _ (g : FrameGrid) (silences base : ℕ) (work work′ : List ℕ) (end : ℕ) (r : FlagRoom g silences base work) (z : end ≡ base + suc (g .frames)) (e : work′ ≡ putRun base end 0 work) where
   zeros : List ℕ
   zeros = replicate (suc (g .frames)) 0
 
@@ -200,7 +202,7 @@ module _ (g : FrameGrid) (silences base : ℕ) (work work′ : List ℕ) (end : 
   same-silences : take (2 * silences) work′ ≡ take (2 * silences) work
   same-silences = ap (take (2 * silences)) now ∙ placed-take base zeros work zeros-fit (2 * silences) (r .apart)
 
-  pub cleared-room : Room g silences base work′
+  pub cleared-room : FlagRoom g silences base work′
   cleared-room = record {
     bounded = r .bounded;
     apart = r .apart;

@@ -1,16 +1,18 @@
--- What holds while a block's end and its quietest boundary are sought, and one law for each end of a step.
+-- What holds while a block's end is sought, and one law for each end of a step.
 use mathlib.Core.Path.{_≡_, refl, sym, _∙_}
 use mathlib.Core.Bool.{Bool, true, false, cond}
 use mathlib.Core.List.{List}
 use Prim.Native.Nat.{ℕ, suc, _+_, _-_, _≤_, _<_, min}
 use native.Mathlib.Numerals.{add-one}
 use native.Mathlib.Omega.{arith}
-use lib.Ieee.{Float, nan, le}
+use lib.Ieee.{Float}
 use lib.ListN.{getD, set}
 use borrow.Author.Tests.{eq-eqb, ne-eqb}
-use Rattle.candidate_points.specs.Points.{openTo, blockEnd, quieter, quietestIn, quietestOf, isSet}
-use Rattle.candidate_points.specs.BlocksLaws.{open-shut, open-pass, end-within, end-after, quietest-within}
-use Rattle.candidate_points.specs.PointsWalk.{nextOf, stepped, Ready}
+use Rattle.candidate_costs.specs.Quietest.{quietestOf}
+use Rattle.candidate_costs.specs.QuietestLaws.{quietest-within}
+use Rattle.candidate_points.specs.Points.{openTo, blockEnd, isSet}
+use Rattle.candidate_points.specs.BlocksLaws.{open-shut, open-pass, end-within, end-after}
+use Rattle.candidate_points.specs.PointsWalk.{nextOf, stepped, SpanFlagged}
 
 -- ---- a flag
 
@@ -53,38 +55,6 @@ module _ (flags : List ℕ) (block last k most : ℕ) where
         whole : (left : ℕ) → left ≡ 0 → openTo (isSet flags) left end ≡ end
         whole left e = unfold openTo in rw e
 
--- ---- its quietest boundary
-
-pub record Seeking (levels : List Float) (from to best k : ℕ) : Type 0 where
-  pub within : k ≤ to
-  pub below : best < k
-  pub left : quietestIn levels (to - k) best k ≡ quietestOf levels from to
-
-module _ (levels : List Float) (from to : ℕ) where
-  pub seeking-start : from < to → Seeking levels from to from (from + 1)
-  seeking-start h = record { within = omega arith; below = omega arith; left = unfold quietestOf in rw add-one }
-
-  lesser : (t : Bool) (b k : ℕ) → b < k → cond t b k < k + 1
-  lesser true b k h = omega arith
-  lesser false b k h = omega arith
-
-  module _ (best k : ℕ) (w : Seeking levels from to best k) where
-    pub seeking-next : (r : ℕ) → k < to → r ≡ quieter levels best k → Seeking levels from to r (k + 1)
-    unfolding quieter
-    seeking-next r h e = record { within = omega arith; below = rw e (lesser (le (getD levels best nan) (getD levels k nan)) best k (w .below)); left = rw add-one (moved ∙ w .left) }
-      where
-        more : to - k ≡ suc (to - suc k)
-        more = omega arith
-
-        moved : quietestIn levels (to - suc k) r (suc k) ≡ quietestIn levels (to - k) best k
-        moved = rw more (unfold quietestIn in unfold quieter in rw e)
-
-    pub seeking-done : to ≤ k → best ≡ quietestOf levels from to
-    seeking-done h = sym (whole (to - k) (omega arith)) ∙ w .left
-      where
-        whole : (left : ℕ) → left ≡ 0 → quietestIn levels left best k ≡ best
-        whole left e = unfold quietestIn in rw e
-
 -- ---- a step
 
 module _ (block last k : ℕ) (levels : List Float) (marks : List ℕ) where
@@ -99,7 +69,7 @@ module _ (block last k : ℕ) (levels : List Float) (marks : List ℕ) where
   unfolding nextOf stepped
   step-open h end at e f = (rw (set-no marks k h) e, rw (set-no marks k h, f, e))
 
-  module _ (r : Ready block k last levels marks) (h : getD marks k 0 ≡ 0) (end : ℕ) (e : end ≡ blockEnd (isSet marks) block last k) where
+  module _ (r : SpanFlagged block k last levels marks) (h : getD marks k 0 ≡ 0) (end : ℕ) (e : end ≡ blockEnd (isSet marks) block last k) where
     -- it has a boundary at least, and ends inside the list
     pub step-some : (k < end) × (end ≤ last)
     step-some = (omega (arith, e, end-after (isSet marks) block last k (r .some) (r .order) (set-no marks k h)), omega (arith, e, end-within (isSet marks) block last k (r .order)))
@@ -108,7 +78,7 @@ module _ (block last k : ℕ) (levels : List Float) (marks : List ℕ) where
     step-inside at f = omega (arith, f, quietest-within levels k end (step-some .0), step-some)
 
 -- it goes on
-pub step-after : (block last k : ℕ) (levels : List Float) (marks : List ℕ) → Ready block k last levels marks → k < nextOf (isSet marks) block last k
+pub step-after : (block last k : ℕ) (levels : List Float) (marks : List ℕ) → SpanFlagged block k last levels marks → k < nextOf (isSet marks) block last k
 unfolding nextOf
 step-after block last k levels marks r = go (isSet marks k) refl
   where

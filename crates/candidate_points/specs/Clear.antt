@@ -14,7 +14,8 @@ use Rattle.base_code.specs.FrontLaws.{tabulate-at}
 use Rattle.grid.specs.declared.boundary.FrameGrid.{FrameGrid}
 use Rattle.candidate_settings.specs.declared.config.Gap.{Gap}
 use Rattle.candidate_settings.specs.declared.config.Gap.the-variants.{Keep, Drop}
-use Rattle.candidate_span.specs.Listed.{startAt, endAt, Listed}
+use Rattle.candidate_span.specs.Listed.{startAt, endAt}
+use Rattle.candidate_span.specs.ListedLaws.{Listed}
 use Rattle.candidate_span.specs.ListedLaws.{listed-own, listed-within}
 use Rattle.candidate_span.specs.Bounds.{lowOf, highOf}
 use Rattle.candidate_span.specs.BoundsLaws.{low-within, high-within}
@@ -23,10 +24,12 @@ use Rattle.candidate_span.specs.GapsFrom.{GapAt, gap-from}
 use Rattle.candidate_span.specs.Kept.{keptBoundaries}
 use Rattle.candidate_span.specs.KeptIn.{Outside, kept-in}
 use Rattle.candidate_span.specs.declared.spacing.Spacing.{Spacing}
-use Rattle.candidate_points.specs.Flags.{flagOf, not-both}
+use Rattle.candidate_costs.specs.Quietest.{quietestOf}
+use Rattle.candidate_points.specs.Flags.{flagOf}
+use Rattle.candidate_points.specs.FlagsLaws.{not-both}
 use Rattle.candidate_points.specs.Blocked.{getsGrid, opens, isBlocked, blockedOf}
 use Rattle.candidate_points.specs.BlockedLaws.{touches-in, blocked-at, blocked-in, blocked-length}
-use Rattle.candidate_points.specs.Points.{blockEnd, quietestOf, pointsFrom, gridPoints, isIn, isPoint, isSet, markAt, marksOf}
+use Rattle.candidate_points.specs.Points.{blockEnd, pointsFrom, gridPoints, isIn, isPoint, isSet, markAt, marksOf}
 use Rattle.candidate_points.specs.BlocksLaws.{end-same, end-from}
 use Rattle.candidate_points.specs.Theorems.{point-inside, point-open}
 

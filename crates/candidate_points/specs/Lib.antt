@@ -1,24 +1,28 @@
--- Flags: 1 where a test passes, and else 0 (`flagOf`); `&&` and `||` beside a known test
+-- Flags: 1 where a test passes, and else 0 (`flagOf`)
 pub mod Flags
+-- FlagsLaws: a test read from its flag (`flag-set`); `&&` and `||` beside a known test
+pub mod FlagsLaws
 -- Placed: a list with another written over its middle (`placed`)
 pub mod Placed
+-- PlacedLaws: what stands where then (`placed-before`, `placed-part`), and a part that was lent and is back (`placed-put`)
+pub mod PlacedLaws
 -- RangeLaws: what stands where after a range of a list was filled
 pub mod RangeLaws
 -- Blocked: which boundaries silences block (`getsGrid`, `isBlocked`), as flags (`blockedOf`)
 pub mod Blocked
 -- BlockedLaws: filling the flags of one silence after another gives those by all (`flags-next`); what the flags say (`blocked-at`)
 pub mod BlockedLaws
--- BlockedWalk: what the functions that write these flags need (`Room`), and what holds while they do
+-- BlockedWalk: what the functions that write these flags need (`FlagRoom`), and what holds while they do
 pub mod BlockedWalk
--- Points: blocks (`blockEnd`), their quietest boundaries (`quietestOf`), the grid points (`gridPoints`, `isPoint`) and their marks (`marksOf`)
+-- Points: blocks (`blockEnd`), the grid points (`gridPoints`, `isPoint`) and their marks (`marksOf`)
 pub mod Points
--- BlocksLaws: where a block ends; its quietest boundary is the first of the least (`Quietest`, `quietest-is`)
+-- BlocksLaws: where a block ends (`end-within`, `end-after`, `end-open`)
 pub mod BlocksLaws
--- PointsLaws: the grid points by the steps of a walk (`Walk`, `points-walk`)
+-- PointsLaws: the grid points by the steps of a walk (`PointWalk`, `points-walk`)
 pub mod PointsLaws
--- PointsWalk: what the functions that mark the points need (`Ready`), and what holds while flags become marks in place
+-- PointsWalk: what the functions that mark the points need (`SpanFlagged`), and what holds while flags become marks in place
 pub mod PointsWalk
--- BlocksWalk: what holds while a block's end and its quietest boundary are sought; one law for each end of a step
+-- BlocksWalk: what holds while a block's end is sought; one law for each end of a step
 pub mod BlocksWalk
 -- Starts: where blocks start (`StartsAt`); a block ends before a later one starts
 pub mod Starts

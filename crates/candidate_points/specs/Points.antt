@@ -4,9 +4,10 @@ use Prim.Native.Nat.{ℕ, zero, suc, _+_, _-_, min}
 use mathlib.Core.Bool.{Bool, false, not, _||_, cond}
 use mathlib.Core.List.{List, [], _∷_}
 use lib.Dec.{ltb, eqb}
-use lib.Ieee.{Float, nan, le}
+use lib.Ieee.{Float}
 use lib.ListN.{length, getD}
 use Rattle.base_terms.specs.Lists.{tabulate}
+use Rattle.candidate_costs.specs.Quietest.{quietestOf}
 use Rattle.candidate_points.specs.Flags.{flagOf}
 
 -- ---- a block
@@ -19,19 +20,6 @@ openTo blocked (suc left) k = cond (blocked k) k (openTo blocked left (suc k))
 -- document 01's "block": it starts at an open boundary k, and ends `block` boundaries later, at the first blocked one or at the span's last, whichever is first
 unfoldable pub blockEnd : (ℕ → Bool) → ℕ → ℕ → ℕ → ℕ
 blockEnd blocked block last k = openTo blocked (min (k + block) last - k) k
-
--- the quieter of two boundaries, the first where they are equally quiet
-unfoldable pub quieter : List Float → ℕ → ℕ → ℕ
-quieter levels b k = cond (le (getD levels b nan) (getD levels k nan)) b k
-
--- the quietest of b and `left` boundaries from k on
-unfoldable pub quietestIn : List Float → ℕ → ℕ → ℕ → ℕ
-quietestIn levels zero b k = b
-quietestIn levels (suc left) b k = quietestIn levels left (quieter levels b k) (suc k)
-
--- the quietest boundary of from..to, the first of equals
-unfoldable pub quietestOf : List Float → ℕ → ℕ → ℕ
-quietestOf levels from to = quietestIn levels (to - suc from) from (suc from)
 
 -- ---- the points
 

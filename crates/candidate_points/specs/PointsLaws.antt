@@ -7,44 +7,46 @@ use native.Mathlib.Omega.{arith}
 use lib.Dec.{ltb, eqb}
 use lib.Ieee.{Float}
 use borrow.Author.Tests.{ltb-true, ltb-false, ne-eqb}
-use Rattle.candidate_points.specs.Flags.{not-both}
-use Rattle.candidate_points.specs.Points.{blockEnd, quietestOf, pointsFrom, gridPoints, isIn}
-use Rattle.candidate_points.specs.BlocksLaws.{end-within, end-after, quietest-within}
+use Rattle.candidate_costs.specs.Quietest.{quietestOf}
+use Rattle.candidate_costs.specs.QuietestLaws.{quietest-within}
+use Rattle.candidate_points.specs.FlagsLaws.{not-both}
+use Rattle.candidate_points.specs.Points.{blockEnd, pointsFrom, gridPoints, isIn}
+use Rattle.candidate_points.specs.BlocksLaws.{end-within, end-after}
 
 -- the points from boundary k on
-pub data Walk (blocked : ℕ → Bool) (levels : List Float) (block last : ℕ) : ℕ → List ℕ → Type 0 where
-  ended : {k : ℕ} → last ≤ k → Walk blocked levels block last k []
-  passed : {k : ℕ} {ps : List ℕ} → k < last → blocked k ≡ true → Walk blocked levels block last (suc k) ps → Walk blocked levels block last k ps
+pub data PointWalk (blocked : ℕ → Bool) (levels : List Float) (block last : ℕ) : ℕ → List ℕ → Type 0 where
+  ended : {k : ℕ} → last ≤ k → PointWalk blocked levels block last k []
+  passed : {k : ℕ} {ps : List ℕ} → k < last → blocked k ≡ true → PointWalk blocked levels block last (suc k) ps → PointWalk blocked levels block last k ps
   opened : {k p : ℕ} {ps : List ℕ} → k < last → blocked k ≡ false → p ≡ quietestOf levels k (blockEnd blocked block last k)
-      → Walk blocked levels block last (blockEnd blocked block last k) ps → Walk blocked levels block last k (p ∷ ps)
+      → PointWalk blocked levels block last (blockEnd blocked block last k) ps → PointWalk blocked levels block last k (p ∷ ps)
 
 module _ (blocked : ℕ → Bool) (levels : List Float) (block last : ℕ) (some : 1 ≤ block) where
   -- the next points, as the definition has them
-  walk-inner : (fuel k : ℕ) → ((j : ℕ) → last ≤ j + fuel → Walk blocked levels block last j (pointsFrom blocked levels block last fuel j)) → last ≤ k + suc fuel → k < last
-      → (b : Bool) → blocked k ≡ b → Walk blocked levels block last k
+  walk-inner : (fuel k : ℕ) → ((j : ℕ) → last ≤ j + fuel → PointWalk blocked levels block last j (pointsFrom blocked levels block last fuel j)) → last ≤ k + suc fuel → k < last
+      → (b : Bool) → blocked k ≡ b → PointWalk blocked levels block last k
       (cond b (pointsFrom blocked levels block last fuel (suc k)) (quietestOf levels k (blockEnd blocked block last k) ∷ pointsFrom blocked levels block last fuel (blockEnd blocked block last k)))
   walk-inner fuel k f h l true e = passed l e (f (suc k) (omega arith))
   walk-inner fuel k f h l false e = opened l e refl (f (blockEnd blocked block last k) (omega (arith, end-after blocked block last k some l e)))
 
-  walk-step : (fuel k : ℕ) → ((j : ℕ) → last ≤ j + fuel → Walk blocked levels block last j (pointsFrom blocked levels block last fuel j)) → last ≤ k + suc fuel
-      → (b : Bool) → (b ≡ true → k < last) → (b ≡ false → last ≤ k) → Walk blocked levels block last k
+  walk-step : (fuel k : ℕ) → ((j : ℕ) → last ≤ j + fuel → PointWalk blocked levels block last j (pointsFrom blocked levels block last fuel j)) → last ≤ k + suc fuel
+      → (b : Bool) → (b ≡ true → k < last) → (b ≡ false → last ≤ k) → PointWalk blocked levels block last k
       (cond b (cond (blocked k) (pointsFrom blocked levels block last fuel (suc k)) (quietestOf levels k (blockEnd blocked block last k) ∷ pointsFrom blocked levels block last fuel (blockEnd blocked block last k))) [])
   walk-step fuel k f h true p q = walk-inner fuel k f h (p refl) (blocked k) refl
   walk-step fuel k f h false p q = ended (q refl)
 
-  walk-from : (fuel k : ℕ) → last ≤ k + fuel → Walk blocked levels block last k (pointsFrom blocked levels block last fuel k)
+  walk-from : (fuel k : ℕ) → last ≤ k + fuel → PointWalk blocked levels block last k (pointsFrom blocked levels block last fuel k)
   unfolding pointsFrom
   walk-from zero k h = ended {k = k} (omega arith)
   walk-from (suc fuel) k h =
       walk-step fuel k (λ (j : ℕ) (l : last ≤ j + fuel). walk-from fuel j l) h (ltb k last) (ltb-true k last) (ltb-false k last)
 
   -- the grid points are those of the walk from the span's first boundary on
-  pub points-walk : (first : ℕ) → Walk blocked levels block last (suc first) (gridPoints blocked levels block first last)
+  pub points-walk : (first : ℕ) → PointWalk blocked levels block last (suc first) (gridPoints blocked levels block first last)
   unfolding gridPoints
   points-walk first = walk-from (last - suc first) (suc first) (omega arith)
 
   -- no point is before the walk
-  pub walk-before : {k : ℕ} {ps : List ℕ} → Walk blocked levels block last k ps → (j : ℕ) → j < k → isIn ps j ≡ false
+  pub walk-before : {k : ℕ} {ps : List ℕ} → PointWalk blocked levels block last k ps → (j : ℕ) → j < k → isIn ps j ≡ false
   unfolding isIn
   walk-before (ended h) j l = refl
   walk-before (passed h e w) j l = walk-before w j (omega arith)
@@ -54,7 +56,7 @@ module _ (blocked : ℕ → Bool) (levels : List Float) (block last : ℕ) (some
       rw (ne-eqb p j d) (walk-before w j (omega arith))
 
   -- nor at the span's last boundary or after it
-  pub walk-beyond : {k : ℕ} {ps : List ℕ} → Walk blocked levels block last k ps → (j : ℕ) → last ≤ j → isIn ps j ≡ false
+  pub walk-beyond : {k : ℕ} {ps : List ℕ} → PointWalk blocked levels block last k ps → (j : ℕ) → last ≤ j → isIn ps j ≡ false
   unfolding isIn
   walk-beyond (ended h) j l = refl
   walk-beyond (passed h e w) j l = walk-beyond w j l
@@ -69,15 +71,15 @@ module _ (blocked : ℕ → Bool) (levels : List Float) (block last : ℕ) (some
 pub record Opened (blocked : ℕ → Bool) (levels : List Float) (block last k : ℕ) (ps : List ℕ) : Type 0 where
   pub others : List ℕ
   pub are : ps ≡ quietestOf levels k (blockEnd blocked block last k) ∷ others
-  pub walk : Walk blocked levels block last (blockEnd blocked block last k) others
+  pub walk : PointWalk blocked levels block last (blockEnd blocked block last k) others
 
 module _ {blocked : ℕ → Bool} {levels : List Float} {block last : ℕ} where
-  pub walk-pass : {k : ℕ} {ps : List ℕ} → Walk blocked levels block last k ps → k < last → blocked k ≡ true → Walk blocked levels block last (suc k) ps
+  pub walk-pass : {k : ℕ} {ps : List ℕ} → PointWalk blocked levels block last k ps → k < last → blocked k ≡ true → PointWalk blocked levels block last (suc k) ps
   walk-pass (ended h) l e = absurd (omega arith)
   walk-pass (passed h f w) l e = w
   walk-pass (opened h f q w) l e = absurd (not-both e f)
 
-  pub walk-open : {k : ℕ} {ps : List ℕ} → Walk blocked levels block last k ps → k < last → blocked k ≡ false → Opened blocked levels block last k ps
+  pub walk-open : {k : ℕ} {ps : List ℕ} → PointWalk blocked levels block last k ps → k < last → blocked k ≡ false → Opened blocked levels block last k ps
   walk-open (ended h) l e = absurd (omega arith)
   walk-open (passed h f w) l e = absurd (not-both f e)
   walk-open (opened {ps = qs} h f q w) l e = record { others = qs; are = rw q; walk = w }

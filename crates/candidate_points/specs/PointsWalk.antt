@@ -14,11 +14,14 @@ use Rattle.base_laws.specs.Tests.{lt-or-le}
 use Rattle.base_terms.specs.Lists.{tabulate}
 use Rattle.base_code.specs.FrontLaws.{tabulate-at, tabulate-length}
 use Rattle.silence_runs.specs.Runs.{putRun}
-use Rattle.candidate_points.specs.Flags.{flagOf, flag-yes, flag-no, or-no}
+use Rattle.candidate_costs.specs.Quietest.{quietestOf}
+use Rattle.candidate_costs.specs.QuietestLaws.{quietest-within}
+use Rattle.candidate_points.specs.Flags.{flagOf}
+use Rattle.candidate_points.specs.FlagsLaws.{flag-yes, flag-no, or-no}
 use Rattle.candidate_points.specs.RangeLaws.{put-length, put-before, put-in, put-after}
-use Rattle.candidate_points.specs.Points.{blockEnd, quietestOf, gridPoints, isIn, isPoint, isSet, markAt, marksOf}
-use Rattle.candidate_points.specs.BlocksLaws.{end-within, end-after, end-open, end-same, quietest-within}
-use Rattle.candidate_points.specs.PointsLaws.{Walk, Opened, points-walk, walk-pass, walk-open, opened-in, walk-before, walk-beyond}
+use Rattle.candidate_points.specs.Points.{blockEnd, gridPoints, isIn, isPoint, isSet, markAt, marksOf}
+use Rattle.candidate_points.specs.BlocksLaws.{end-within, end-after, end-open, end-same}
+use Rattle.candidate_points.specs.PointsLaws.{PointWalk, Opened, points-walk, walk-pass, walk-open, opened-in, walk-before, walk-beyond}
 
 -- ---- one step
 
@@ -31,7 +34,7 @@ unfoldable pub stepped : List Float → ℕ → ℕ → ℕ → List ℕ → Lis
 stepped levels block last k xs = cond (isSet xs k) (set xs k 0) (set xs (quietestOf levels k (blockEnd (isSet xs) block last k)) 1)
 
 -- what the functions need: a block of a boundary at least, boundaries in order, a level and a flag for each
-pub record Ready (block k last : ℕ) (levels : List Float) (marks : List ℕ) : Type 0 where
+pub record SpanFlagged (block k last : ℕ) (levels : List Float) (marks : List ℕ) : Type 0 where
   pub some : 1 ≤ block
   pub order : k < last
   pub heard : last ≤ length levels
@@ -45,7 +48,7 @@ pub record Marked (levels : List Float) (block first last : ℕ) (flags marks : 
 -- ---- the walk
 
 -- `points` are the points that are still to be marked
-pub record Walking (levels : List Float) (block first last : ℕ) (flags marks : List ℕ) (k : ℕ) : Type 0 where
+pub record HalfMarked (levels : List Float) (block first last : ℕ) (flags marks : List ℕ) (k : ℕ) : Type 0 where
   pub some : 1 ≤ block
   pub heard : last ≤ length levels
   pub flagged : last ≤ length flags
@@ -54,13 +57,13 @@ pub record Walking (levels : List Float) (block first last : ℕ) (flags marks :
   pub same : length marks ≡ length flags
   pub rest : (j : ℕ) → k ≤ j → getD marks j 0 ≡ getD flags j 0
   pub points : List ℕ
-  pub walk : Walk (isSet flags) levels block last k points
+  pub walk : PointWalk (isSet flags) levels block last k points
   pub ahead : (j : ℕ) → k ≤ j → isIn points j ≡ isPoint (isSet flags) levels block first last j
   pub behind : (j : ℕ) → first < j → j < k → getD marks j 0 ≡ markAt levels block first last flags j
 
 module _ (levels : List Float) (block first last : ℕ) (flags : List ℕ) where
-  pub walking-start : Ready block first last levels flags → Walking levels block first last flags flags (first + 1)
-  walking-start r = record {
+  pub half-start : SpanFlagged block first last levels flags → HalfMarked levels block first last flags flags (first + 1)
+  half-start r = record {
     some = r .some;
     heard = r .heard;
     flagged = r .flagged;
@@ -86,8 +89,8 @@ module _ (levels : List Float) (block first last : ℕ) (flags : List ℕ) where
     mark j b e = rw e
 
     -- k is blocked
-    pub walking-pass : Walking levels block first last flags marks k → isSet flags k ≡ true → Walking levels block first last flags (set marks k 0) (suc k)
-    walking-pass w e = record {
+    pub half-pass : HalfMarked levels block first last flags marks k → isSet flags k ≡ true → HalfMarked levels block first last flags (set marks k 0) (suc k)
+    half-pass w e = record {
       some = w .some;
       heard = w .heard;
       flagged = w .flagged;
@@ -104,7 +107,7 @@ module _ (levels : List Float) (block first last : ℕ) (flags : List ℕ) where
       ];
     }
       where
-        on : Walk (isSet flags) levels block last (suc k) (w .points)
+        on : PointWalk (isSet flags) levels block last (suc k) (w .points)
         on = walk-pass (w .walk) l e
 
         here : (j : ℕ) → j ≡ k → getD (set marks k 0) j 0 ≡ markAt levels block first last flags j
@@ -114,7 +117,7 @@ module _ (levels : List Float) (block first last : ℕ) (flags : List ℕ) where
             ∙ mark k false (sym (w .ahead k (omega arith)) ∙ walk-before (isSet flags) levels block last (w .some) on k (omega arith)))
 
     -- a block starts at k and ends at `end`, and `point` is its quietest boundary
-    module _ (w : Walking levels block first last flags marks k) (e : isSet flags k ≡ false) (end point : ℕ) (f : end ≡ blockEnd (isSet flags) block last k) (q : point ≡ quietestOf levels k end) where
+    module _ (w : HalfMarked levels block first last flags marks k) (e : isSet flags k ≡ false) (end point : ℕ) (f : end ≡ blockEnd (isSet flags) block last k) (q : point ≡ quietestOf levels k end) where
       over : k < end
       over = omega (arith, f, end-after (isSet flags) block last k (w .some) l e)
 
@@ -128,8 +131,8 @@ module _ (levels : List Float) (block first last : ℕ) (flags : List ℕ) where
       now : (j : ℕ) → k ≤ j → (eqb point j || isIn (starts .others) j) ≡ isPoint (isSet flags) levels block first last j
       now j h = ap (λ (p : ℕ). eqb p j || isIn (starts .others) j) (q ∙ ap (quietestOf levels k) f) ∙ sym (opened-in starts j) ∙ w .ahead j h
 
-      pub walking-open : Walking levels block first last flags (set marks point 1) end
-      walking-open = record {
+      pub half-open : HalfMarked levels block first last flags (set marks point 1) end
+      half-open = record {
         some = w .some;
         heard = w .heard;
         flagged = w .flagged;
@@ -138,7 +141,7 @@ module _ (levels : List Float) (block first last : ℕ) (flags : List ℕ) where
         same = length-set marks point 1 ∙ w .same;
         rest = λ (j : ℕ) (h : end ≤ j). getD-set-other marks point j 1 0 (λ (s : j ≡ point). omega (arith, inside)) ∙ w .rest j (omega (arith, over));
         points = starts .others;
-        walk = subst (λ (m : ℕ). Walk (isSet flags) levels block last m (starts .others)) (sym f) (starts .walk);
+        walk = subst (λ (m : ℕ). PointWalk (isSet flags) levels block last m (starts .others)) (sym f) (starts .walk);
         ahead = ahead;
         behind = λ (j : ℕ) (h : first < j) (m : j < end). elim (lt-or-le j k) [
           | inl a ↦ getD-set-other marks point j 1 0 (λ (s : j ≡ point). omega (arith, inside)) ∙ w .behind j h a
@@ -165,33 +168,33 @@ module _ (levels : List Float) (block first last : ℕ) (flags : List ℕ) where
   -- ---- a step, whichever it is
 
   -- the flags from k on are as they were
-  still : (marks : List ℕ) (k : ℕ) → Walking levels block first last flags marks k → (j : ℕ) → k ≤ j → isSet marks j ≡ isSet flags j
+  still : (marks : List ℕ) (k : ℕ) → HalfMarked levels block first last flags marks k → (j : ℕ) → k ≤ j → isSet marks j ≡ isSet flags j
   still marks k w j h = rw (w .rest j h)
 
-  pub walking-next : (marks marks′ : List ℕ) (k k′ : ℕ) → k < last → k′ ≡ nextOf (isSet marks) block last k → marks′ ≡ stepped levels block last k marks
-      → Walking levels block first last flags marks k → Walking levels block first last flags marks′ k′
+  pub half-next : (marks marks′ : List ℕ) (k k′ : ℕ) → k < last → k′ ≡ nextOf (isSet marks) block last k → marks′ ≡ stepped levels block last k marks
+      → HalfMarked levels block first last flags marks k → HalfMarked levels block first last flags marks′ k′
   unfolding nextOf stepped
-  walking-next marks marks′ k k′ l a b w = go (isSet flags k) refl (still marks k w k (omega arith)) a b
+  half-next marks marks′ k k′ l a b w = go (isSet flags k) refl (still marks k w k (omega arith)) a b
     where
       same-end : blockEnd (isSet marks) block last k ≡ blockEnd (isSet flags) block last k
       same-end = end-same (isSet flags) block last k (isSet marks) (λ (j : ℕ) (h : k ≤ j) (m : j < last). still marks k w j h)
 
       go : (t : Bool) → isSet flags k ≡ t → isSet marks k ≡ isSet flags k → k′ ≡ cond (isSet marks k) (suc k) (blockEnd (isSet marks) block last k)
-          → marks′ ≡ cond (isSet marks k) (set marks k 0) (set marks (quietestOf levels k (blockEnd (isSet marks) block last k)) 1) → Walking levels block first last flags marks′ k′
-      go true t s c d = rw (rw (s, t) at c, rw (s, t) at d) (walking-pass marks k l w t)
+          → marks′ ≡ cond (isSet marks k) (set marks k 0) (set marks (quietestOf levels k (blockEnd (isSet marks) block last k)) 1) → HalfMarked levels block first last flags marks′ k′
+      go true t s c d = rw (rw (s, t) at c, rw (s, t) at d) (half-pass marks k l w t)
       go false t s c d = rw (rw (s, t) at c, rw (s, t) at d, same-end)
-          (walking-open marks k l w t (blockEnd (isSet flags) block last k) (quietestOf levels k (blockEnd (isSet flags) block last k)) refl refl)
+          (half-open marks k l w t (blockEnd (isSet flags) block last k) (quietestOf levels k (blockEnd (isSet flags) block last k)) refl refl)
 
-  pub walking-ready : (marks : List ℕ) (k : ℕ) → k < last → Walking levels block first last flags marks k → Ready block k last levels marks
-  walking-ready marks k l w = record { some = w .some; order = l; heard = w .heard; flagged = omega (arith, w .same, w .flagged) }
+  pub half-ready : (marks : List ℕ) (k : ℕ) → k < last → HalfMarked levels block first last flags marks k → SpanFlagged block k last levels marks
+  half-ready marks k l w = record { some = w .some; order = l; heard = w .heard; flagged = omega (arith, w .same, w .flagged) }
 
   -- all boundaries strictly inside the span are marked
-  pub walking-done : (marks : List ℕ) (k : ℕ) → last ≤ k → Walking levels block first last flags marks k → Marked levels block first last flags marks
-  walking-done marks k h w = record { same = w .same; inside = λ (j : ℕ) (a : first < j) (b : j < last). w .behind j a (omega arith) }
+  pub half-done : (marks : List ℕ) (k : ℕ) → last ≤ k → HalfMarked levels block first last flags marks k → Marked levels block first last flags marks
+  half-done marks k h w = record { same = w .same; inside = λ (j : ℕ) (a : first < j) (b : j < last). w .behind j a (omega arith) }
 
   -- ---- the others are cleared
 
-  pub marked-all : (marks marks′ marks″ : List ℕ) (start end : ℕ) → Ready block first last levels flags → Marked levels block first last flags marks → start ≡ first + 1 → end ≡ length marks′
+  pub marked-all : (marks marks′ marks″ : List ℕ) (start end : ℕ) → SpanFlagged block first last levels flags → Marked levels block first last flags marks → start ≡ first + 1 → end ≡ length marks′
       → marks′ ≡ putRun 0 start 0 marks → marks″ ≡ putRun last end 0 marks′ → marks″ ≡ marksOf levels block first last flags
   unfolding marksOf
   marked-all marks marks′ marks″ start end r m s z a b =
@@ -213,7 +216,7 @@ module _ (levels : List Float) (block first last : ℕ) (flags : List ℕ) where
       none : (j : ℕ) → isIn (gridPoints (isSet flags) levels block first last) j ≡ false → 0 ≡ markAt levels block first last flags j
       none j e = unfold markAt in unfold isPoint in rw (e, flag-no)
 
-      points : Walk (isSet flags) levels block last (suc first) (gridPoints (isSet flags) levels block first last)
+      points : PointWalk (isSet flags) levels block last (suc first) (gridPoints (isSet flags) levels block first last)
       points = points-walk (isSet flags) levels block last (r .some) first
 
       before : (j : ℕ) → j < last → getD marks″ j 0 ≡ getD marks′ j 0

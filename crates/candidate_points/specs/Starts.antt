@@ -3,7 +3,7 @@ use mathlib.Core.Path.{_≡_}
 use mathlib.Core.Bool.{Bool, true, false}
 use Prim.Native.Nat.{ℕ, suc, _≤_, _<_}
 use native.Mathlib.Omega.{arith}
-use Rattle.candidate_points.specs.Flags.{not-both}
+use Rattle.candidate_points.specs.FlagsLaws.{not-both}
 use Rattle.candidate_points.specs.Points.{blockEnd}
 use Rattle.candidate_points.specs.BlocksLaws.{end-after}
 

@@ -10,11 +10,13 @@ use lib.Ieee.{Float, nan, isNan}
 use lib.ListN.{length, getD}
 use borrow.Author.Tests.{eqb-true, eq-eqb}
 use Rattle.base_laws.specs.Tests.{lt-or-le, holds}
-use Rattle.candidate_points.specs.Flags.{or-yes, not-both}
-use Rattle.candidate_points.specs.Points.{blockEnd, quietestOf, gridPoints, isIn, isPoint}
-use Rattle.candidate_points.specs.BlocksLaws.{Quietest, end-within, end-after, end-open, quietest-within, quietest-is}
+use Rattle.candidate_costs.specs.Quietest.{quietestOf}
+use Rattle.candidate_costs.specs.QuietestLaws.{Quietest, quietest-within, quietest-is}
+use Rattle.candidate_points.specs.FlagsLaws.{or-yes, not-both}
+use Rattle.candidate_points.specs.Points.{blockEnd, gridPoints, isIn, isPoint}
+use Rattle.candidate_points.specs.BlocksLaws.{end-within, end-after, end-open}
 use Rattle.candidate_points.specs.Starts.{StartsAt, here, past, next, starts-inside, starts-open, starts-from, starts-apart}
-use Rattle.candidate_points.specs.PointsLaws.{Walk, ended, passed, opened, points-walk}
+use Rattle.candidate_points.specs.PointsLaws.{PointWalk, ended, passed, opened, points-walk}
 
 -- the level at each boundary up to n is a number
 pub record Levels (n : ℕ) (levels : List Float) : Type 0 where
@@ -53,7 +55,7 @@ module _ (blocked : ℕ → Bool) (levels : List Float) (block last : ℕ) (some
   opened-of k q h f s p true b y e g = record { start = k; own = record { starts = here h f refl; point = sym (y refl) ∙ s } }
   opened-of k q h f s p false b y e g = next-of h f (g e)
 
-  walk-of : {k : ℕ} {ps : List ℕ} → Walk blocked levels block last k ps → (p : ℕ) → isIn ps p ≡ true → PointOf blocked levels block last k p
+  walk-of : {k : ℕ} {ps : List ℕ} → PointWalk blocked levels block last k ps → (p : ℕ) → isIn ps p ≡ true → PointOf blocked levels block last k p
   unfolding isIn
   walk-of (ended h) p e = absurd (holds e)
   walk-of (passed h f w) p e = past-of h f (walk-of w p e)
@@ -121,7 +123,7 @@ module _ (blocked : ℕ → Bool) (levels : List Float) (block last : ℕ) (some
   same : (i m : ℕ) → i ≤ m → m ≤ i → m ≡ i
   same i m u v = omega arith
 
-  walk-in : {k : ℕ} {ps : List ℕ} → Walk blocked levels block last k ps → (j : ℕ) → k ≤ j → j < last → blocked j ≡ false → InBlock blocked levels block last k ps j
+  walk-in : {k : ℕ} {ps : List ℕ} → PointWalk blocked levels block last k ps → (j : ℕ) → k ≤ j → j < last → blocked j ≡ false → InBlock blocked levels block last k ps j
   walk-in (ended h) j g l e = absurd (omega arith)
   walk-in {k = k} (passed h f w) j g l e = elim (lt-or-le k j) [
     | inl d ↦ past-in h f (walk-in w j d l e)

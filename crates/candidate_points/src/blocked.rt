@@ -12,7 +12,7 @@ ghost use lib.ListN.{take};
 ghost use Rattle.grid.specs.Boundary.{Bounded};
 ghost use Rattle.candidate_points.specs.Blocked.{getsGrid, shutBy, blockedOf};
 ghost use Rattle.candidate_points.specs.Placed.{placed};
-ghost use Rattle.candidate_points.specs.BlockedWalk.{Silent, Room, Cleared};
+ghost use Rattle.candidate_points.specs.BlockedWalk.{Silent, FlagRoom, Cleared};
 
 // A long silence gets grid candidates when silence is kept and no plan within the maximum could step over it; otherwise its only candidate is its own.
 fn gets_grid(gap: Gap, g: FrameGrid, limit: u64, start: usize, end: usize) -> bool
@@ -42,7 +42,7 @@ fn mark_silence(gap: Gap, g: FrameGrid, s: Spacing, start: usize, end: usize, fl
 
 // The flags of every silence, over flags that are all 0.
 fn mark_silences(gap: Gap, g: FrameGrid, s: Spacing, count: usize, base: usize, work: &mut [u32])
-    requires { ⌜ Room g count base (now work) ⌝ }
+    requires { ⌜ FlagRoom g count base (now work) ⌝ }
     requires { ⌜ Cleared g base (now work) ⌝ }
     ensures { λ _. ⌜ now (work .exit) ≡ placed base (blockedOf gap g s (take (2 * count) (now (work .entry)))) (now (work .entry)) ⌝ }
 {
@@ -56,7 +56,7 @@ fn mark_silences(gap: Gap, g: FrameGrid, s: Spacing, count: usize, base: usize, 
 
 // Writes for each boundary whether it is blocked: 1, or else 0. The silences are the first 2 × count entries of the list, the flags stand at `base`.
 pub fn mark_blocked(gap: Gap, g: FrameGrid, s: Spacing, count: usize, base: usize, work: &mut [u32])
-    requires { ⌜ Room g count base (now work) ⌝ }
+    requires { ⌜ FlagRoom g count base (now work) ⌝ }
     ensures { λ _. ⌜ now (work .exit) ≡ placed base (blockedOf gap g s (take (2 * count) (now (work .entry)))) (now (work .entry)) ⌝ }
 {
     fill::fill_range(&mut *work, base, base + g.frames + 1, 0);

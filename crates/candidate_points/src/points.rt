@@ -1,11 +1,12 @@
 // One grid point for each block: the quietest boundary of it, the first of equals.
 use crate::fill;
+use candidate_costs::quietest;
 use candidate_span::bounds;
 ghost use mathlib.Core.Path.{_≡_};
 ghost use Prim.Native.Nat.{_≤_, _<_};
 ghost use lib.ListN.{length};
-ghost use Rattle.candidate_points.specs.Points.{isSet, blockEnd, quieter, quietestOf, marksOf};
-ghost use Rattle.candidate_points.specs.PointsWalk.{nextOf, stepped, Ready, Marked};
+ghost use Rattle.candidate_points.specs.Points.{isSet, blockEnd, marksOf};
+ghost use Rattle.candidate_points.specs.PointsWalk.{nextOf, stepped, SpanFlagged, Marked};
 
 // Where the block that starts at boundary k ends.
 fn block_end(block: usize, last: usize, k: usize, flags: &[u32]) -> usize
@@ -23,29 +24,9 @@ fn block_end(block: usize, last: usize, k: usize, flags: &[u32]) -> usize
     end
 }
 
-// The quieter of two boundaries, the first where they are equally quiet.
-fn quieter_of(levels: &[f64], b: usize, k: usize) -> usize
-    requires { ⌜ (b < length (now levels)) × (k < length (now levels)) ⌝ }
-    ensures { λ r. ⌜ r ≡ quieter (now (levels .entry)) b k ⌝ }
-{
-    if levels[b] <= levels[k] { b } else { k }
-}
-
-// The quietest boundary of from..to, the first of equals.
-fn quietest(levels: &[f64], from: usize, to: usize) -> usize
-    requires { ⌜ (from < to) × (to ≤ length (now levels)) ⌝ }
-    ensures { λ r. ⌜ r ≡ quietestOf (now (levels .entry)) from to ⌝ }
-{
-    let mut best = from;
-    for k in from + 1..to {
-        best = quieter_of(levels, best, k);
-    }
-    best
-}
-
 // At a blocked boundary: its flag goes, and the next boundary follows. At an open one: its block's point is marked, and the block's end follows.
 fn mark_block(block: usize, last: usize, k: usize, levels: &[f64], marks: &mut [u32]) -> usize
-    requires { ⌜ Ready block k last (now levels) (now marks) ⌝ }
+    requires { ⌜ SpanFlagged block k last (now levels) (now marks) ⌝ }
     ensures { λ r. ⌜ r ≡ nextOf (isSet (now (marks .entry))) block last k ⌝ }
     ensures { λ _. ⌜ now (marks .exit) ≡ stepped (now (levels .entry)) block last k (now (marks .entry)) ⌝ }
 {
@@ -54,14 +35,14 @@ fn mark_block(block: usize, last: usize, k: usize, levels: &[f64], marks: &mut [
         return k + 1;
     }
     let end = block_end(block, last, k, &*marks);
-    let at = quietest(levels, k, end);
+    let at = quietest::quietest(levels, k, end);
     marks[at] = 1;
     end
 }
 
 // Blocks restart after every blocked stretch, so a stretch longer than a block, such as long padding, never leaves the candidates on either side of it more than a block away.
 fn mark_blocks(block: usize, first: usize, last: usize, levels: &[f64], marks: &mut [u32])
-    requires { ⌜ Ready block first last (now levels) (now marks) ⌝ }
+    requires { ⌜ SpanFlagged block first last (now levels) (now marks) ⌝ }
     ensures { λ _. ⌜ Marked (now (levels .entry)) block first last (now (marks .entry)) (now (marks .exit)) ⌝ }
 {
     let mut k = first + 1;
@@ -72,7 +53,7 @@ fn mark_blocks(block: usize, first: usize, last: usize, levels: &[f64], marks: &
 
 // Turns the flags of blocked boundaries into marks: 1 at each grid point of the span from boundary `first` to `last`, and else 0.
 pub fn mark_points(block: usize, first: usize, last: usize, levels: &[f64], marks: &mut [u32])
-    requires { ⌜ Ready block first last (now levels) (now marks) ⌝ }
+    requires { ⌜ SpanFlagged block first last (now levels) (now marks) ⌝ }
     ensures { λ _. ⌜ now (marks .exit) ≡ marksOf (now (levels .entry)) block first last (now (marks .entry)) ⌝ }
 {
     mark_blocks(block, first, last, levels, &mut *marks);

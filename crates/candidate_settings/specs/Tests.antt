@@ -8,7 +8,7 @@ use Rattle.grid.specs.Limits.{maxDuration}
 use Rattle.grid.specs.Values.{isScore, isFinite}
 use Rattle.candidate_settings.specs.declared.config.Placement.{Placement}
 use Rattle.candidate_settings.specs.declared.config.Placement.the-variants.{Quietest, Center, Ratio}
-use Rattle.candidate_settings.specs.declared.config.Weights.{Weights}
+use Rattle.path_pieces.specs.declared.weights.Weights.{Weights}
 
 -- 9: a ratio lies within 0 to 1
 unfoldable pub ratioOk : Placement → Bool

@@ -12,7 +12,7 @@ use Rattle.grid.specs.Limits.{maxDuration}
 use Rattle.grid.specs.Values.{isFinite}
 use Rattle.grid.specs.ValuesLaws.{value-finite}
 use Rattle.candidate_settings.specs.Tests.{isWeight, isCutCost, isReference, weightsOk}
-use Rattle.candidate_settings.specs.declared.config.Weights.{Weights}
+use Rattle.path_pieces.specs.declared.weights.Weights.{Weights}
 
 -- finite, and not negative
 pub record Weight (x : Float) : Type 0 where
@@ -22,6 +22,7 @@ pub record Weight (x : Float) : Type 0 where
 -- the weights of a plan, after test 10
 pub record Weighed (w : Weights) : Type 0 where
   pub cut-cost : Weight (w .cut)
+  pub cut-above : T (lt nought (w .cut))
   pub level-weight : Weight (w .level)
   pub pause-weight : Weight (w .pause)
   pub target-weight : Weight (w .target)
@@ -33,9 +34,11 @@ weight : (x : Float) → isWeight x ≡ true → Weight x
 unfolding isWeight
 weight x e = let p = both (isFinite x) (le nought x) e in record { bounded = value-finite x (p .0); not-below = holds (p .1) }
 
-cut-weight : (x : Float) → isCutCost x ≡ true → Weight x
+cut-weight : (x : Float) → isCutCost x ≡ true → Weight x × T (lt nought x)
 unfolding isCutCost
-cut-weight x e = let p = both (isFinite x) (lt nought x) e in record { bounded = value-finite x (p .0); not-below = float-lt-le nought x (holds (p .1)) }
+cut-weight x e =
+    let p = both (isFinite x) (lt nought x) e in
+    (record { bounded = value-finite x (p .0); not-below = float-lt-le nought x (holds (p .1)) }, holds (p .1))
 
 pub weights-parts : (w : Weights) → weightsOk w ≡ true → Weighed w
 unfolding weightsOk isReference
@@ -53,7 +56,8 @@ weights-parts w e =
     let a1 = both l p (a2 .0) in
     let q = both (ltb 0 (w .«pause_ref»)) (leb (w .«pause_ref») maxDuration) (a5 .1) in
     record {
-      cut-cost = cut-weight (w .cut) (a4 .1);
+      cut-cost = cut-weight (w .cut) (a4 .1) .0;
+      cut-above = cut-weight (w .cut) (a4 .1) .1;
       level-weight = weight (w .level) (a1 .0);
       pause-weight = weight (w .pause) (a1 .1);
       target-weight = weight (w .target) (a2 .1);

@@ -1,5 +1,6 @@
 // The settings of a plan, in the Rust's words. Durations are in nanoseconds.
 use path_pieces::mode::Mode;
+use path_pieces::weights::Weights;
 
 // What happens to the silence at a cut.
 pub enum Gap {
@@ -17,22 +18,6 @@ pub enum Placement {
     Center,
     // At this fraction of the way through, from 0 (start) to 1 (end).
     Ratio(f32),
-}
-
-// What cuts and piece lengths cost.
-pub struct Weights {
-    // Fixed cost of every cut. Keeps free cuts in digital silence from multiplying.
-    pub cut: f64,
-    // Weight of the level at the cut.
-    pub level: f64,
-    // Weight of cutting outside a long pause.
-    pub pause: f64,
-    // Pause length that earns the full pause credit.
-    pub pause_ref: u64,
-    // Weight of the squared relative distance from the target length.
-    pub target: f64,
-    // Weight of pieces shorter than the minimum.
-    pub short: f64,
 }
 
 pub struct PlanConfig {

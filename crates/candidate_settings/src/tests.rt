@@ -1,6 +1,6 @@
 // The tests of a plan's settings that look at one setting each: 9 and 10.
 use crate::config::Placement;
-use crate::config::Weights;
+use path_pieces::weights::Weights;
 ghost use mathlib.Core.Path.{_≡_};
 ghost use Rattle.candidate_settings.specs.Tests.{isWeight, isCutCost, isReference, ratioOk, weightsOk};
 

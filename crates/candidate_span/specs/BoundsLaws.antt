@@ -20,16 +20,6 @@ pub inner-is : (n start end : ℕ) → (start ≡ 0 → ⊥) → (end ≡ n → 
 unfolding isInner
 inner-is n start end h k = rw (ne-eqb start 0 h, ne-eqb end n k)
 
--- ---- the bounds of one
-
-pub low-inner : (n tail start : ℕ) → (start ≡ 0 → ⊥) → lowOf n tail start ≡ min (start + tail) n
-unfolding lowOf
-low-inner n tail start h = rw (ne-eqb start 0 h)
-
-pub high-inner : (n pre end : ℕ) → (end ≡ n → ⊥) → highOf n pre end ≡ end - pre
-unfolding highOf
-high-inner n pre end h = rw (ne-eqb end n h)
-
 -- ---- of any silence
 
 -- the lower bound is not before the silence's start, and within the frame count

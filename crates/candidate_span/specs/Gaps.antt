@@ -18,8 +18,8 @@ unfoldable pub isGap : ℕ → ℕ → ℕ → ℕ → ℕ → Bool
 isGap n pre tail start end = isInner n start end && ltb (lowOf n tail start) (highOf n pre end)
 
 -- what is left of it
-abbrev pub gapOf : ℕ → ℕ → ℕ → ℕ → ℕ → Cut
-gapOf n pre tail start end = record { left = lowOf n tail start; right = highOf n pre end }
+abbrev pub silenceGap : ℕ → ℕ → ℕ → ℕ → ℕ → Cut
+silenceGap n pre tail start end = record { left = lowOf n tail start; right = highOf n pre end }
 
 -- how many frames a silence's gap drops
 unfoldable pub gapWidth : ℕ → ℕ → ℕ → ℕ → ℕ → ℕ
@@ -29,7 +29,7 @@ unfoldable pub innerGaps : ℕ → ℕ → ℕ → List ℕ → List Cut
 innerGaps n pre tail [] = []
 innerGaps n pre tail (start ∷ []) = []
 innerGaps n pre tail (start ∷ (end ∷ ss)) =
-    cond (isGap n pre tail start end) (gapOf n pre tail start end ∷ innerGaps n pre tail ss) (innerGaps n pre tail ss)
+    cond (isGap n pre tail start end) (silenceGap n pre tail start end ∷ innerGaps n pre tail ss) (innerGaps n pre tail ss)
 
 -- the dropped gaps, in order
 unfoldable pub gapsOf : Gap → ℕ → ℕ → ℕ → List ℕ → List Cut

@@ -5,8 +5,8 @@ use mathlib.Core.List.{List, [], _∷_, List·Memᴰ, List·Memᴰ·head, List·
 use Prim.Native.Nat.{ℕ, zero, suc, _<_}
 use native.Mathlib.Omega.{arith}
 use Rattle.candidate_span.specs.Listed.{count, startAt, endAt}
-use Rattle.candidate_span.specs.ListedLaws.{start-after, end-after}
-use Rattle.candidate_span.specs.Gaps.{Cut, isGap, gapOf, innerGaps}
+use Rattle.silence_runs.specs.SilencesLaws.{start-after, end-after}
+use Rattle.candidate_span.specs.Gaps.{Cut, isGap, silenceGap, innerGaps}
 
 module _ (n pre tail : ℕ) where
   -- silence i has a gap, and g is it
@@ -14,7 +14,7 @@ module _ (n pre tail : ℕ) where
     pub number : ℕ
     pub listed : number < count ss
     pub left : isGap n pre tail (startAt ss number) (endAt ss number) ≡ true
-    pub is : g ≡ gapOf n pre tail (startAt ss number) (endAt ss number)
+    pub is : g ≡ silenceGap n pre tail (startAt ss number) (endAt ss number)
 
   -- the same silence behind one more
   behind : (s e : ℕ) (ss : List ℕ) (g : Cut) → GapAt ss g → GapAt (s ∷ (e ∷ ss)) g
@@ -31,14 +31,14 @@ module _ (n pre tail : ℕ) where
   gap-from (s ∷ []) g m = absurd (List·Memᴰ·not-nil m)
   gap-from (s ∷ (e ∷ ss)) g m = go (isGap n pre tail s e) refl m (gap-from ss g)
     where
-      go : (b : Bool) → isGap n pre tail s e ≡ b → List·Memᴰ g (cond b (gapOf n pre tail s e ∷ innerGaps n pre tail ss) (innerGaps n pre tail ss))
+      go : (b : Bool) → isGap n pre tail s e ≡ b → List·Memᴰ g (cond b (silenceGap n pre tail s e ∷ innerGaps n pre tail ss) (innerGaps n pre tail ss))
           → (List·Memᴰ g (innerGaps n pre tail ss) → GapAt ss g) → GapAt (s ∷ (e ∷ ss)) g
       go true t (List·Memᴰ·head q) f = record { number = 0; listed = omega arith; left = t; is = q }
       go true t (List·Memᴰ·tail i) f = behind s e ss g (f i)
       go false t i f = behind s e ss g (f i)
 
   pub gap-in : (ss : List ℕ) (i : ℕ) → i < count ss → isGap n pre tail (startAt ss i) (endAt ss i) ≡ true
-      → List·Memᴰ (gapOf n pre tail (startAt ss i) (endAt ss i)) (innerGaps n pre tail ss)
+      → List·Memᴰ (silenceGap n pre tail (startAt ss i) (endAt ss i)) (innerGaps n pre tail ss)
   unfolding innerGaps
   gap-in [] i h t = absurd (omega arith)
   gap-in (s ∷ []) i h t = absurd (omega arith)
@@ -47,7 +47,7 @@ module _ (n pre tail : ℕ) where
       rw (start-after s e ss i, end-after s e ss i)
       (later (isGap n pre tail s e) (gap-in ss i (omega arith) (rw (start-after s e ss i, end-after s e ss i) at t)))
     where
-      later : (b : Bool) → List·Memᴰ (gapOf n pre tail (startAt ss i) (endAt ss i)) (innerGaps n pre tail ss)
-          → List·Memᴰ (gapOf n pre tail (startAt ss i) (endAt ss i)) (cond b (gapOf n pre tail s e ∷ innerGaps n pre tail ss) (innerGaps n pre tail ss))
+      later : (b : Bool) → List·Memᴰ (silenceGap n pre tail (startAt ss i) (endAt ss i)) (innerGaps n pre tail ss)
+          → List·Memᴰ (silenceGap n pre tail (startAt ss i) (endAt ss i)) (cond b (silenceGap n pre tail s e ∷ innerGaps n pre tail ss) (innerGaps n pre tail ss))
       later true m = List·Memᴰ·tail m
       later false m = m

@@ -8,16 +8,15 @@ use lib.Dec.{ltb}
 use lib.ListN.{length, getD}
 use borrow.Author.Tests.{ltb-true, ltb-false}
 use Rattle.base_laws.specs.Tests.{both}
-use Rattle.silence_runs.specs.SilencesLaws.{Rising}
+use Rattle.silence_runs.specs.SilencesLaws.{Rising, rising-least, start-after, end-after}
 use Rattle.candidate_settings.specs.declared.config.Gap.{Gap}
 use Rattle.candidate_settings.specs.declared.config.Gap.the-variants.{Keep, Drop}
 use Rattle.candidate_span.specs.Listed.{count, startAt, endAt}
-use Rattle.candidate_span.specs.ListedLaws.{start-after, end-after, rising-least}
 use Rattle.candidate_span.specs.Bounds.{lowOf, highOf, isInner}
 use Rattle.candidate_span.specs.BoundsLaws.{inner-parts, low-within, high-within}
 use Rattle.candidate_span.specs.Span.{firstOf, lastOf}
 use Rattle.candidate_span.specs.SpanLaws.{Spanned, ends-order, inner-first, inner-last}
-use Rattle.candidate_span.specs.Gaps.{Cut, isGap, gapOf, gapWidth, innerGaps, gapsOf, dropped, Spread}
+use Rattle.candidate_span.specs.Gaps.{Cut, isGap, silenceGap, gapWidth, innerGaps, gapsOf, dropped, Spread}
 
 -- ---- one gap
 
@@ -60,7 +59,7 @@ spread-from n pre tail a z lo (s ∷ (e ∷ ss)) r h f g =
   where
     go : (b : Bool) → (b ≡ true → (s ≡ 0 → ⊥) × (e ≡ n → ⊥) × (lowOf n tail s < highOf n pre e)) → Spread a (innerGaps n pre tail ss) z
         → (highOf n pre e < z → Spread (highOf n pre e) (innerGaps n pre tail ss) z)
-        → Spread a (cond b (gapOf n pre tail s e ∷ innerGaps n pre tail ss) (innerGaps n pre tail ss)) z
+        → Spread a (cond b (silenceGap n pre tail s e ∷ innerGaps n pre tail ss) (innerGaps n pre tail ss)) z
     go true p w k =
         let q = p refl in
         (omega (arith, f 0 (omega arith) (q .0), low-within n tail s (r .1) .0), q .2, k (omega (arith, g 0 (omega arith) (q .1), high-within n pre e)))
@@ -112,7 +111,7 @@ unfolding innerGaps isGap gapWidth dropped
 dropped-first n pre tail s e ss = go (isInner n s e) (ltb (lowOf n tail s) (highOf n pre e)) (ltb-false (lowOf n tail s) (highOf n pre e))
   where
     go : (a b : Bool) → (b ≡ false → highOf n pre e ≤ lowOf n tail s)
-        → dropped (cond (a && b) (gapOf n pre tail s e ∷ innerGaps n pre tail ss) (innerGaps n pre tail ss)) ≡ cond a (highOf n pre e - lowOf n tail s) 0 + dropped (innerGaps n pre tail ss)
+        → dropped (cond (a && b) (silenceGap n pre tail s e ∷ innerGaps n pre tail ss) (innerGaps n pre tail ss)) ≡ cond a (highOf n pre e - lowOf n tail s) 0 + dropped (innerGaps n pre tail ss)
     go true true f = refl
     go true false f = omega (arith, f refl)
     go false b f = omega arith

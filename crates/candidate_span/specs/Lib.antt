@@ -1,10 +1,10 @@
 -- Spacing: block, padding and its cap, the grid's edge limit, from the settings (`spacingOf`)
 pub mod Spacing
--- SpacingLaws: what the conversions need (`Spaced`, `passed-spaced`); a block has a frame at least
+-- SpacingLaws: what the conversions need (`Spaced`, `passed-spaced`); a block has a frame at least (`block-some`); what the parts make together (`spacing-is`)
 pub mod SpacingLaws
--- Listed: a lent list of silences (`Listed`, `count`, `startAt`, `endAt`)
+-- Listed: a lent list of silences by number (`count`, `startAt`, `endAt`)
 pub mod Listed
--- ListedLaws: no silence is empty, they are apart, all are within the frame count; the silences' definition gives such a list (`silences-listed`)
+-- ListedLaws: what such a list is known to be (`Listed`): no silence is empty, they are apart, all are within the frame count; the silences' definition gives such a list (`silences-listed`)
 pub mod ListedLaws
 -- Bounds: a silence's padded bounds (`boundsOf`), inner silences (`isInner`)
 pub mod Bounds

@@ -5,26 +5,13 @@ use Prim.Native.Nat.{ℕ, zero, suc, _+_, _*_, _≤_, _<_}
 use native.Mathlib.Omega.{arith}
 use lib.ListN.{length, getD}
 use Rattle.silence_runs.specs.Silences.{silencesOf}
-use Rattle.silence_runs.specs.SilencesLaws.{Rising, silences-rise, silences-length}
-use Rattle.candidate_span.specs.Listed.{count, startAt, endAt, Listed}
+use Rattle.silence_runs.specs.SilencesLaws.{Rising, rising-most, rising-apart, silences-rise, silences-length}
+use Rattle.candidate_span.specs.Listed.{count, startAt, endAt}
 
--- ---- numbers that rise strictly
-
-pub rising-least : (lo hi : ℕ) (ys : List ℕ) (i : ℕ) → Rising lo hi ys → i < length ys → lo ≤ getD ys i 0
-rising-least lo hi [] i r h = absurd (omega arith)
-rising-least lo hi (y ∷ ys) zero r h = r .0
-rising-least lo hi (y ∷ ys) (suc i) r h = omega (arith, r .0, rising-least (suc y) hi ys i (r .2) (omega arith))
-
-pub rising-most : (lo hi : ℕ) (ys : List ℕ) (i : ℕ) → Rising lo hi ys → i < length ys → getD ys i 0 ≤ hi
-rising-most lo hi [] i r h = absurd (omega arith)
-rising-most lo hi (y ∷ ys) zero r h = r .1
-rising-most lo hi (y ∷ ys) (suc i) r h = rising-most (suc y) hi ys i (r .2) (omega arith)
-
-pub rising-apart : (lo hi : ℕ) (ys : List ℕ) (i j : ℕ) → Rising lo hi ys → i < j → j < length ys → getD ys i 0 < getD ys j 0
-rising-apart lo hi [] i j r h l = absurd (omega arith)
-rising-apart lo hi (y ∷ ys) i zero r h l = absurd (omega arith)
-rising-apart lo hi (y ∷ ys) zero (suc j) r h l = rising-least (suc y) hi ys j (r .2) (omega arith)
-rising-apart lo hi (y ∷ ys) (suc i) (suc j) r h l = rising-apart (suc y) hi ys i j (r .2) (omega arith) (omega arith)
+-- what a list of silences of n frames is known to be: two numbers for each silence, which rise strictly up to the frame count: no silence is empty, and a frame at least lies between two
+pub record Listed (n : ℕ) (ss : List ℕ) : Type 0 where
+  pub even : length ss ≡ 2 * count ss
+  pub rises : Rising 0 n ss
 
 -- ---- silences by number
 
@@ -44,18 +31,3 @@ module _ {n : ℕ} {ss : List ℕ} (l : Listed n ss) where
 -- the silences of n sound flags are such a list
 pub silences-listed : (sound : List ℕ) → Listed (length sound) (silencesOf sound)
 silences-listed sound = record { even = omega (arith, silences-length sound); rises = silences-rise sound }
-
--- ---- the silences after the first
-
--- twice a number, one more
-pub twice-suc : (i : ℕ) → 2 * suc i ≡ suc (suc (2 * i))
-twice-suc i = omega arith
-
-pub start-after : (s e : ℕ) (ss : List ℕ) (i : ℕ) → startAt (s ∷ (e ∷ ss)) (suc i) ≡ startAt ss i
-start-after s e ss i = rw (twice-suc i)
-
-pub end-after : (s e : ℕ) (ss : List ℕ) (i : ℕ) → endAt (s ∷ (e ∷ ss)) (suc i) ≡ endAt ss i
-end-after s e ss i = rw (more i)
-  where
-    more : (j : ℕ) → 2 * suc j + 1 ≡ suc (suc (2 * j + 1))
-    more j = omega arith

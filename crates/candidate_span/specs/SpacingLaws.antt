@@ -1,17 +1,19 @@
--- What the conversions of a plan's durations need, and that a block has a frame at least.
-use Prim.Native.Nat.{ℕ, _≤_, _<_}
+-- What the conversions of a plan's durations need, that a block has a frame at least, and what the parts make together.
+use mathlib.Core.Path.{_≡_}
+use Prim.Native.Nat.{ℕ, _≤_, _<_, min}
 use mathlib.Core.List.{List}
 use native.Mathlib.Omega.{arith}
 use lib.Ieee.{Float}
 use lib.ListN.{length}
 use Rattle.grid.specs.Limits.{maxFrameRate, maxHop, maxDuration, nanosPerSec}
-use Rattle.grid.specs.Durations.{InFrames, InSamples}
+use Rattle.grid.specs.Durations.{framesIn, InFrames}
 use Rattle.grid.specs.Boundary.{Bounded}
 use Rattle.grid.specs.Validate.{gridOf}
-use Rattle.grid.specs.ValidateLaws.{Passed, passed-bounded, frames-parts, within-most, within-pos}
+use Rattle.grid.specs.ValidateLaws.{AcceptedRecording, passed-bounded, frames-parts, within-most, within-pos}
 use Rattle.grid.specs.declared.boundary.FrameGrid.{FrameGrid}
 use Rattle.grid.specs.declared.validate.Recording.{Recording}
-use Rattle.candidate_span.specs.Spacing.{blockTime, blockOf}
+use Rattle.candidate_span.specs.Spacing.{blockTime, blockOf, paddingCap, paddingOf, edgeLimit, spacingOf}
+use Rattle.candidate_span.specs.declared.spacing.Spacing.{Spacing}
 
 -- a grid that passed tests 1, 3 and 4, and a duration within refusal 7's limit
 pub record Spaced (g : FrameGrid) (ns : ℕ) : Type 0 where
@@ -21,7 +23,7 @@ pub record Spaced (g : FrameGrid) (ns : ℕ) : Type 0 where
   pub time : ns ≤ maxDuration
 
 -- an accepted recording has such a grid
-pub passed-spaced : (r : Recording) (values : List Float) (flags : List ℕ) (levels : List Float) → Passed r values flags levels → (ns : ℕ) → ns ≤ maxDuration
+pub passed-spaced : (r : Recording) (values : List Float) (flags : List ℕ) (levels : List Float) → AcceptedRecording r values flags levels → (ns : ℕ) → ns ≤ maxDuration
     → Spaced (gridOf r (length values)) ns
 passed-spaced r values flags levels p ns h =
     let f = frames-parts (r .«sample_rate») (r .«frame_rate») (r .hop) (p .frames) in
@@ -31,12 +33,6 @@ passed-spaced r values flags levels p ns h =
       step = within-pos (r .hop) maxHop (f .1);
       time = h;
     }
-
-pub spaced-frames : {g : FrameGrid} {ns : ℕ} → Spaced g ns → InFrames (g .«frame_rate») (g .hop) ns
-spaced-frames s = record { rate = s .rate; step = s .step; most = s .bounded .hop; time = s .time }
-
-pub spaced-samples : {g : FrameGrid} {ns : ℕ} → Spaced g ns → InSamples (g .«sample_rate») ns
-spaced-samples s = record { rate = s .bounded .rate; time = s .time }
 
 -- a block lasts a second at most
 pub block-time-most : (least most : ℕ) → blockTime least most ≤ nanosPerSec
@@ -50,3 +46,11 @@ spaced-block least most s = record { rate = s .rate; step = s .step; most = s .b
 pub block-some : (g : FrameGrid) (least most : ℕ) → 1 ≤ blockOf g least most
 unfolding blockOf
 block-some g least most = omega arith
+
+-- what `spacing_of` puts together
+pub spacing-is : (g : FrameGrid) (pre tail least most block cap before after kept after-kept limit : ℕ) → block ≡ blockOf g least most → cap ≡ paddingCap g block most
+    → before ≡ framesIn (g .«frame_rate») (g .hop) pre → kept ≡ min before cap → after ≡ framesIn (g .«frame_rate») (g .hop) tail → after-kept ≡ min after cap
+    → limit ≡ edgeLimit g block most
+    → _≡_ {A = Spacing} (record { block = block; «edge_limit» = limit; pre = kept; tail = after-kept }) (spacingOf g pre tail least most)
+unfolding spacingOf paddingOf
+spacing-is g pre tail least most block cap before after kept after-kept limit a b c d e f h = rw (h, f, e, d, c, b, a)

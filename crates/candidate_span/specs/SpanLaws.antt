@@ -12,7 +12,8 @@ use Rattle.candidate_settings.specs.declared.config.Gap.{Gap}
 use Rattle.candidate_settings.specs.declared.config.Gap.the-variants.{Keep, Drop}
 use Rattle.candidate_span.specs.declared.ends.SpanEnds.{SpanEnds}
 use Rattle.candidate_span.specs.declared.ends.SpanEnds.the-variants.{Empty, Between}
-use Rattle.candidate_span.specs.Listed.{count, startAt, endAt, Listed}
+use Rattle.candidate_span.specs.Listed.{count, startAt, endAt}
+use Rattle.candidate_span.specs.ListedLaws.{Listed}
 use Rattle.candidate_span.specs.ListedLaws.{listed-own, listed-apart, listed-within}
 use Rattle.candidate_span.specs.Span.{isLeading, isTrailing, allSilent, emptySpan, firstOf, lastOf, endsOf}
 

@@ -9,10 +9,11 @@ use lib.ListN.{length, getD}
 use borrow.Author.Tests.{lt-ltb, eq-eqb, ne-eqb, le-leb, ltb-true, eqb-true}
 use Rattle.base_laws.specs.Tests.{both, holds}
 use Rattle.base_terms.specs.Lists.{allOf}
-use Rattle.silence_runs.specs.Silences.{silencesOf, edges, isEdge}
-use Rattle.silence_runs.specs.SilencesLaws.{silences-edges, silences-exact, inSilence}
+use Rattle.silence_runs.specs.Silences.{silencesOf}
+use Rattle.silence_runs.specs.SilencesLaws.{edges, isEdge, silences-edges, silences-exact, inSilence}
 use Rattle.silence_runs.specs.Sounds.{isSilent, anySound}
-use Rattle.candidate_span.specs.Listed.{count, startAt, endAt, Listed}
+use Rattle.candidate_span.specs.Listed.{count, startAt, endAt}
+use Rattle.candidate_span.specs.ListedLaws.{Listed}
 use Rattle.candidate_span.specs.ListedLaws.{listed-own, silences-listed}
 use Rattle.candidate_span.specs.Span.{isLeading, allSilent}
 

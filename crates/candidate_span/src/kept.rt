@@ -9,7 +9,7 @@ ghost use Rattle.candidate_span.specs.Gaps.{gapWidth, gapsOf};
 ghost use Rattle.candidate_span.specs.Kept.{keptFrames};
 
 // How many frames a silence's gap drops: none where it has no gap.
-fn gap_width(n: usize, pre: usize, tail: usize, start: usize, end: usize) -> usize
+pub fn gap_width(n: usize, pre: usize, tail: usize, start: usize, end: usize) -> usize
     ensures { λ r. ⌜ r ≡ gapWidth n pre tail start end ⌝ }
 {
     if start == 0 {

@@ -14,7 +14,7 @@ use Rattle.candidate_span.specs.KeptIn.{Outside, of-boundaries}
 use Rattle.candidate_points.specs.Points.{isIn}
 use Rattle.candidates.specs.declared.candidate.Candidate.{Candidate}
 use Rattle.candidates.specs.declared.context.Context.{Context}
-use Rattle.candidates.specs.Candidates.{node, pointAt, ownFrom, listedOf, withLeft, cheapest, survivors, candidatesOf}
+use Rattle.candidates.specs.Candidates.{node, pointAt, ownFrom, allListed, withLeft, cheapest, survivors, candidatesOf}
 use Rattle.candidates.specs.SurvivorsLaws.{left-append}
 use Rattle.candidates.specs.Members.{is-in, in-is, Survivor, none, one, survivor-at, survivor-of}
 use Rattle.candidates.specs.Sources.{droppedOf, Planned}
@@ -97,8 +97,8 @@ module _ (cs : List Candidate) where
 -- ---- merging
 
 module _ (x : Context) (ss runs : List ℕ) (levels : List Float) (ks js : List ℕ) (first last : ℕ) where
-  listed-added : listedOf x ss runs levels (ks ++ js) ≡ listedOf x ss runs levels ks ++ map (pointAt x ss runs levels) js
-  unfolding listedOf
+  listed-added : allListed x ss runs levels (ks ++ js) ≡ allListed x ss runs levels ks ++ map (pointAt x ss runs levels) js
+  unfolding allListed
   listed-added =
       ap (λ (ps : List Candidate). ownFrom x ss levels (count ss) 0 ++ ps) (map-append (pointAt x ss runs levels) ks js)
       ∙ sym (append-assoc (ownFrom x ss levels (count ss) 0) (map (pointAt x ss runs levels) ks) (map (pointAt x ss runs levels) js))
@@ -108,4 +108,4 @@ module _ (x : Context) (ss runs : List ℕ) (levels : List Float) (ks js : List 
       ≡ node first ∷ (survivors (between x ss runs levels ks first last ++ map (pointAt x ss runs levels) js) (boundaries first (last - suc first)) ++ (node last ∷ []))
   unfolding candidatesOf
   candidates-added =
-      rw (listed-added, survive-again (listedOf x ss runs levels ks) (map (pointAt x ss runs levels) js) first (last - suc first) (last - suc first) first (omega arith) (omega arith))
+      rw (listed-added, survive-again (allListed x ss runs levels ks) (map (pointAt x ss runs levels) js) first (last - suc first) (last - suc first) first (omega arith) (omega arith))

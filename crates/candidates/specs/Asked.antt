@@ -1,5 +1,5 @@
 -- The path search may be asked: a plan's candidates in samples, and their costs, are of its domain.
-use mathlib.Core.Path.{_≡_, refl, sym, ap, _∙_}
+use mathlib.Core.Path.{_≡_, refl, sym, _∙_}
 use mathlib.Core.List.{List, [], _∷_, map}
 use Prim.Native.Nat.{ℕ, zero, suc, _≤_, _<_}
 use native.Mathlib.Nat.{le-trans, le-of-lt}
@@ -9,12 +9,13 @@ use lib.ListN.{length, getD, length-map}
 use Rattle.grid.specs.declared.boundary.FrameGrid.{FrameGrid}
 use Rattle.grid.specs.Boundary.{boundaryOf}
 use Rattle.grid.specs.BoundaryLaws.{Accepted, boundary-le-len}
-use Rattle.path_pieces.specs.Limits.{maxEnd}
+use Rattle.base_terms.specs.Limits.{maxLen}
 use Rattle.path_pieces.specs.Domain.{Candidates, Costs}
 use Rattle.candidates.specs.declared.candidate.Candidate.{Candidate}
 use Rattle.candidates.specs.declared.context.Context.{Context}
 use Rattle.candidates.specs.Candidates.{candidatesOf}
-use Rattle.candidates.specs.Held.{costsOf}
+use Rattle.candidates.specs.Entries.{costsOf}
+use Rattle.candidates.specs.EntriesLaws.{costs-length}
 use Rattle.candidates.specs.Members.{candidateAt}
 use Rattle.candidates.specs.Sources.{Planned}
 use Rattle.candidates.specs.Order.{span-ends, candidates-some, candidates-few, position-order, positions-apart}
@@ -41,11 +42,6 @@ sample-at f [] i h = absurd (omega arith)
 sample-at f (c ∷ cs) zero h = refl
 sample-at f (c ∷ cs) (suc i) h = sample-at f cs i (omega arith)
 
-costs-length : (cs : List Candidate) → length (costsOf cs) ≡ length cs
-unfolding costsOf
-costs-length [] = refl
-costs-length (c ∷ cs) = ap suc (costs-length cs)
-
 cost-at : (cs : List Candidate) (i : ℕ) → i < length cs → getD (costsOf cs) i nan ≡ candidateAt cs i .cost
 unfolding costsOf
 cost-at [] i h = absurd (omega arith)
@@ -58,7 +54,7 @@ cost-at (c ∷ cs) (suc i) h = cost-at cs i (omega arith)
 pub record Sampled (x : Context) (g : FrameGrid) : Type 0 where
   pub accepted : Accepted g
   pub same : g .frames ≡ x .frames
-  pub held : g .len ≤ maxEnd
+  pub held : g .len ≤ maxLen
 
 module _ (x : Context) (ss runs : List ℕ) (levels : List Float) (ks : List ℕ) (first last : ℕ) (p : Planned x ss levels ks first last) (g : FrameGrid) where
   -- a plan's candidates in samples pass refusals 15 and 16

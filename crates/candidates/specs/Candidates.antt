@@ -14,7 +14,7 @@ use Rattle.candidate_span.specs.Listed.{count, startAt, endAt}
 use Rattle.candidate_points.specs.Blocked.{touches}
 use Rattle.candidate_costs.specs.Cost.{cutCost}
 use Rattle.candidate_costs.specs.Stretch.{stretchAt, secsOf}
-use Rattle.candidate_cuts.specs.CutsLaws.{cutAt}
+use Rattle.candidate_cuts.specs.Cut.{cutAt}
 use Rattle.candidates.specs.declared.candidate.Reason.{Reason}
 use Rattle.candidates.specs.declared.candidate.Reason.the-variants.{Silence, Quiet, Forced}
 use Rattle.candidates.specs.declared.candidate.Candidate.{Candidate}
@@ -75,8 +75,8 @@ ownFrom x ss levels (suc n) i =
     (ownFrom x ss levels n (suc i))
 
 -- the candidates in the order in which they are listed: the silences', then the points at boundaries ks
-unfoldable pub listedOf : Context → List ℕ → List ℕ → List Float → List ℕ → List Candidate
-listedOf x ss runs levels ks = ownFrom x ss levels (count ss) 0 ++ map (pointAt x ss runs levels) ks
+unfoldable pub allListed : Context → List ℕ → List ℕ → List Float → List ℕ → List Candidate
+allListed x ss runs levels ks = ownFrom x ss levels (count ss) 0 ++ map (pointAt x ss runs levels) ks
 
 -- ---- the survivors
 
@@ -106,4 +106,4 @@ survivors cs (k ∷ ks) = cheapest (withLeft k cs) ++ survivors cs ks
 -- the candidates of the span from boundary `first` to boundary `last`, with points at boundaries ks: its two ends, and between them the survivors
 unfoldable pub candidatesOf : Context → List ℕ → List ℕ → List Float → List ℕ → ℕ → ℕ → List Candidate
 candidatesOf x ss runs levels ks first last =
-    node first ∷ (survivors (listedOf x ss runs levels ks) (boundaries first (last - suc first)) ++ (node last ∷ []))
+    node first ∷ (survivors (allListed x ss runs levels ks) (boundaries first (last - suc first)) ++ (node last ∷ []))

@@ -14,7 +14,7 @@ use Rattle.grid.specs.declared.boundary.FrameGrid.{FrameGrid}
 use Rattle.candidate_span.specs.Kept.{boundaries}
 use Rattle.candidates.specs.declared.candidate.Candidate.{Candidate}
 use Rattle.candidates.specs.declared.context.Context.{Context}
-use Rattle.candidates.specs.Candidates.{listedOf, withLeft, cheaper, cheapestOf, cheapest, survivors, candidatesOf}
+use Rattle.candidates.specs.Candidates.{allListed, withLeft, cheaper, cheapestOf, cheapest, survivors, candidatesOf}
 use Rattle.candidates.specs.Members.{candidateAt, left-of, Survivor, none, one, survivor-at, survivor-of}
 use Rattle.candidates.specs.Sources.{Planned, listed-source}
 use Rattle.candidates.specs.Order.{between}
@@ -95,7 +95,7 @@ survives-here cs (k ∷ ks) c m = go (List·Memᴰ·append-cases (cheapest (with
 module _ (x : Context) (g : FrameGrid) (runs : List ℕ) (levels : List Float) (q : Costed x g runs levels) (ss ks : List ℕ) (first last : ℕ) (p : Planned x ss levels ks first last) where
   -- each candidate between the ends is the cheapest of those listed with its left end, the earliest of equals
   pub candidate-cheapest : (i : ℕ) → 0 < i → suc i < length (candidatesOf x ss runs levels ks first last)
-      → Cheapest (withLeft (candidateAt (candidatesOf x ss runs levels ks first last) i .left) (listedOf x ss runs levels ks)) (candidateAt (candidatesOf x ss runs levels ks first last) i)
+      → Cheapest (withLeft (candidateAt (candidatesOf x ss runs levels ks first last) i .left) (allListed x ss runs levels ks)) (candidateAt (candidatesOf x ss runs levels ks first last) i)
   candidate-cheapest i s h =
       one-cheapest (withLeft (c .left) cs) c priced (survives-here cs (boundaries first (last - suc first)) c m)
     where
@@ -103,7 +103,7 @@ module _ (x : Context) (g : FrameGrid) (runs : List ℕ) (levels : List Float) (
       c = candidateAt (candidatesOf x ss runs levels ks first last) i
 
       cs : List Candidate
-      cs = listedOf x ss runs levels ks
+      cs = allListed x ss runs levels ks
 
       m : List·Memᴰ c (between x ss runs levels ks first last)
       m = inner-survives x ss runs levels ks first last i s h

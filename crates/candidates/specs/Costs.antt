@@ -1,4 +1,4 @@
--- Every candidate's cost is of the path search's domain: not NaN, and not negative. It is +inf where finite weights give that.
+-- Every candidate's cost is of the path search's domain: not NaN, and not negative. Between the ends of the span it is above zero. It is +inf where finite weights give that.
 use mathlib.Core.Path.{_≡_, subst}
 use mathlib.Core.Logic.{inl, inr}
 use mathlib.Core.Bool.{true}
@@ -7,30 +7,33 @@ use Prim.Native.Nat.{ℕ, zero, suc, _-_, _≤_, _<_, max}
 use native.Mathlib.Nat.{eq-or-lt-of-le}
 use native.Mathlib.Omega.{arith}
 use lib.Dec.{T}
-use lib.Ieee.{Float, nan}
+use lib.Ieee.{Float, nan, binary64, lt, fits}
 use lib.ListN.{length, getD}
-use Rattle.base_terms.specs.Floats.{nonneg}
+use Rattle.base_terms.specs.Floats.{nought, nonneg}
 use Rattle.base_laws.specs.Nonneg.{nought-nonneg}
 use Rattle.grid.specs.Limits.{maxFrameRate}
 use Rattle.grid.specs.Durations.{frameSecs}
 use Rattle.grid.specs.Boundary.{Bounded}
 use Rattle.grid.specs.declared.boundary.FrameGrid.{FrameGrid}
 use Rattle.candidate_settings.specs.Tests.{weightsOk}
+use Rattle.candidate_span.specs.Kept.{boundaries}
 use Rattle.candidate_span.specs.Listed.{startAt, endAt}
 use Rattle.candidate_span.specs.ListedLaws.{listed-within}
+use Rattle.candidate_cuts.specs.Cut.{cutAt}
 use Rattle.candidate_cuts.specs.CutLaws.{cut-level}
-use Rattle.candidate_cuts.specs.CutsLaws.{InnerAt, inner-cut, cutAt}
+use Rattle.candidate_cuts.specs.CutsLaws.{InnerAt, inner-cut}
+use Rattle.candidate_costs.specs.Cost.{cutCost}
 use Rattle.candidate_costs.specs.Stretch.{stretchAt, secsOf}
 use Rattle.candidate_costs.specs.StretchLaws.{stretch-first, stretch-inner, stretch-last, secs-fine}
 use Rattle.candidate_costs.specs.NormalizeLaws.{OnScale}
-use Rattle.candidate_costs.specs.CostLaws.{cost-fine}
+use Rattle.candidate_costs.specs.CostLaws.{cost-fine, cost-positive}
 use Rattle.candidates.specs.declared.candidate.Candidate.{Candidate}
 use Rattle.candidates.specs.declared.context.Context.{Context}
-use Rattle.candidates.specs.Candidates.{pointAt, ownAt, candidatesOf}
-use Rattle.candidates.specs.Members.{candidateAt, at-member}
+use Rattle.candidates.specs.Candidates.{pointAt, ownAt, allListed, candidatesOf}
+use Rattle.candidates.specs.Members.{candidateAt, at-member, survivor-of}
 use Rattle.candidates.specs.Sources.{Planned, Source, own, point, point-ends}
 use Rattle.candidates.specs.Order.{span-ends}
-use Rattle.candidates.specs.Found.{every}
+use Rattle.candidates.specs.Found.{every, inside-span, inner-survives, candidate-source}
 
 -- what costs are made with: weights that refusal 10 passes, levels from 0 to 1, the grid's frame, and a stretch for each frame
 pub record Costed (x : Context) (g : FrameGrid) (runs : List ℕ) (levels : List Float) : Type 0 where
@@ -60,34 +63,56 @@ module _ (x : Context) (g : FrameGrid) (runs : List ℕ) (levels : List Float) (
       most : (a b : ℕ) → a < 4294967296 → b < 4294967296 → max a b < 4294967296
       most a b i j = omega arith
 
-  -- the cost of a point
-  pub point-cost : (ss : List ℕ) (k : ℕ) → k ≤ x .frames → 0 < x .frames → T (nonneg (pointAt x ss runs levels k .cost))
-  unfolding pointAt
-  point-cost ss k h s = cost-fine (x .weights) (getD levels k nan) (secsOf (x .«frame_secs») (stretchAt runs k)) (q .weighed) (q .scale k h) (secs (stretchAt runs k) (stretch-counted k h s))
+  -- what holds of every cost of a cut on the scale holds of what is listed, and of what survives of it
+  module _ (P : Float → Type 0) (f : (level time : Float) → OnScale level → T (nonneg time) → P (cutCost (x .weights) level time)) where
+    point-has : (ss : List ℕ) (k : ℕ) → k ≤ x .frames → 0 < x .frames → P (pointAt x ss runs levels k .cost)
+    unfolding pointAt
+    point-has ss k h s = f (getD levels k nan) (secsOf (x .«frame_secs») (stretchAt runs k)) (q .scale k h) (secs (stretchAt runs k) (stretch-counted k h s))
+
+    module _ (ss ks : List ℕ) (first last : ℕ) (p : Planned x ss levels ks first last) where
+      own-has : (i : ℕ) → InnerAt (x .frames) ss i → P (ownAt x ss levels i .cost)
+      unfolding ownAt
+      own-has i a =
+          let c = cutAt (x .gap) (x .placement) (x .frames) (x .pre) (x .tail) levels ss i in
+          let w = cut-level (x .placement) (x .frames) (x .pre) (x .tail) levels (startAt ss i) (endAt ss i)
+          (inner-cut (x .gap) (x .placement) (x .frames) (x .pre) (x .tail) levels ss (p .prepared) i a) (q .scale) (x .gap) in
+          f (c .level) (secsOf (x .«frame_secs») (endAt ss i - startAt ss i)) w
+          (secs (endAt ss i - startAt ss i) (omega (arith, listed-within (p .prepared .spanned .listed) i (a .listed), p .prepared .few)))
+
+      source-has : (c : Candidate) → Source x ss runs levels ks c → c .left < last → P (c .cost)
+      source-has c (own i a e) l = rw e (own-has i a)
+      source-has c (point k t e) l =
+          let w = span-ends x ss runs levels ks first last p in
+          let b : k < last = rw (e, point-ends x ss runs levels ks k .0) at l in
+          rw e (point-has ss k (omega (arith, w .1)) (omega (arith, w .1)))
+
+  fine : (level time : Float) → OnScale level → T (nonneg time) → T (nonneg (cutCost (x .weights) level time))
+  fine level time s h = cost-fine (x .weights) level time (q .weighed) s h
 
   module _ (ss ks : List ℕ) (first last : ℕ) (p : Planned x ss levels ks first last) where
-    -- the cost of a silence's own candidate
-    pub own-cost : (i : ℕ) → InnerAt (x .frames) ss i → T (nonneg (ownAt x ss levels i .cost))
-    unfolding ownAt
-    own-cost i a =
-        let c = cutAt (x .gap) (x .placement) (x .frames) (x .pre) (x .tail) levels ss i in
-        let w = cut-level (x .placement) (x .frames) (x .pre) (x .tail) levels (startAt ss i) (endAt ss i)
-        (inner-cut (x .gap) (x .placement) (x .frames) (x .pre) (x .tail) levels ss (p .prepared) i a)
-        (λ (k : ℕ) (h : k ≤ x .frames). (q .scale k h .low, q .scale k h .high)) (x .gap) in
-        cost-fine (x .weights) (c .level) (secsOf (x .«frame_secs») (endAt ss i - startAt ss i)) (q .weighed) (record { low = w .0; high = w .1 })
-        (secs (endAt ss i - startAt ss i) (omega (arith, listed-within (p .prepared .spanned .listed) i (a .listed), p .prepared .few)))
+    abbrev cs : List Candidate
+    cs = candidatesOf x ss runs levels ks first last
 
-    -- the cost of what is listed
+    -- the cost of what is listed is not negative
     pub source-cost : (c : Candidate) → Source x ss runs levels ks c → c .left < last → T (nonneg (c .cost))
-    source-cost c (own i a e) l = rw e (own-cost i a)
-    source-cost c (point k t e) l =
-        let w = span-ends x ss runs levels ks first last p in
-        let b : k < last = rw (e, point-ends x ss runs levels ks k .0) at l in
-        rw e (point-cost ss k (omega (arith, w .1)) (omega (arith, w .1)))
+    source-cost = source-has (λ (y : Float). T (nonneg y)) fine ss ks first last p
 
-    -- every cost is not negative
-    pub candidate-cost : (i : ℕ) → i < length (candidatesOf x ss runs levels ks first last) → T (nonneg (candidateAt (candidatesOf x ss runs levels ks first last) i .cost))
+    -- so is every cost
+    pub candidate-cost : (i : ℕ) → i < length cs → T (nonneg (candidateAt cs i .cost))
     candidate-cost i h =
         every x ss runs levels ks first last (λ (c : Candidate). T (nonneg (c .cost))) nought-nonneg nought-nonneg
         (λ (c : Candidate) (s : Source x ss runs levels ks c) (f : first < c .left) (l : c .left < last). source-cost c s l)
-        (candidateAt (candidatesOf x ss runs levels ks first last) i) (at-member (candidatesOf x ss runs levels ks first last) i h)
+        (candidateAt cs i) (at-member cs i h)
+
+    -- above zero where the fixed cost is an f64, as its type says: what is listed, and so what is compared for a left end
+    module _ (held : T (fits binary64 (x .weights .cut))) where
+      pub source-positive : (c : Candidate) → Source x ss runs levels ks c → c .left < last → T (lt nought (c .cost))
+      source-positive =
+          source-has (λ (y : Float). T (lt nought y))
+          (λ (level time : Float) (s : OnScale level) (h : T (nonneg time)). cost-positive (x .weights) level time (q .weighed) s h held) ss ks first last p
+
+      -- and every candidate but the two ends of the span, which cost nothing
+      pub candidate-positive : (i : ℕ) → 0 < i → suc i < length cs → T (lt nought (candidateAt cs i .cost))
+      candidate-positive i s h =
+          source-positive (candidateAt cs i) (candidate-source x ss runs levels ks first last i s h)
+          (inside-span x ss runs levels ks first last (candidateAt cs i .left) (survivor-of (allListed x ss runs levels ks) (boundaries first (last - suc first)) (candidateAt cs i) (inner-survives x ss runs levels ks first last i s h) .1) .1)

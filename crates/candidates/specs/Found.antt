@@ -12,7 +12,7 @@ use Rattle.candidate_span.specs.KeptIn.{in-boundaries, of-boundaries}
 use Rattle.candidate_points.specs.Points.{isIn}
 use Rattle.candidates.specs.declared.candidate.Candidate.{Candidate}
 use Rattle.candidates.specs.declared.context.Context.{Context}
-use Rattle.candidates.specs.Candidates.{node, pointAt, listedOf, candidatesOf}
+use Rattle.candidates.specs.Candidates.{node, pointAt, allListed, candidatesOf}
 use Rattle.candidates.specs.Members.{candidateAt, at-member, member-at, survivor-of, survivor-found}
 use Rattle.candidates.specs.Sources.{Planned, Source, own, point, listed-source, source-listed, point-ends, own-inside}
 use Rattle.candidates.specs.Order.{between}
@@ -34,7 +34,7 @@ module _ (x : Context) (ss runs : List ℕ) (levels : List Float) (ks : List ℕ
     where
       inner : List·Memᴰ c (between x ss runs levels ks first last) → P c
       inner i =
-          let q = survivor-of (listedOf x ss runs levels ks) (boundaries first (last - suc first)) c i in
+          let q = survivor-of (allListed x ss runs levels ks) (boundaries first (last - suc first)) c i in
           let w = inside-span (c .left) (q .1) in
           f c (listed-source x ss runs levels ks c (q .0)) (w .0) (w .1)
 
@@ -59,7 +59,7 @@ module _ (x : Context) (ss runs : List ℕ) (levels : List Float) (ks : List ℕ
   pub candidate-source : (i : ℕ) → 0 < i → suc i < length cs → Source x ss runs levels ks (candidateAt cs i)
   candidate-source i s h =
       let c = candidateAt cs i in
-      listed-source x ss runs levels ks c (survivor-of (listedOf x ss runs levels ks) (boundaries first (last - suc first)) c (inner-survives i s h) .0)
+      listed-source x ss runs levels ks c (survivor-of (allListed x ss runs levels ks) (boundaries first (last - suc first)) c (inner-survives i s h) .0)
 
   -- a survivor stands between the ends
   between-in : (c : Candidate) → List·Memᴰ c (between x ss runs levels ks first last) → List·Memᴰ c cs
@@ -75,7 +75,7 @@ module _ (x : Context) (ss runs : List ℕ) (levels : List Float) (ks : List ℕ
   -- each left end of a listed candidate strictly inside the span has one
   pub listed-found : (c : Candidate) → Source x ss runs levels ks c → first < c .left → c .left < last → FoundAt (c .left)
   listed-found c s f l =
-      let r = survivor-found (listedOf x ss runs levels ks) (boundaries first (last - suc first)) c (source-listed x ss runs levels ks c s)
+      let r = survivor-found (allListed x ss runs levels ks) (boundaries first (last - suc first)) c (source-listed x ss runs levels ks c s)
       (in-boundaries first (last - suc first) (c .left) f (omega arith)) in
       let n = member-at cs (r .who) (between-in (r .who) (r .survives)) in
       record { number = n .number; counted = n .counted; at = ap (λ (d : Candidate). d .left) (n .is) ∙ r .at }
@@ -90,7 +90,7 @@ module _ (x : Context) (ss runs : List ℕ) (levels : List Float) (ks : List ℕ
 
   -- where each point lies strictly inside the span, all that is listed does: the Rust's `retain` removes nothing
   pub listed-inside : Planned x ss levels ks first last → ((k : ℕ) → isIn ks k ≡ true → (first < k) × (k < last))
-      → (c : Candidate) → List·Memᴰ c (listedOf x ss runs levels ks) → (first < c .left) × (c .right < last)
+      → (c : Candidate) → List·Memᴰ c (allListed x ss runs levels ks) → (first < c .left) × (c .right < last)
   listed-inside p f c m = go (listed-source x ss runs levels ks c m)
     where
       go : Source x ss runs levels ks c → (first < c .left) × (c .right < last)

@@ -6,7 +6,7 @@ use Prim.Native.Nat.{ℕ, _≤_, _<_}
 use lib.Ieee.{Float}
 use Rattle.grid.specs.declared.boundary.FrameGrid.{FrameGrid}
 use Rattle.candidate_span.specs.declared.spacing.Spacing.{Spacing}
-use Rattle.candidate_span.specs.Listed.{Listed}
+use Rattle.candidate_span.specs.ListedLaws.{Listed}
 use Rattle.candidate_span.specs.Span.{firstOf, lastOf}
 use Rattle.candidate_span.specs.KeptIn.{Outside}
 use Rattle.candidate_points.specs.Blocked.{isBlocked}

@@ -1,13 +1,12 @@
 -- The candidates of a plan in their order: from one end of the span to the other, each apart from the next, in boundaries and in samples.
-use mathlib.Core.Path.{_≡_, refl, sym, ap, _∙_}
-use mathlib.Core.Logic.{_⊎_, inl, inr}
+use mathlib.Core.Path.{_≡_, refl, ap, _∙_}
+use mathlib.Core.Logic.{inl, inr}
 use mathlib.Core.List.{List, [], _∷_, _++_, List·Memᴰ}
 use Prim.Native.Nat.{ℕ, zero, suc, _-_, _≤_, _<_}
 use native.Mathlib.Nat.{le-of-eq, le-of-lt, eq-or-lt-of-le}
 use native.Mathlib.Omega.{arith}
 use lib.Ieee.{Float}
 use lib.ListN.{length, length-append}
-use Rattle.base_laws.specs.Tests.{lt-or-le}
 use Rattle.grid.specs.declared.boundary.FrameGrid.{FrameGrid}
 use Rattle.grid.specs.Boundary.{boundaryOf}
 use Rattle.grid.specs.BoundaryLaws.{Accepted, boundary-above}
@@ -15,10 +14,10 @@ use Rattle.candidate_span.specs.Kept.{boundaries}
 use Rattle.candidate_span.specs.SpanLaws.{ends-order}
 use Rattle.candidates.specs.declared.candidate.Candidate.{Candidate}
 use Rattle.candidates.specs.declared.context.Context.{Context}
-use Rattle.candidates.specs.Candidates.{node, listedOf, survivors, candidatesOf}
+use Rattle.candidates.specs.Candidates.{node, allListed, survivors, candidatesOf}
 use Rattle.candidates.specs.Members.{candidateAt}
 use Rattle.candidates.specs.Sources.{Planned, Source, own, point, listed-source, point-ends, own-inside, sources-apart}
-use Rattle.candidates.specs.Spaced.{Spaced, Apart, survivors-spaced, spaced-within, spaced-apart, survivors-few}
+use Rattle.candidates.specs.Row.{InRow, Apart, survivors-in-row, row-within, row-apart, survivors-few}
 
 snoc-last : (c : Candidate) (cs : List Candidate) (d : Candidate) → candidateAt (c ∷ (cs ++ (d ∷ []))) (length (cs ++ (d ∷ []))) ≡ d
 snoc-last c [] d = refl
@@ -31,7 +30,7 @@ module _ (x : Context) (ss runs : List ℕ) (levels : List Float) (ks : List ℕ
 
   -- the survivors between the two ends
   abbrev pub between : List Candidate
-  between = survivors (listedOf x ss runs levels ks) (boundaries first (last - suc first))
+  between = survivors (allListed x ss runs levels ks) (boundaries first (last - suc first))
 
   -- the first candidate is the span's first end
   pub candidates-first : candidateAt cs 0 ≡ node first
@@ -51,7 +50,7 @@ module _ (x : Context) (ss runs : List ℕ) (levels : List Float) (ks : List ℕ
   -- and one for each boundary of the span at most
   pub candidates-few : first < last → length cs ≤ suc (last - first)
   unfolding candidatesOf
-  candidates-few h = omega (arith, length-append between (node last ∷ []), survivors-few (listedOf x ss runs levels ks) (last - suc first) first)
+  candidates-few h = omega (arith, length-append between (node last ∷ []), survivors-few (allListed x ss runs levels ks) (last - suc first) first)
 
   module _ (p : Planned x ss levels ks first last) where
     -- the ends of the span are in order, and within the frame count
@@ -66,42 +65,34 @@ module _ (x : Context) (ss runs : List ℕ) (levels : List Float) (ks : List ℕ
         let q : c .right ≡ k = ap (λ (d : Candidate). d .right) e ∙ r .1 in
         (omega arith, omega arith)
 
-    all-apart : Apart (listedOf x ss runs levels ks) first last
+    all-apart : Apart (allListed x ss runs levels ks) first last
     all-apart =
         record {
-          inside = λ (c : Candidate) (m : List·Memᴰ c (listedOf x ss runs levels ks)) (f : first < c .left) (l : c .left < last). source-inside c (listed-source x ss runs levels ks c m) l;
-          later = λ (c d : Candidate) (m : List·Memᴰ c (listedOf x ss runs levels ks)) (n : List·Memᴰ d (listedOf x ss runs levels ks)) (f : first < c .left) (h : c .left < d .left) (l : d .left < last).
+          inside = λ (c : Candidate) (m : List·Memᴰ c (allListed x ss runs levels ks)) (f : first < c .left) (l : c .left < last). source-inside c (listed-source x ss runs levels ks c m) l;
+          later = λ (c d : Candidate) (m : List·Memᴰ c (allListed x ss runs levels ks)) (n : List·Memᴰ d (allListed x ss runs levels ks)) (f : first < c .left) (h : c .left < d .left) (l : d .left < last).
               sources-apart x ss runs levels ks first last p c d (listed-source x ss runs levels ks c m) (listed-source x ss runs levels ks d n) h (omega arith) l;
         }
 
-    spaced : Spaced first between last
-    spaced = survivors-spaced (listedOf x ss runs levels ks) first last all-apart (span-ends .0)
+    spaced : InRow first between last
+    spaced = survivors-in-row (allListed x ss runs levels ks) first last all-apart (span-ends .0)
 
     -- each candidate's ends are boundaries of the span
     pub candidate-within : (i : ℕ) → i < length cs
         → (first ≤ candidateAt cs i .left) × (candidateAt cs i .left ≤ candidateAt cs i .right) × (candidateAt cs i .right ≤ last)
     unfolding candidatesOf
     candidate-within zero h = (omega arith, omega arith, omega (arith, span-ends .0))
-    candidate-within (suc i) h = let w = spaced-within last (node 0) first between i spaced (omega arith) in (omega (arith, w .0), w .1, w .2)
+    candidate-within (suc i) h = let w = row-within last (node 0) first between i spaced (omega arith) in (omega (arith, w .0), w .1, w .2)
 
     -- a candidate ends before any later one starts
     pub candidates-apart : (i j : ℕ) → i < j → j < length cs → candidateAt cs i .right < candidateAt cs j .left
     unfolding candidatesOf
     candidates-apart i zero h l = absurd (omega arith)
-    candidates-apart zero (suc j) h l = spaced-within last (node 0) first between j spaced (omega arith) .0
-    candidates-apart (suc i) (suc j) h l = spaced-apart last (node 0) first between i j spaced (omega arith) (omega arith)
+    candidates-apart zero (suc j) h l = row-within last (node 0) first between j spaced (omega arith) .0
+    candidates-apart (suc i) (suc j) h l = row-apart last (node 0) first between i j spaced (omega arith) (omega arith)
 
     -- so left ends rise strictly
     pub candidates-rise : (i j : ℕ) → i < j → j < length cs → candidateAt cs i .left < candidateAt cs j .left
     candidates-rise i j h l = omega (arith, candidate-within i (omega arith) .1, candidates-apart i j h l)
-
-    -- of two candidates one ends before the other starts
-    pub candidates-aside : (i j : ℕ) → i < length cs → j < length cs → (i ≡ j → ⊥)
-        → (candidateAt cs i .right < candidateAt cs j .left) ⊎ (candidateAt cs j .right < candidateAt cs i .left)
-    candidates-aside i j h l d = elim (lt-or-le i j) [
-      | inl q ↦ inl (candidates-apart i j q l)
-      | inr q ↦ elim (eq-or-lt-of-le q) [ inl e ↦ absurd (d (sym e)) | inr g ↦ inr (candidates-apart j i g h) ]
-    ]
 
     -- ---- in samples
 

@@ -11,11 +11,12 @@ use Rattle.base_laws.specs.Tests.{lt-or-le}
 use Rattle.candidate_span.specs.declared.bounds.Bounds.{Bounds}
 use Rattle.candidate_span.specs.Bounds.{lowOf, highOf, boundsOf}
 use Rattle.candidate_span.specs.BoundsLaws.{low-within, high-within}
-use Rattle.candidate_span.specs.Listed.{count, startAt, endAt, Listed}
+use Rattle.candidate_span.specs.Listed.{count, startAt, endAt}
+use Rattle.candidate_span.specs.ListedLaws.{Listed}
 use Rattle.candidate_span.specs.ListedLaws.{listed-own, listed-apart, listed-within}
 use Rattle.candidate_points.specs.Blocked.{touches}
 use Rattle.candidate_points.specs.BlockedLaws.{touches-out}
-use Rattle.candidate_points.specs.Flags.{or-no}
+use Rattle.candidate_points.specs.FlagsLaws.{or-no}
 use Rattle.candidates.specs.declared.context.Context.{Context}
 use Rattle.candidates.specs.Candidates.{pausesBy, inPause}
 

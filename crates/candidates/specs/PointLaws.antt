@@ -4,7 +4,8 @@ use mathlib.Core.List.{List}
 use Prim.Native.Nat.{ℕ, _-_, _≤_, _<_}
 use lib.Ieee.{Float, nan}
 use lib.ListN.{length, getD}
-use Rattle.candidate_span.specs.Listed.{count, startAt, endAt, Listed}
+use Rattle.candidate_span.specs.Listed.{count, startAt, endAt}
+use Rattle.candidate_span.specs.ListedLaws.{Listed}
 use Rattle.candidate_costs.specs.Cost.{cutCost}
 use Rattle.candidate_costs.specs.Stretch.{stretchAt, secsOf}
 use Rattle.candidate_cuts.specs.declared.cut.SilenceCut.{SilenceCut}

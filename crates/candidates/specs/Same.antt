@@ -10,7 +10,7 @@ use Rattle.candidate_span.specs.Kept.{boundaries}
 use Rattle.candidate_points.specs.Points.{isIn}
 use Rattle.candidates.specs.declared.candidate.Candidate.{Candidate}
 use Rattle.candidates.specs.declared.context.Context.{Context}
-use Rattle.candidates.specs.Candidates.{node, pointAt, ownFrom, listedOf, withLeft, cheaper, cheapestOf, cheapest, survivors, candidatesOf}
+use Rattle.candidates.specs.Candidates.{node, pointAt, ownFrom, allListed, withLeft, cheaper, cheapestOf, cheapest, survivors, candidatesOf}
 use Rattle.candidates.specs.SurvivorsLaws.{left-append, points-beside, points-alone}
 
 -- the cheapest of some and more is that of the first and the others
@@ -21,8 +21,8 @@ cheapest-append c (d ∷ cs) ds = cheapest-append (cheaper c d) cs ds
 
 module _ (x : Context) (ss runs : List ℕ) (levels : List Float) where
   -- what survives at a boundary
-  pub survivor-same : (ks js : List ℕ) (k : ℕ) → isIn ks k ≡ isIn js k → cheapest (withLeft k (listedOf x ss runs levels ks)) ≡ cheapest (withLeft k (listedOf x ss runs levels js))
-  unfolding listedOf
+  pub survivor-same : (ks js : List ℕ) (k : ℕ) → isIn ks k ≡ isIn js k → cheapest (withLeft k (allListed x ss runs levels ks)) ≡ cheapest (withLeft k (allListed x ss runs levels js))
+  unfolding allListed
   survivor-same ks js k e =
       let cs = ownFrom x ss levels (count ss) 0 in
       rw (left-append k cs (map (pointAt x ss runs levels) ks), left-append k cs (map (pointAt x ss runs levels) js)) (go (withLeft k cs))
@@ -37,7 +37,7 @@ module _ (x : Context) (ss runs : List ℕ) (levels : List Float) where
           ∙ sym (cheapest-append c cs (withLeft k (map (pointAt x ss runs levels) js)) ∙ points-beside x ss runs levels k js (cheapestOf c cs)))
 
   survivors-same : (ks js : List ℕ) (n a : ℕ) → ((k : ℕ) → a < k → k ≤ a + n → isIn ks k ≡ isIn js k)
-      → survivors (listedOf x ss runs levels ks) (boundaries a n) ≡ survivors (listedOf x ss runs levels js) (boundaries a n)
+      → survivors (allListed x ss runs levels ks) (boundaries a n) ≡ survivors (allListed x ss runs levels js) (boundaries a n)
   unfolding survivors boundaries
   survivors-same ks js zero a f = refl
   survivors-same ks js (suc n) a f =

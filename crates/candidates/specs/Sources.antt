@@ -18,7 +18,7 @@ use Rattle.candidate_cuts.specs.CutLaws.{cut-within}
 use Rattle.candidate_cuts.specs.CutsLaws.{Prepared, InnerAt, inner-cut, cut-inside, cuts-apart, cut-dropped}
 use Rattle.candidates.specs.declared.candidate.Candidate.{Candidate}
 use Rattle.candidates.specs.declared.context.Context.{Context}
-use Rattle.candidates.specs.Candidates.{pointAt, ownAt, ownFrom, listedOf}
+use Rattle.candidates.specs.Candidates.{pointAt, ownAt, ownFrom, allListed}
 use Rattle.candidates.specs.Members.{is-in, in-is}
 
 -- document 01's dropped gaps of a plan
@@ -67,8 +67,8 @@ module _ (x : Context) (ss runs : List ℕ) (levels : List Float) (ks : List ℕ
       here e = rw (e, t) (List·Memᴰ·head refl)
 
   -- every listed candidate has a source
-  pub listed-source : (c : Candidate) → List·Memᴰ c (listedOf x ss runs levels ks) → Source c
-  unfolding listedOf
+  pub listed-source : (c : Candidate) → List·Memᴰ c (allListed x ss runs levels ks) → Source c
+  unfolding allListed
   listed-source c m = go (List·Memᴰ·append-cases (ownFrom x ss levels (count ss) 0) m)
     where
       go : List·Memᴰ c (ownFrom x ss levels (count ss) 0) ⊎ List·Memᴰ c (map (pointAt x ss runs levels) ks) → Source c
@@ -76,8 +76,8 @@ module _ (x : Context) (ss runs : List ℕ) (levels : List Float) (ks : List ℕ
       go (inr i) = let p = Memᴰ·of-map (pointAt x ss runs levels) ks i in point (p .0) (in-is ks (p .0) (p .1)) (sym (p .2))
 
   -- and whatever has one is listed
-  pub source-listed : (c : Candidate) → Source c → List·Memᴰ c (listedOf x ss runs levels ks)
-  unfolding listedOf
+  pub source-listed : (c : Candidate) → Source c → List·Memᴰ c (allListed x ss runs levels ks)
+  unfolding allListed
   source-listed c (own i a e) = rw e (Memᴰ·append-left (map (pointAt x ss runs levels) ks) (from-own (count ss) 0 i (omega arith) (omega (arith, a .listed)) (a .inner)))
   source-listed c (point k t e) = rw e (Memᴰ·append-right (ownFrom x ss levels (count ss) 0) (Memᴰ·map (pointAt x ss runs levels) (is-in ks k t)))
 

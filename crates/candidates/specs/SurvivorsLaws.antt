@@ -12,7 +12,7 @@ use Rattle.candidate_span.specs.Listed.{count, startAt, endAt}
 use Rattle.candidate_points.specs.Points.{isIn}
 use Rattle.candidates.specs.declared.candidate.Candidate.{Candidate}
 use Rattle.candidates.specs.declared.context.Context.{Context}
-use Rattle.candidates.specs.Candidates.{pointAt, ownAt, ownFrom, listedOf, withLeft, cheaper, cheapestOf, cheapest}
+use Rattle.candidates.specs.Candidates.{pointAt, ownAt, ownFrom, allListed, withLeft, cheaper, cheapestOf, cheapest}
 
 -- ---- the cheaper of two
 
@@ -137,15 +137,15 @@ module _ (x : Context) (ss : List ℕ) (levels : List Float) where
 module _ (x : Context) (ss runs : List ℕ) (levels : List Float) (ks : List ℕ) (k : ℕ) where
   -- where no silence has its own candidate: the point, if one stands there
   pub survivor-point : ((j : ℕ) → j < count ss → IsOwn x ss levels j → leftAt x ss levels j ≡ k → ⊥)
-      → cheapest (withLeft k (listedOf x ss runs levels ks)) ≡ cond (isIn ks k) (pointAt x ss runs levels k ∷ []) []
-  unfolding listedOf
+      → cheapest (withLeft k (allListed x ss runs levels ks)) ≡ cond (isIn ks k) (pointAt x ss runs levels k ∷ []) []
+  unfolding allListed
   survivor-point f =
       rw (left-append k, own-none x ss levels k (count ss) 0 (λ (j : ℕ) (a : 0 ≤ j) (b : j < 0 + count ss). f j (omega arith))) (points-alone x ss runs levels k ks)
 
   -- where silence i has it: this one, or the point if that is cheaper
   pub survivor-own : (i : ℕ) → i < count ss → IsOwn x ss levels i → leftAt x ss levels i ≡ k
       → ((j : ℕ) → j < i → IsOwn x ss levels j → leftAt x ss levels j ≡ k → ⊥) → ((j : ℕ) → i < j → j < count ss → IsOwn x ss levels j → leftAt x ss levels j ≡ k → ⊥)
-      → cheapest (withLeft k (listedOf x ss runs levels ks)) ≡ cond (isIn ks k) (cheaper (ownAt x ss levels i) (pointAt x ss runs levels k)) (ownAt x ss levels i) ∷ []
-  unfolding listedOf cheapest
+      → cheapest (withLeft k (allListed x ss runs levels ks)) ≡ cond (isIn ks k) (cheaper (ownAt x ss levels i) (pointAt x ss runs levels k)) (ownAt x ss levels i) ∷ []
+  unfolding allListed cheapest
   survivor-own i h own at f g =
       rw (left-append k, own-one x ss levels k i h own at f g) (ap (λ (c : Candidate). c ∷ []) (points-beside x ss runs levels k ks (ownAt x ss levels i)))

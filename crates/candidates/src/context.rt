@@ -1,7 +1,7 @@
 // What candidates are made with, beside the recording's own lists: the Rust's `Context` with numbers for its references.
 use candidate_settings::config::Gap;
 use candidate_settings::config::Placement;
-use candidate_settings::config::Weights;
+use path_pieces::weights::Weights;
 
 pub struct Context {
     pub gap: Gap,

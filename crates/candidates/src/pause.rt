@@ -3,12 +3,12 @@ use crate::context::Context;
 use candidate_span::bounds;
 use candidate_span::listed;
 ghost use mathlib.Core.Path.{_≡_};
-ghost use Rattle.candidate_span.specs.Listed.{Listed};
+ghost use Rattle.candidate_span.specs.ListedLaws.{Listed};
 ghost use Rattle.candidates.specs.Candidates.{inPause};
 ghost use Rattle.candidates.specs.PauseLaws.{EndsRise, Ending};
 
 // The first silence that does not end before boundary k, or the number of silences.
-fn first_ending(silences: &[u32], k: usize) -> usize
+pub fn first_ending(silences: &[u32], k: usize) -> usize
     requires { ⌜ EndsRise (now silences) ⌝ }
     ensures { λ r. ⌜ Ending (now (silences .entry)) k r ⌝ }
 {

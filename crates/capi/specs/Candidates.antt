@@ -1,23 +1,24 @@
 -- What the exported operation "candidate list" leaves: its number, and everything that was lent to be written.
 use Prim.Native.Nat.{ℕ}
 use mathlib.Core.Bool.{Bool, true, false, cond}
-use mathlib.Core.List.{List}
 use lib.Dec.{eqb}
 use lib.Ieee.{Float, nan}
+use Rattle.base_terms.specs.Work.{Work}
 use Rattle.candidate_settings.specs.declared.config.Gap.{Gap}
 use Rattle.candidate_settings.specs.declared.config.Gap.the-variants.{Keep, Drop}
 use Rattle.candidate_settings.specs.declared.config.Placement.{Placement}
 use Rattle.candidate_settings.specs.declared.config.Placement.the-variants.{Quietest, Center, Ratio}
-use Rattle.candidate_settings.specs.declared.config.Weights.{Weights}
+use Rattle.path_pieces.specs.declared.weights.Weights.{Weights}
 use Rattle.candidate_settings.specs.declared.config.PlanConfig.{PlanConfig}
-use Rattle.candidate_list.specs.CandidateList.{End, numberOf}
+use Rattle.candidate_list.specs.CandidateList.{Output, End, numberOf}
 use Rattle.candidate_list.specs.declared.list.Answer.{Answer}
 use Rattle.candidate_list.specs.declared.list.Answer.the-variants.{Found, Refused, ShortOutput}
-use Rattle.capi.specs.Paths.{modeOf}
+use Rattle.capi.specs.Modes.{modeOf}
 
-abbrev pub gapOf : Bool → Gap
-gapOf true = Drop
-gapOf false = Keep
+-- C hands the gap setting over as whether gaps are dropped
+abbrev pub gapSetting : Bool → Gap
+gapSetting true = Drop
+gapSetting false = Keep
 
 abbrev pub pickPlacement : Bool → Placement → Placement → Placement
 pickPlacement test a b = cond test a b
@@ -36,7 +37,7 @@ planOf least target most byCount count dropGaps kind ratio weights = record {
   target = target;
   max = most;
   mode = modeOf byCount count;
-  gap = gapOf dropGaps;
+  gap = gapSetting dropGaps;
   placement = placementOf kind ratio;
   weights = weights;
 }
@@ -50,20 +51,12 @@ foundAfter ShortOutput before = before
 pub record ListCalled : Type 0 where
   pub number : ℕ
   pub found : ℕ
-  pub ends : List ℕ
-  pub costs : List Float
-  pub work32 : List ℕ
-  pub work64 : List ℕ
-  pub workf : List Float
+  pub out : Output
+  pub work : Work
+
+abbrev pub listCalled : ℕ → ℕ → Output → Work → ListCalled
+listCalled number found out work = record { number = number; found = found; out = out; work = work }
 
 -- the operation's end, as C sees it
 unfoldable pub listCalledOf : End → ℕ → ListCalled
-listCalledOf e before = record {
-  number = numberOf (e .answer);
-  found = foundAfter (e .answer) before;
-  ends = e .ends;
-  costs = e .costs;
-  work32 = e .work32;
-  work64 = e .work64;
-  workf = e .workf;
-}
+listCalledOf e before = listCalled (numberOf (e .answer)) (foundAfter (e .answer) before) (e .out) (e .work)

@@ -1,60 +1,55 @@
 -- What the exported operation "path over lent candidates" leaves: its number, and everything that was lent to be written.
 use Prim.Native.Nat.{ℕ}
-use mathlib.Core.Bool.{Bool, cond}
 use mathlib.Core.List.{List}
 use lib.Ieee.{Float}
-use Rattle.path_pieces.specs.declared.mode.Mode.{Mode}
-use Rattle.path_pieces.specs.declared.mode.Mode.the-variants.{ByLength, ByCount}
+use Rattle.base_terms.specs.Work.{Work}
+use Rattle.path_pieces.specs.Pieces.{lengthWeights}
+use Rattle.path_pieces.specs.declared.lengths.Lengths.{Lengths}
 use Rattle.path_list.specs.Operation.{End, numberOf}
 use Rattle.path_list.specs.declared.seek.Answer.{Answer}
 use Rattle.path_list.specs.declared.seek.Answer.the-variants.{Found, Refused, ShortParent, ShortPath}
 
--- C hands the mode over as whether a count is asked for, and the count
-abbrev pub modeOf : Bool → ℕ → Mode
-modeOf by-count count = cond by-count (ByCount count) ByLength
+-- C hands the length preferences over as five numbers
+abbrev pub lengthsOf : Float → Float → ℕ → Float → Float → Lengths
+lengthsOf min target limit targetWeight shortWeight =
+    record { min = min; target = target; limit = limit; weights = lengthWeights targetWeight shortWeight }
 
 -- the number of the path's candidates where there is one, and else what stood there
 abbrev pub lengthAfter : Answer → ℕ → ℕ
 lengthAfter (Found s) before = s .len
-lengthAfter (Refused v) before = before
+lengthAfter (Refused r) before = before
 lengthAfter ShortParent before = before
 lengthAfter ShortPath before = before
 
 -- its pieces over the limit
 abbrev pub overAfter : Answer → ℕ → ℕ
 overAfter (Found s) before = s .score .over
-overAfter (Refused v) before = before
+overAfter (Refused r) before = before
 overAfter ShortParent before = before
 overAfter ShortPath before = before
 
 -- its cost
 abbrev pub costAfter : Answer → Float → Float
 costAfter (Found s) before = s .score .cost
-costAfter (Refused v) before = before
+costAfter (Refused r) before = before
 costAfter ShortParent before = before
 costAfter ShortPath before = before
 
+-- what a call leaves: its number, the path's length and score, and every list that was lent to be written
 pub record PathCalled : Type 0 where
   pub number : ℕ
   pub length : ℕ
   pub over : ℕ
   pub cost : Float
   pub path : List ℕ
-  pub work32 : List ℕ
-  pub work64 : List ℕ
-  pub workf : List Float
+  pub work : Work
   pub parent : List ℕ
 
--- the operation's end, as C sees it
+abbrev pub pathCalled : ℕ → ℕ → ℕ → Float → List ℕ → Work → List ℕ → PathCalled
+pathCalled number length over cost path work parent =
+    record { number = number; length = length; over = over; cost = cost; path = path; work = work; parent = parent }
+
+-- the operation's end, as C sees it; length, over and cost are what stood there before
 unfoldable pub pathCalledOf : End → ℕ → ℕ → Float → PathCalled
-pathCalledOf e length over cost = record {
-  number = numberOf (e .answer);
-  length = lengthAfter (e .answer) length;
-  over = overAfter (e .answer) over;
-  cost = costAfter (e .answer) cost;
-  path = e .path;
-  work32 = e .work32;
-  work64 = e .work64;
-  workf = e .workf;
-  parent = e .parent;
-}
+pathCalledOf e length over cost =
+    pathCalled (numberOf (e .answer)) (lengthAfter (e .answer) length) (overAfter (e .answer) over) (costAfter (e .answer) cost) (e .path) (e .work) (e .parent)

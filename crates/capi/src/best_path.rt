@@ -3,9 +3,12 @@ use path_list::operation;
 use path_list::seek::Answer;
 use path_pieces::lengths::Lengths;
 use path_pieces::mode::Mode;
+use path_pieces::weights;
 ghost use mathlib.Core.Path.{_≡_};
 ghost use Rattle.path_list.specs.Operation.{pathOf};
-ghost use Rattle.capi.specs.Paths.{modeOf, lengthAfter, overAfter, costAfter, PathCalled, pathCalledOf};
+ghost use Rattle.base_terms.specs.Work.{workOf};
+ghost use Rattle.capi.specs.Modes.{modeOf};
+ghost use Rattle.capi.specs.Paths.{lengthsOf, lengthAfter, overAfter, costAfter, pathCalled, pathCalledOf};
 
 // By length, or by this count.
 pub fn mode_of(by_count: bool, count: u32) -> Mode
@@ -53,7 +56,8 @@ fn cost_after(answer: Answer, before: f64) -> f64
     }
 }
 
-// 0 where a path was found, and else document 01's number. The path's candidates stand at the front of `path`, `length` of them, and its score in `over` and `score_cost`.
+// 0 where a path was found, and else document 01's number. The path's candidates stand at the front of `path`, `length` of them, and its score in `over`
+// and `score_cost`.
 #[no_mangle]
 pub extern "C" fn buchawzer_path(
     left: &[u64],
@@ -75,14 +79,24 @@ pub extern "C" fn buchawzer_path(
     over: &mut u32,
     score_cost: &mut f64,
 ) -> u32
-    ensures { λ r. ⌜ _≡_ {A = PathCalled} (record { number = r; length = now (length .exit); over = now (over .exit); cost = now («score_cost» .exit); path = now (path .exit); work32 = now («work_u32» .exit); work64 = now («work_u64» .exit); workf = now («work_f64» .exit); parent = now (parent .exit) }) (pathCalledOf (pathOf (record { min = min; target = target; limit = limit; «target_weight» = «target_weight»; «short_weight» = «short_weight» }) (now (left .entry)) (now (right .entry)) (now (cost .entry)) (modeOf «by_count» count) (now (path .entry)) (now («work_u32» .entry)) (now («work_u64» .entry)) (now («work_f64» .entry)) (now (parent .entry))) (now (length .entry)) (now (over .entry)) (now («score_cost» .entry))) ⌝ }
+    ensures { λ r. ⌜
+        pathCalled r (now (length .exit)) (now (over .exit)) (now («score_cost» .exit)) (now (path .exit))
+        (workOf (now («work_u32» .exit)) (now («work_u64» .exit)) (now («work_f64» .exit)))
+        (now (parent .exit))
+        ≡ pathCalledOf
+        (pathOf (lengthsOf min target limit «target_weight» «short_weight»)
+        (now (left .entry)) (now (right .entry)) (now (cost .entry))
+        (modeOf «by_count» count) (now (path .entry))
+        (workOf (now («work_u32» .entry)) (now («work_u64» .entry)) (now («work_f64» .entry)))
+        (now (parent .entry)))
+        (now (length .entry)) (now (over .entry)) (now («score_cost» .entry))
+        ⌝ }
 {
     let lengths = Lengths {
         min,
         target,
         limit,
-        target_weight,
-        short_weight,
+        weights: weights::length_weights(target_weight, short_weight),
     };
     let answer = operation::best_path(
         left,

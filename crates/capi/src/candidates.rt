@@ -7,15 +7,19 @@ use candidate_list::list::Answer;
 use candidate_settings::config::Gap;
 use candidate_settings::config::Placement;
 use candidate_settings::config::PlanConfig;
-use candidate_settings::config::Weights;
+use path_pieces::weights::Weights;
 ghost use mathlib.Core.Path.{_≡_};
-ghost use Rattle.candidate_list.specs.CandidateList.{candidateListOf};
+ghost use lib.Dec.{T};
+ghost use lib.Ieee.{binary64, fits};
+ghost use Rattle.base_terms.specs.Work.{workOf};
+ghost use Rattle.plan_tests.specs.Fitting.{Fitting};
+ghost use Rattle.candidate_list.specs.CandidateList.{outputOf, candidateListOf};
 ghost use Rattle.capi.specs.Grid.{recordingOf};
 ghost use Rattle.capi.specs.Silences.{segmentOf};
-ghost use Rattle.capi.specs.Candidates.{gapOf, placementOf, weightsOf, planOf, foundAfter, ListCalled, listCalledOf};
+ghost use Rattle.capi.specs.Candidates.{gapSetting, placementOf, weightsOf, planOf, foundAfter, listCalled, listCalledOf};
 
-fn gap_of(drop_gaps: bool) -> Gap
-    ensures { λ r. ⌜ r ≡ gapOf «drop_gaps» ⌝ }
+fn gap_setting(drop_gaps: bool) -> Gap
+    ensures { λ r. ⌜ r ≡ gapSetting «drop_gaps» ⌝ }
 {
     if drop_gaps {
         return Gap::Drop;
@@ -71,7 +75,7 @@ fn plan_of(
         target,
         max,
         mode: best_path::mode_of(by_count, count),
-        gap: gap_of(drop_gaps),
+        gap: gap_setting(drop_gaps),
         placement: placement_of(placement_kind, ratio),
         weights,
     }
@@ -88,7 +92,8 @@ fn found_after(answer: Answer, before: u64) -> u64
     }
 }
 
-// 0 where the list was made, and else document 01's number. Candidate i has its left boundary at ends[3 i], its right boundary at ends[3 i + 1], its reason (0 silence, 1 quiet, 2 forced) at ends[3 i + 2] and its cost at costs[i].
+// 0 where the list was made, and else document 01's number. Candidate i has its left boundary at ends[3 i], its right boundary at ends[3 i + 1],
+// its reason (0 silence, 1 quiet, 2 forced) at ends[3 i + 2] and its cost at costs[i].
 #[no_mangle]
 pub extern "C" fn buchawzer_candidates(
     sample_rate: u32,
@@ -127,7 +132,21 @@ pub extern "C" fn buchawzer_candidates(
     costs: &mut [f64],
     found: &mut u64,
 ) -> u32
-    ensures { λ r. ⌜ _≡_ {A = ListCalled} (record { number = r; found = now (found .exit); ends = now (ends .exit); costs = now (costs .exit); work32 = now («work_u32» .exit); work64 = now («work_u64» .exit); workf = now («work_f64» .exit) }) (listCalledOf (candidateListOf (recordingOf «sample_rate» channels «frame_rate» hop len decibels) (segmentOf «threshold_kind» threshold «min_silence» «min_sound» pre tail) (planOf min target max «by_count» count «drop_gaps» «placement_kind» ratio (weightsOf cut level pause «pause_ref» «target_weight» «short_weight»)) (now (values .entry)) (now (flags .entry)) (now (levels .entry)) (now (ends .entry)) (now (costs .entry)) (now («work_u32» .entry)) (now («work_u64» .entry)) (now («work_f64» .entry))) (now (found .entry))) ⌝ }
+    ensures { λ r. ⌜ listCalled r (now (found .exit))
+        (outputOf (now (ends .exit)) (now (costs .exit)))
+        (workOf (now («work_u32» .exit)) (now («work_u64» .exit)) (now («work_f64» .exit)))
+        ≡ listCalledOf
+        (candidateListOf
+        (recordingOf «sample_rate» channels «frame_rate» hop len decibels)
+        (segmentOf «threshold_kind» threshold «min_silence» «min_sound» pre tail)
+        (planOf min target max «by_count» count «drop_gaps» «placement_kind» ratio
+        (weightsOf cut level pause «pause_ref» «target_weight» «short_weight»))
+        (now (values .entry)) (now (flags .entry)) (now (levels .entry))
+        (outputOf (now (ends .entry)) (now (costs .entry)))
+        (workOf (now («work_u32» .entry)) (now («work_u64» .entry)) (now («work_f64» .entry))))
+        (now (found .entry)) ⌝ }
+    ensures { λ _. ⌜ Fitting (now (values .entry)) (now (levels .entry)) ⌝ }
+    ensures { λ _. ⌜ T (fits binary64 cut) ⌝ }
 {
     let r = recording::recording_of(sample_rate, channels, frame_rate, hop, len, decibels);
     let segment = silences::segment_of(

@@ -6,38 +6,35 @@ ghost use mathlib.Core.Path.{_≡_};
 ghost use mathlib.Core.Bool.{_&&_};
 ghost use Rattle.grid.specs.Boundary.{boundaryOf, covers};
 ghost use Rattle.grid.specs.Durations.{framesIn, framesCeil, framesFloor, samplesFloor, samplesIn, secondsOf, frameSecs};
-ghost use Rattle.capi.specs.Grid.{framesArgs, samplesArgs, gridArgs, numberIf, floatIf};
+ghost use Rattle.capi.specs.Grid.{framesArgs, samplesArgs, gridArgs, numberIf, floatIf, gridWith};
 
 const NO_NUMBER: u64 = 18_446_744_073_709_551_615;
 
 fn frames_args(frame_rate: u32, hop: u32, nanos: u64) -> bool
     ensures { λ r. ⌜ r ≡ framesArgs «frame_rate» hop nanos ⌝ }
 {
-    if !validate::within(frame_rate, validate::MAX_FRAME_RATE) {
+    if !validate::frame_step_ok(frame_rate, hop) {
         return false;
     }
-    if !validate::within(hop, validate::MAX_HOP) {
-        return false;
-    }
-    nanos <= durations::MAX_DURATION
+    durations::duration_ok(nanos)
 }
 
 fn samples_args(sample_rate: u32, nanos: u64) -> bool
     ensures { λ r. ⌜ r ≡ samplesArgs «sample_rate» nanos ⌝ }
 {
-    if !validate::within(sample_rate, validate::MAX_RATE) {
+    if !validate::rate_ok(sample_rate) {
         return false;
     }
-    nanos <= durations::MAX_DURATION
+    durations::duration_ok(nanos)
 }
 
 fn grid_args(g: FrameGrid) -> bool
     ensures { λ r. ⌜ r ≡ gridArgs g ⌝ }
 {
-    if !validate::within(g.sample_rate, validate::MAX_RATE) {
+    if !validate::rate_ok(g.sample_rate) {
         return false;
     }
-    if !frames_args(g.frame_rate, g.hop, 0) {
+    if !validate::frame_step_ok(g.frame_rate, g.hop) {
         return false;
     }
     if validate::MAX_FRAMES < g.frames {
@@ -56,7 +53,10 @@ pub extern "C" fn buchawzer_boundary(
     frames: usize,
     k: usize,
 ) -> u64
-    ensures { λ r. ⌜ r ≡ numberIf (gridArgs (record { «sample_rate» = «sample_rate»; «frame_rate» = «frame_rate»; hop = hop; len = len; frames = frames })) (boundaryOf (record { «sample_rate» = «sample_rate»; «frame_rate» = «frame_rate»; hop = hop; len = len; frames = frames }) k) ⌝ }
+    ensures { λ r. ⌜
+        r ≡ numberIf (gridArgs (gridWith «sample_rate» «frame_rate» hop len frames))
+        (boundaryOf (gridWith «sample_rate» «frame_rate» hop len frames) k)
+        ⌝ }
 {
     let g = FrameGrid {
         sample_rate,
@@ -157,7 +157,10 @@ pub extern "C" fn buchawzer_covers(
     len: u64,
     frames: usize,
 ) -> bool
-    ensures { λ r. ⌜ r ≡ (gridArgs (record { «sample_rate» = «sample_rate»; «frame_rate» = «frame_rate»; hop = hop; len = len; frames = frames }) && covers (record { «sample_rate» = «sample_rate»; «frame_rate» = «frame_rate»; hop = hop; len = len; frames = frames })) ⌝ }
+    ensures { λ r. ⌜
+        r ≡ (gridArgs (gridWith «sample_rate» «frame_rate» hop len frames)
+        && covers (gridWith «sample_rate» «frame_rate» hop len frames))
+        ⌝ }
 {
     let g = FrameGrid {
         sample_rate,

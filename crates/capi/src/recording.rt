@@ -49,7 +49,10 @@ pub extern "C" fn buchawzer_validate(
     flags: &[u8],
     levels: &[f64],
 ) -> u32
-    ensures { λ r. ⌜ r ≡ refusalOf (validityOf (recordingOf «sample_rate» channels «frame_rate» hop len decibels) (now (values .entry)) (now (flags .entry)) (now (levels .entry))) ⌝ }
+    ensures { λ r. ⌜
+        r ≡ refusalOf (validityOf (recordingOf «sample_rate» channels «frame_rate» hop len decibels)
+        (now (values .entry)) (now (flags .entry)) (now (levels .entry)))
+        ⌝ }
 {
     let r = recording_of(sample_rate, channels, frame_rate, hop, len, decibels);
     grid::validate::refusal(r.validate(values, flags, levels))

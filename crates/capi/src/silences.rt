@@ -5,9 +5,10 @@ use silence_list::config::SegmentConfig;
 use silence_list::list;
 use silence_list::list::Answer;
 ghost use mathlib.Core.Path.{_≡_};
+ghost use Rattle.base_terms.specs.Work.{workOf};
 ghost use Rattle.silence_list.specs.Silences.{silenceListOf};
 ghost use Rattle.capi.specs.Grid.{recordingOf};
-ghost use Rattle.capi.specs.Silences.{thresholdOf, segmentOf, countAfter, Called, calledOf};
+ghost use Rattle.capi.specs.Silences.{thresholdOf, segmentOf, countAfter, silencesCalled, silencesCalledOf};
 
 // The threshold of a kind and a number. A kind that does not exist has no number, and is refused like one.
 fn threshold_of(kind: u8, v: f32) -> Threshold
@@ -51,15 +52,12 @@ fn count_after(answer: Answer, before: u64) -> u64
 {
     match answer {
         Answer::Found(n) => n as u64,
-        Answer::BadRecording(_) => before,
-        Answer::LongDuration => before,
-        Answer::BadThreshold => before,
-        Answer::ShortWork => before,
+        Answer::Refused(_) => before,
         Answer::ShortOutput => before,
     }
 }
 
-// 0 where the list was made, and else document 01's number. Silence i has its first frame at out[2 i] and the frame after its last at out[2 i + 1].
+// 0 where the list was made, and else document 01's number (`silences-called-zero`). Silence i has its first frame at out[2 i] and the frame after its last at out[2 i + 1].
 #[no_mangle]
 pub extern "C" fn buchawzer_silence_list(
     sample_rate: u32,
@@ -83,7 +81,16 @@ pub extern "C" fn buchawzer_silence_list(
     out: &mut [u32],
     count: &mut u64,
 ) -> u32
-    ensures { λ r. ⌜ _≡_ {A = Called} (record { number = r; count = now (count .exit); out = now (out .exit); work32 = now («work_u32» .exit); work64 = now («work_u64» .exit); workf = now («work_f64» .exit) }) (calledOf (silenceListOf (recordingOf «sample_rate» channels «frame_rate» hop len decibels) (segmentOf «threshold_kind» threshold «min_silence» «min_sound» pre tail) (now (values .entry)) (now (flags .entry)) (now (levels .entry)) (now (out .entry)) (now («work_u32» .entry)) (now («work_u64» .entry)) (now («work_f64» .entry))) (now (count .entry))) ⌝ }
+    ensures { λ r. ⌜
+        silencesCalled r (now (count .exit)) (now (out .exit))
+        (workOf (now («work_u32» .exit)) (now («work_u64» .exit)) (now («work_f64» .exit)))
+        ≡ silencesCalledOf
+        (silenceListOf (recordingOf «sample_rate» channels «frame_rate» hop len decibels)
+        (segmentOf «threshold_kind» threshold «min_silence» «min_sound» pre tail)
+        (now (values .entry)) (now (flags .entry)) (now (levels .entry)) (now (out .entry))
+        (workOf (now («work_u32» .entry)) (now («work_u64» .entry)) (now («work_f64» .entry))))
+        (now (count .entry))
+        ⌝ }
 {
     let r = recording::recording_of(sample_rate, channels, frame_rate, hop, len, decibels);
     let c = segment_of(threshold_kind, threshold, min_silence, min_sound, pre, tail);

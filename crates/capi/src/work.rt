@@ -1,7 +1,6 @@
 // Clearing work memory by itself, as every operation does it at its end: for the benchmark.
 ghost use mathlib.Core.Path.{_≡_};
-ghost use lib.Ieee.{binary64, ofBits};
-ghost use Rattle.base_terms.specs.Lists.{filled};
+ghost use Rattle.base_terms.specs.Work.{workOf, cleared};
 
 #[no_mangle]
 pub extern "C" fn buchawzer_clear_work(
@@ -9,9 +8,10 @@ pub extern "C" fn buchawzer_clear_work(
     work_u64: &mut [u64],
     work_f64: &mut [f64],
 )
-    ensures { λ _. ⌜ now («work_u32» .exit) ≡ filled 0 (now («work_u32» .entry)) ⌝ }
-    ensures { λ _. ⌜ now («work_u64» .exit) ≡ filled 0 (now («work_u64» .entry)) ⌝ }
-    ensures { λ _. ⌜ now («work_f64» .exit) ≡ filled (ofBits binary64 0) (now («work_f64» .entry)) ⌝ }
+    ensures { λ _. ⌜
+        workOf (now («work_u32» .exit)) (now («work_u64» .exit)) (now («work_f64» .exit))
+        ≡ cleared (workOf (now («work_u32» .entry)) (now («work_u64» .entry)) (now («work_f64» .entry)))
+        ⌝ }
 {
-    silence_list::list::clear_work(work_u32, work_u64, work_f64);
+    base_code::work::clear_work(work_u32, work_u64, work_f64);
 }

@@ -2,7 +2,7 @@
 -- `boundaryOf` and `covers` are what contracts cite; their laws are in BoundaryLaws.
 use Prim.Native.Nat.{ℕ, _+_, _-_, _*_, _/_, _≤_, _<_}
 use mathlib.Core.Bool.{Bool, _&&_, cond}
-use lib.Dec.{ltb, leb, eqb}
+use lib.Dec.{ltb, eqb}
 use Rattle.grid.specs.Limits.{maxRate, maxHop, maxFrames}
 use Rattle.grid.specs.declared.boundary.FrameGrid.{FrameGrid}
 

@@ -1,14 +1,14 @@
 -- Boundaries rise strictly up to the frame count in an accepted recording: each frame holds a sample at least, and the last one starts before the length.
-use mathlib.Core.Path.{_≡_, refl, sym, ap, subst, _∙_}
-use mathlib.Core.Logic.{_⊎_, inl, inr}
+use mathlib.Core.Path.{_≡_, sym, ap, subst, _∙_}
+use mathlib.Core.Logic.{inl, inr}
 use mathlib.Core.Bool.{Bool, true, false, not, _&&_, cond}
 use Prim.Native.Nat.{ℕ, zero, suc, _+_, _-_, _*_, _/_, _≤_, _<_}
-use native.Mathlib.Nat.{le-refl, le-trans, le-of-lt, lt-trans, eq-or-lt-of-le, add-le-add, le-of-eq, not-le-of-lt, suc-mul, div-mul-le-self, le-div-iff-mul-le, zero-mul, zero-div}
+use native.Mathlib.Nat.{le-refl, le-of-lt, lt-trans, eq-or-lt-of-le, add-le-add, le-of-eq, not-le-of-lt, suc-mul, div-mul-le-self, le-div-iff-mul-le, zero-mul, zero-div}
 use native.Mathlib.Numerals.{add-one}
 use native.Mathlib.Omega.{arith}
 use lib.Dec.{T, ltb, eqb, ltb→lt, eqb→eq}
 use lib.Ieee.Fits.{and-l, and-r}
-use borrow.Author.Tests.{lt-ltb, le-ltb, eq-eqb, ne-eqb}
+use borrow.Author.Tests.{lt-ltb, le-ltb}
 use Rattle.base_laws.specs.Tests.{lt-or-le}
 use Rattle.grid.specs.declared.boundary.FrameGrid.{FrameGrid}
 use Rattle.grid.specs.Boundary.{Bounded, startOf, boundaryOf, covers}
@@ -100,4 +100,14 @@ pub boundary-le-len : (g : FrameGrid) → Accepted g → (k : ℕ) → boundaryO
 boundary-le-len g a k = elim (lt-or-le k (g .frames)) [
   | inl h ↦ le-of-lt (subst (λ (m : ℕ). boundaryOf g k < m) (boundary-last g (g .frames) (le-refl (g .frames))) (boundary-above g a k (g .frames) h (le-refl (g .frames))))
   | inr h ↦ le-of-eq (boundary-last g k h)
+]
+
+-- boundaries never fall, whatever their number
+pub boundary-mono : (g : FrameGrid) → Accepted g → (j k : ℕ) → j ≤ k → boundaryOf g j ≤ boundaryOf g k
+boundary-mono g a j k h = elim (lt-or-le k (g .frames)) [
+  | inl b ↦ elim (eq-or-lt-of-le h) [
+    | inl e ↦ le-of-eq (ap (boundaryOf g) e)
+    | inr l ↦ le-of-lt (boundary-above g a j k l (le-of-lt b))
+  ]
+  | inr e ↦ subst (λ (m : ℕ). boundaryOf g j ≤ m) (sym (boundary-last g k e)) (boundary-le-len g a j)
 ]

@@ -1,8 +1,14 @@
 -- Durations in nanoseconds as frames, samples, or seconds. Each is over the exact product of naturals.
 use Prim.Native.Nat.{ℕ, _+_, _-_, _*_, _/_, _%_, _≤_, _<_}
+use mathlib.Core.Bool.{Bool}
+use lib.Dec.{leb}
 use lib.IntN.{pos}
 use lib.Ieee.{Float, binary64, add, div, ofInt}
 use Rattle.grid.specs.Limits.{maxRate, maxFrameRate, maxHop, maxDuration, nanosPerSec}
+
+-- 7: a duration is at most 24 hours
+abbrev pub durationOk : ℕ → Bool
+durationOk ns = leb ns maxDuration
 
 -- what a conversion to frames needs to fit in 64 bits: test 3 has passed, and the duration is within refusal 7's limit
 pub record InFrames (frameRate hop ns : ℕ) : Type 0 where

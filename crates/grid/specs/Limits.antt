@@ -1,5 +1,5 @@
 -- Document 01's limits on a recording, each with its name. A change request that moves one moves it here.
-use Prim.Native.Nat.{ℕ, _^_}
+use Prim.Native.Nat.{ℕ}
 
 -- refusal 1: the highest sample rate
 abbrev pub maxRate : ℕ
@@ -15,10 +15,6 @@ maxHop = 1048576
 -- refusal 4: the most frames
 abbrev pub maxFrames : ℕ
 maxFrames = 1048576
-
--- refusal 6: the greatest length in samples, 2^40
-abbrev pub maxLen : ℕ
-maxLen = 1099511627776
 
 -- refusal 7: the longest duration, 24 hours, in nanoseconds
 abbrev pub maxDuration : ℕ

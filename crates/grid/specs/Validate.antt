@@ -1,12 +1,13 @@
 -- Document 01's refusals 1 to 6 of a recording: what each test passes, and which refusal is given first.
 use Prim.Native.Nat.{ℕ, _*_}
-use mathlib.Core.Bool.{Bool, _&&_, cond}
+use mathlib.Core.Bool.{Bool, true, false, _&&_, cond}
 use mathlib.Core.List.{List}
 use lib.Dec.{ltb, leb, eqb}
 use lib.Ieee.{Float}
 use lib.ListN.{length}
 use Rattle.base_terms.specs.Lists.{allOf}
-use Rattle.grid.specs.Limits.{maxRate, maxFrameRate, maxHop, maxFrames, maxLen}
+use Rattle.base_terms.specs.Limits.{maxLen}
+use Rattle.grid.specs.Limits.{maxRate, maxFrameRate, maxHop, maxFrames}
 use Rattle.grid.specs.Boundary.{covers}
 use Rattle.grid.specs.Values.{isScore, isFinite, isFlag, isUnflagged}
 use Rattle.grid.specs.declared.boundary.FrameGrid.{FrameGrid}
@@ -30,9 +31,13 @@ rateOk rate = isWithin rate maxRate
 abbrev pub channelsOk : ℕ → Bool
 channelsOk channels = ltb 0 channels
 
--- 3: frame rate and hop are above 0 and within their limits, and a frame spans at least one sample
+-- 3: frame rate and hop are above 0 and within their limits
+unfoldable pub frameStepOk : ℕ → ℕ → Bool
+frameStepOk frameRate hop = isWithin frameRate maxFrameRate && isWithin hop maxHop
+
+-- 3: and a frame spans at least one sample
 unfoldable pub framesOk : ℕ → ℕ → ℕ → Bool
-framesOk rate frameRate hop = isWithin frameRate maxFrameRate && isWithin hop maxHop && leb frameRate (hop * rate)
+framesOk rate frameRate hop = frameStepOk frameRate hop && leb frameRate (hop * rate)
 
 -- 4: not too many frames, a flag for each, and a level for each frame of decibels or none at all for scores
 abbrev pub levelCount : Domain → ℕ → ℕ
@@ -71,6 +76,16 @@ validityOf r values flags levels =
     (orElse (valuesOk (r .domain) values flags levels) BadValue
     (orElse (lengthOk (gridOf r (length values))) NotCovered
     Valid)))))
+
+-- the recording is accepted
+abbrev pub isValid : Validity → Bool
+isValid Valid = true
+isValid BadSampleRate = false
+isValid NoChannels = false
+isValid BadFrames = false
+isValid BadLists = false
+isValid BadValue = false
+isValid NotCovered = false
 
 -- document 01's number for each case; 0 where the recording is accepted
 abbrev pub refusalOf : Validity → ℕ

@@ -1,25 +1,28 @@
 -- The chain of the tests: which answer each end gives, and what an accepted recording has passed.
-use mathlib.Core.Path.{_≡_, refl, sym, ap, subst, _∙_}
-use mathlib.Core.Bool.{Bool, true, false, _&&_, cond}
+use mathlib.Core.Path.{_≡_, refl, ap, subst}
+use mathlib.Core.Logic.{_↔_}
+use mathlib.Core.Bool.{Bool, true, false, _&&_}
 use mathlib.Core.List.{List}
-use Prim.Native.Nat.{ℕ, _*_, _≤_, _<_}
+use Prim.Native.Nat.{ℕ, _+_, _*_, _≤_, _<_}
+use native.Mathlib.Omega.{arith}
 use lib.Dec.{T, ltb, leb, eqb, ltb→lt, leb→le}
 use lib.Ieee.{Float}
 use lib.Ieee.Fits.{and-l, and-r}
 use lib.ListN.{length}
-use Rattle.base_laws.specs.Tests.{holds, both}
-use Rattle.grid.specs.Limits.{maxRate, maxFrameRate, maxHop, maxFrames, maxLen}
-use Rattle.grid.specs.Boundary.{Bounded, covers}
-use Rattle.grid.specs.BoundaryLaws.{Accepted}
-use Rattle.grid.specs.Validate.{isWithin, rateOk, channelsOk, framesOk, levelCount, listsOk, valuesOk, lengthOk, gridOf, orElse, validityOf, refusalOf}
+use Rattle.base_terms.specs.Limits.{maxLen}
+use Rattle.base_laws.specs.Tests.{holds, both, unmet}
+use Rattle.grid.specs.Limits.{maxRate, maxFrameRate, maxHop, maxFrames}
+use Rattle.grid.specs.Boundary.{Bounded, boundaryOf, covers}
+use Rattle.grid.specs.BoundaryLaws.{Accepted, boundary-rises}
+use Rattle.grid.specs.Validate.{isWithin, rateOk, channelsOk, frameStepOk, framesOk, levelCount, listsOk, valuesOk, lengthOk, gridOf, orElse, validityOf, isValid, refusalOf}
 use Rattle.grid.specs.declared.boundary.FrameGrid.{FrameGrid}
 use Rattle.grid.specs.declared.validate.Domain.{Domain}
 use Rattle.grid.specs.declared.validate.Recording.{Recording}
 use Rattle.grid.specs.declared.validate.Validity.{Validity}
 use Rattle.grid.specs.declared.validate.Validity.the-variants.{Valid, BadSampleRate, NoChannels, BadFrames, BadLists, BadValue, NotCovered}
 
--- what an accepted recording has passed: the six tests
-pub record Passed (r : Recording) (values : List Float) (flags : List ℕ) (levels : List Float) : Type 0 where
+-- what the six tests leave of a recording
+pub record AcceptedRecording (r : Recording) (values : List Float) (flags : List ℕ) (levels : List Float) : Type 0 where
   pub rate : rateOk (r .«sample_rate») ≡ true
   pub channels : channelsOk (r .channels) ≡ true
   pub frames : framesOk (r .«sample_rate») (r .«frame_rate») (r .hop) ≡ true
@@ -37,13 +40,17 @@ pub within-pos : (x most : ℕ) → isWithin x most ≡ true → 0 < x
 unfolding isWithin
 within-pos x most e = ltb→lt 0 x (and-l (ltb 0 x) (leb x most) (holds e))
 
+pub step-parts : (frameRate hop : ℕ) → frameStepOk frameRate hop ≡ true → (isWithin frameRate maxFrameRate ≡ true) × (isWithin hop maxHop ≡ true)
+unfolding frameStepOk
+step-parts frameRate hop e = both (isWithin frameRate maxFrameRate) (isWithin hop maxHop) e
+
 -- test 3, taken apart
 pub frames-parts : (rate frameRate hop : ℕ) → framesOk rate frameRate hop ≡ true
     → (isWithin frameRate maxFrameRate ≡ true) × (isWithin hop maxHop ≡ true) × (frameRate ≤ hop * rate)
 unfolding framesOk
 frames-parts rate frameRate hop e =
-    let p = both (isWithin frameRate maxFrameRate && isWithin hop maxHop) (leb frameRate (hop * rate)) e in
-    let q = both (isWithin frameRate maxFrameRate) (isWithin hop maxHop) (p .0) in
+    let p = both (frameStepOk frameRate hop) (leb frameRate (hop * rate)) e in
+    let q = step-parts frameRate hop (p .0) in
     (q .0, q .1, leb→le frameRate (hop * rate) (holds (p .1)))
 
 -- a chain that accepts has passed its first test, and its rest accepts: no refusal has the number 0
@@ -65,6 +72,32 @@ pub length-parts : (g : FrameGrid) → lengthOk g ≡ true → (leb (g .len) max
 unfolding lengthOk
 length-parts g e = both (leb (g .len) maxLen) (covers g) e
 
+-- ---- the number 0
+
+pub valid-is : (v : Validity) → isValid v ≡ true → v ≡ Valid
+valid-is Valid e = refl
+valid-is BadSampleRate e = unmet e
+valid-is NoChannels e = unmet e
+valid-is BadFrames e = unmet e
+valid-is BadLists e = unmet e
+valid-is BadValue e = unmet e
+valid-is NotCovered e = unmet e
+
+-- the number is 0 exactly where the recording is accepted
+pub refusal-none : (v : Validity) → (refusalOf v ≡ 0) ↔ (v ≡ Valid)
+refusal-none v = (only v, λ e. ap refusalOf e)
+  where
+    only : (w : Validity) → refusalOf w ≡ 0 → w ≡ Valid
+    only Valid e = refl
+    only BadSampleRate e = absurd (omega arith)
+    only NoChannels e = absurd (omega arith)
+    only BadFrames e = absurd (omega arith)
+    only BadLists e = absurd (omega arith)
+    only BadValue e = absurd (omega arith)
+    only NotCovered e = absurd (omega arith)
+
+-- ---- an accepted recording
+
 module _ (r : Recording) (values : List Float) (flags : List ℕ) (levels : List Float) where
   -- tests 1, 3 and 4 bound the grid's numbers
   pub passed-bounded : rateOk (r .«sample_rate») ≡ true → framesOk (r .«sample_rate») (r .«frame_rate») (r .hop) ≡ true
@@ -79,7 +112,7 @@ module _ (r : Recording) (values : List Float) (flags : List ℕ) (levels : List
       }
 
   -- an accepted recording has an accepted grid: its boundaries rise
-  pub passed-accepted : Passed r values flags levels → Accepted (gridOf r (length values))
+  pub passed-accepted : AcceptedRecording r values flags levels → Accepted (gridOf r (length values))
   passed-accepted p =
       record {
         bounded = passed-bounded (p .rate) (p .frames) (p .lists);
@@ -88,7 +121,7 @@ module _ (r : Recording) (values : List Float) (flags : List ℕ) (levels : List
       }
 
   -- its length is within the limit
-  pub passed-length : Passed r values flags levels → r .len ≤ maxLen
+  pub passed-length : AcceptedRecording r values flags levels → r .len ≤ maxLen
   passed-length p = leb→le (r .len) maxLen (holds (length-parts (gridOf r (length values)) (p .length) .0))
 
   -- ---- the seven ends of the chain, each under what has passed before it
@@ -121,12 +154,12 @@ module _ (r : Recording) (values : List Float) (flags : List ℕ) (levels : List
           unfolding validityOf
           fails-length e n = rw (a, b, c, d, e, n)
 
-  pub passes : Passed r values flags levels → Valid ≡ validityOf r values flags levels
+  pub passes : AcceptedRecording r values flags levels → Valid ≡ validityOf r values flags levels
   unfolding validityOf
   passes p = rw (p .rate, p .channels, p .frames, p .lists, p .within, p .length)
 
   -- only a recording that has passed all six is accepted
-  pub passed : validityOf r values flags levels ≡ Valid → Passed r values flags levels
+  pub passed : validityOf r values flags levels ≡ Valid → AcceptedRecording r values flags levels
   unfolding validityOf
   passed e =
       let p = step (rateOk (r .«sample_rate»)) BadSampleRate tt e in
@@ -136,3 +169,10 @@ module _ (r : Recording) (values : List Float) (flags : List ℕ) (levels : List
       let u = step (valuesOk (r .domain) values flags levels) BadValue tt (t .1) in
       let v = step (lengthOk (gridOf r (length values))) NotCovered tt (u .1) in
       record { rate = p .0; channels = q .0; frames = s .0; lists = t .0; within = u .0; length = v .0 }
+
+  -- so its grid is accepted, and document 01's "in an accepted recording each boundary up to the frame count is above the one before"
+  pub valid-accepted : validityOf r values flags levels ≡ Valid → Accepted (gridOf r (length values))
+  valid-accepted e = passed-accepted (passed e)
+
+  pub valid-rises : validityOf r values flags levels ≡ Valid → (k : ℕ) → k < length values → boundaryOf (gridOf r (length values)) k < boundaryOf (gridOf r (length values)) (k + 1)
+  valid-rises e k h = boundary-rises (gridOf r (length values)) (valid-accepted e) k h

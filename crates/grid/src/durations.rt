@@ -2,11 +2,18 @@
 ghost use mathlib.Core.Path.{_≡_};
 ghost use Prim.Native.Nat.{_*_, _≤_};
 ghost use Rattle.grid.specs.Limits.{maxRate, maxDuration};
-ghost use Rattle.grid.specs.Durations.{InFrames, InSamples, framesIn, framesCeil, framesFloor, samplesFloor, samplesIn, secondsOf, frameSecs};
+ghost use Rattle.grid.specs.Durations.{durationOk, InFrames, InSamples, framesIn, framesCeil, framesFloor, samplesFloor, samplesIn, secondsOf, frameSecs};
 
 pub const NANOS_PER_SEC: u64 = 1_000_000_000;
 // 24 hours.
 pub const MAX_DURATION: u64 = 86_400_000_000_000;
+
+// Test 7 of one duration.
+pub fn duration_ok(nanos: u64) -> bool
+    ensures { λ r. ⌜ r ≡ durationOk nanos ⌝ }
+{
+    nanos <= MAX_DURATION
+}
 
 // The exact product of a duration and a rate: 24 hours times the highest rate fits in 64 bits.
 fn product(nanos: u64, rate: u32) -> u64

@@ -6,7 +6,8 @@ ghost use Prim.Native.Nat.{_≤_};
 ghost use lib.Dec.{T};
 ghost use lib.ListN.{length};
 ghost use Rattle.grid.specs.Boundary.{Bounded};
-ghost use Rattle.grid.specs.Validate.{isWithin, rateOk, channelsOk, framesOk, levelCount, listsOk, valuesOk, lengthOk, gridOf, validityOf, refusalOf};
+ghost use Rattle.grid.specs.Validate.{isWithin, rateOk, channelsOk, frameStepOk, framesOk, levelCount, listsOk, valuesOk, lengthOk};
+ghost use Rattle.grid.specs.Validate.{gridOf, validityOf, isValid, refusalOf};
 
 pub const MAX_RATE: u32 = 192_000;
 
@@ -62,6 +63,21 @@ pub fn refusal(v: Validity) -> u32
     }
 }
 
+// Whether a recording is accepted.
+pub fn is_valid(v: Validity) -> bool
+    ensures { λ r. ⌜ r ≡ isValid v ⌝ }
+{
+    match v {
+        Validity::Valid => true,
+        Validity::BadSampleRate => false,
+        Validity::NoChannels => false,
+        Validity::BadFrames => false,
+        Validity::BadLists => false,
+        Validity::BadValue => false,
+        Validity::NotCovered => false,
+    }
+}
+
 // Whether x is above 0 and at most `most`.
 pub fn within(x: u32, most: u32) -> bool
     ensures { λ r. ⌜ r ≡ isWithin x most ⌝ }
@@ -83,14 +99,21 @@ pub fn channels_ok(channels: u16) -> bool
     0 < channels
 }
 
-// Test 3.
-pub fn frames_ok(sample_rate: u32, frame_rate: u32, hop: u32) -> bool
-    ensures { λ r. ⌜ r ≡ framesOk «sample_rate» «frame_rate» hop ⌝ }
+// Test 3 of the frame rate and the hop alone.
+pub fn frame_step_ok(frame_rate: u32, hop: u32) -> bool
+    ensures { λ r. ⌜ r ≡ frameStepOk «frame_rate» hop ⌝ }
 {
     if !within(frame_rate, MAX_FRAME_RATE) {
         return false;
     }
-    if !within(hop, MAX_HOP) {
+    within(hop, MAX_HOP)
+}
+
+// Test 3.
+pub fn frames_ok(sample_rate: u32, frame_rate: u32, hop: u32) -> bool
+    ensures { λ r. ⌜ r ≡ framesOk «sample_rate» «frame_rate» hop ⌝ }
+{
+    if !frame_step_ok(frame_rate, hop) {
         return false;
     }
     frame_rate as u64 <= (hop as u64) * (sample_rate as u64)

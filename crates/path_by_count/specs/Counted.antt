@@ -5,7 +5,7 @@ use Prim.Native.Nat.{ℕ, _*_, _≤_}
 use lib.Ieee.{Float}
 use lib.ListN.{length}
 use Rattle.base_terms.specs.Lists.{onto}
-use Rattle.path_pieces.specs.Domain.{Lent}
+use Rattle.path_pieces.specs.Domain.{Searchable}
 use Rattle.path_pieces.specs.declared.lengths.Lengths.{Lengths}
 use Rattle.path_pieces.specs.declared.score.Score.{Score}
 use Rattle.path_by_length.specs.Paths.{lastOf}
@@ -15,8 +15,8 @@ use Rattle.path_by_count_rows.specs.Rows.{behind}
 use Rattle.path_by_count.specs.Walk.{wayIn, Back}
 
 -- candidates, and two lists with room for the tree and the entries behind it; the costs of the cuts are there already
-pub record Room (l : Lengths) (left right : List ℕ) (over : List ℕ) (cost : List Float) : Type 0 where
-  pub lent : Lent l left right (behind (length left) cost)
+pub record TreeRoom (l : Lengths) (left right : List ℕ) (over : List ℕ) (cost : List Float) : Type 0 where
+  pub domain : Searchable l left right (behind (length left) cost)
   pub overs : length left * 5 ≤ length over
   pub costs : length left * 5 ≤ length cost
 

@@ -21,18 +21,18 @@ use Rattle.path_by_count.specs.Table.{RowsFilled}
 use Rattle.path_by_count.specs.TableLaws.{put-part}
 use Rattle.path_by_count.specs.Walk.{wayIn}
 use Rattle.path_by_count.specs.WalkLaws.{way-length, rows-back, rows-way}
-use Rattle.path_by_count.specs.Counted.{Room, Sought, SolutionByCount}
+use Rattle.path_by_count.specs.Counted.{TreeRoom, Sought, SolutionByCount}
 
 module _ {l : Lengths} {left right : List ℕ} where
   -- the first starts written behind the tree
-  pub room-laid : {over : List ℕ} {cost : List Float} {leaves : ℕ} (first : List ℕ) → Room l left right over cost → Leaves (length left) leaves
+  pub room-laid : {over : List ℕ} {cost : List Float} {leaves : ℕ} (first : List ℕ) → TreeRoom l left right over cost → Leaves (length left) leaves
       → FirstStarts (l .limit) left right first → length (putMid (length left * 4) (length left * 5 - length left * 4) over first) ≡ length over
       → Laid l left right leaves (putMid (length left * 4) (length left * 5 - length left * 4) over first) cost
   room-laid {over} {cost} {leaves} first r t f e =
       let n = length left in
       let d : n * 5 - n * 4 ≡ n = omega arith in
       record {
-        lent = r .lent;
+        domain = r .domain;
         tree = t;
         overs = omega (arith, r .overs, e);
         costs = r .costs;

@@ -1,15 +1,13 @@
 -- The path by count in lent lists.
--- Table: parentIn, RowsFilled
+-- Table: the rows in a flat list of parents (`parentIn`, `RowsFilled`)
 pub mod Table
---   row-within; put-before, put-part; rows-first, rows-next
+--   the rows that are written are those of the table (`first-row-agrees`, `next-row-agrees`), one after another (`rows-first`, `rows-next`)
 pub mod TableLaws
--- Walk: wayIn, Back
+-- Walk: the way back through the list (`wayIn`, `Back`)
 pub mod Walk
---   way-length; Walking, walking-start, walking-next, walking-done; rows-back, rows-way
+--   the loop that writes the path from its end (`Walking`); the rows give the table's path (`rows-back`, `rows-way`)
 pub mod WalkLaws
--- Counted: Room, Sought, SolutionByCount
+-- Counted: what the search by count needs and leaves (`TreeRoom`, `Sought`, `SolutionByCount`)
 pub mod Counted
---   room-laid, rows-sought, sought-solved, none-solved
+--   its steps one after the other (`room-laid`, `rows-sought`, `sought-solved`, `none-solved`)
 pub mod CountedLaws
--- Theorems: solve-count-allowed, solve-count-score, solve-count-best, solve-count-is-best, solve-count-tie, solve-count-only
-pub mod Theorems

@@ -11,10 +11,14 @@ use lib.Ieee.{Float}
 use lib.ListN.{length, getD, take, drop, List·getD-append}
 use lib.Seq.{getD-take, length-take-le, getD-append-add}
 use Rattle.base_laws.specs.Tests.{lt-or-le}
+use Rattle.path_pieces.specs.Pieces.{withCutAt}
+use Rattle.path_pieces.specs.Least.{foundScore, foundIndex, predecessorOf}
+use Rattle.path_pieces.specs.PredecessorLaws.{predecessor-same}
+use Rattle.path_pieces.specs.declared.best.Found.{Found}
 use Rattle.path_pieces.specs.declared.lengths.Lengths.{Lengths}
 use Rattle.path_by_length.specs.ByCount.{bestWith, parentWith}
-use Rattle.path_by_count_rows.specs.Rows.{leafScore, behind, FirstRow, NextRow}
-use Rattle.path_by_count_agree.specs.Agree.{first-row-agrees, next-row-agrees}
+use Rattle.path_by_count_rows.specs.Rows.{leafScore, behind, firstScore, FirstRow, NextRow}
+use Rattle.path_by_count_rows.specs.RowsLaws.{first-one}
 use Rattle.path_by_count.specs.Table.{parentIn, RowsFilled}
 
 -- row m starts where the rows before it end
@@ -37,7 +41,39 @@ module _ {A : Type 0} (l r : List A) (a w : ℕ) (z : A) (e : length r ≡ w) (h
       ap (λ (n : ℕ). getD (take a l ++ (r ++ drop w (drop a l))) (n + j) z) (sym (length-take-le a l (omega arith)))
       ∙ getD-append-add (take a l) (r ++ drop w (drop a l)) j z ∙ List·getD-append r (drop w (drop a l)) z j (omega arith)
 
--- ---- the rows
+-- ---- the rows that are written are those of the table
+
+module _ {l : Lengths} {left right : List ℕ} {leaves : ℕ} {over₀ over : List ℕ} {cost₀ cost : List Float} {row : List ℕ} where
+  -- the first row
+  pub first-row-agrees : FirstRow l left right leaves over₀ cost₀ over cost row → (j : ℕ) → 0 < j → j < length left
+      → (leafScore leaves over cost j ≡ bestWith l left right (behind (length left) cost₀) 1 j)
+      × (getD row j 0 ≡ parentWith l left right (behind (length left) cost₀) 1 j)
+  unfolding bestWith parentWith
+  first-row-agrees x j p h = (
+    x .score j h ∙ ap (λ (cut : List Float). firstScore l left right cut j) (x .cuts) ∙ sym (first-one l left right (behind (length left) cost₀) j p),
+    x .parent j h,
+  )
+
+  -- and each next one, where the row before is
+  pub next-row-agrees : {k : ℕ}
+      → ((i : ℕ) → suc k ≤ i → i < length left → leafScore leaves over₀ cost₀ i ≡ bestWith l left right (behind (length left) cost₀) (suc k) i)
+      → NextRow l left right leaves over₀ cost₀ over cost row (suc (suc k)) → (j : ℕ) → suc (suc k) ≤ j → j < length left
+      → (leafScore leaves over cost j ≡ bestWith l left right (behind (length left) cost₀) (suc (suc k)) j)
+      × (getD row j 0 ≡ parentWith l left right (behind (length left) cost₀) (suc (suc k)) j)
+  unfolding bestWith parentWith
+  next-row-agrees {k} f x j h g =
+      let cut = behind (length left) cost₀ in
+      let own = leafScore leaves over₀ cost₀ in
+      let d : suc (suc k) - 1 ≡ suc k = omega arith in
+      let e : predecessorOf l left right own (suc (suc k) - 1) j ≡ predecessorOf l left right (bestWith l left right cut (suc k)) (suc k) j =
+      ap (λ (from : ℕ). predecessorOf l left right own from j) d
+      ∙ predecessor-same l left right own (bestWith l left right cut (suc k)) (suc k) j (λ i a m. f i a (omega arith)) in (
+        x .score j h g ∙ ap (λ (c : List Float). withCutAt c j (foundScore (predecessorOf l left right own (suc (suc k) - 1) j))) (x .cuts)
+            ∙ ap (λ (z : Found). withCutAt cut j (foundScore z)) e,
+        x .parent j h g ∙ ap foundIndex e,
+      )
+
+-- ---- row by row
 
 module _ {l : Lengths} {left right : List ℕ} {leaves : ℕ} {over₀ over : List ℕ} {cost₀ cost : List Float} where
   -- the first row alone

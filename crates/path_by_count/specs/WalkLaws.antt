@@ -8,7 +8,7 @@ use lib.Ieee.{Float}
 use lib.ListN.{length, getD, take, drop, set, length-append, take-append-drop}
 use lib.Seq.{take-suc, set-at, length-take-le}
 use Rattle.base_terms.specs.Lists.{onto}
-use Rattle.path_pieces.specs.Domain.{Lent}
+use Rattle.path_pieces.specs.Domain.{Searchable}
 use Rattle.path_pieces.specs.declared.lengths.Lengths.{Lengths}
 use Rattle.path_by_length.specs.ByCount.{parentWith, wayWith}
 use Rattle.path_by_length.specs.CountLaws.{parent-reached, parent-allowed}
@@ -93,8 +93,8 @@ module _ {parent : List ℕ} {n pieces : ℕ} {path₀ : List ℕ} (back : Back 
 
 module _ {l : Lengths} {left right : List ℕ} {cut : List Float} {leaves : ℕ} {over : List ℕ} {cost : List Float} {parent : List ℕ} {k : ℕ}
     (f : RowsFilled l left right cut leaves over cost parent k) where
-  ok : Lent l left right cut
-  ok = rw (f .cuts) at (f .laid .lent)
+  ok : Searchable l left right cut
+  ok = rw (f .cuts) at (f .laid .domain)
 
   -- can be walked back
   pub rows-back : k < length left → k * length left ≤ length parent → Back parent (length left) k

@@ -11,7 +11,7 @@ ghost use Prim.Native.Nat.{_+_, _*_, _≤_, _<_};
 ghost use lib.ListN.{length};
 ghost use Rattle.path_by_length.specs.Paths.{piecesOf};
 ghost use Rattle.path_by_count_rows.specs.Rows.{behind};
-ghost use Rattle.path_by_count.specs.Counted.{Room, Sought, SolutionByCount};
+ghost use Rattle.path_by_count.specs.Counted.{TreeRoom, Sought, SolutionByCount};
 
 // The score of the best path of `pieces` pieces to the last candidate, and the parents that lead back.
 fn best_score(
@@ -23,10 +23,13 @@ fn best_score(
     cost: &mut [f64],
     parent: &mut [u32],
 ) -> Score
-    requires { ⌜ Room lengths (now left) (now right) (now over) (now cost) ⌝ }
+    requires { ⌜ TreeRoom lengths (now left) (now right) (now over) (now cost) ⌝ }
     requires { ⌜ (0 < pieces) × (pieces < length (now left)) ⌝ }
     requires { ⌜ pieces * length (now left) ≤ length (now parent) ⌝ }
-    ensures { λ r. ⌜ Sought lengths (now (left .entry)) (now (right .entry)) (behind (length (now (left .entry))) (now (cost .entry))) (now (parent .exit)) pieces r ⌝ }
+    ensures { λ r. ⌜
+        Sought lengths (now (left .entry)) (now (right .entry)) (behind (length (now (left .entry))) (now (cost .entry)))
+        (now (parent .exit)) pieces r
+        ⌝ }
 {
     let n = left.len();
     let leaves = tree::leaves_for(n);
@@ -60,11 +63,14 @@ pub fn solve_count(
     parent: &mut [u32],
     path: &mut [u32],
 ) -> Solved
-    requires { ⌜ Room lengths (now left) (now right) (now over) (now cost) ⌝ }
+    requires { ⌜ TreeRoom lengths (now left) (now right) (now over) (now cost) ⌝ }
     requires { ⌜ 0 < count ⌝ }
     requires { ⌜ piecesOf (now left) count * length (now left) ≤ length (now parent) ⌝ }
     requires { ⌜ piecesOf (now left) count + 1 ≤ length (now path) ⌝ }
-    ensures { λ r. ⌜ SolutionByCount lengths (now (left .entry)) (now (right .entry)) (behind (length (now (left .entry))) (now (cost .entry))) count (now (path .entry)) (now (path .exit)) r ⌝ }
+    ensures { λ r. ⌜
+        SolutionByCount lengths (now (left .entry)) (now (right .entry)) (behind (length (now (left .entry))) (now (cost .entry))) count
+        (now (path .entry)) (now (path .exit)) r
+        ⌝ }
 {
     let n = left.len();
     let pieces = sizes::lesser(count, n - 1);

@@ -20,7 +20,10 @@ fn later_rows(
     requires { ⌜ RowsFilled lengths (now left) (now right) (behind (length (now left)) (now cost)) leaves (now over) (now cost) (now parent) 1 ⌝ }
     requires { ⌜ (0 < pieces) × (pieces < length (now left)) ⌝ }
     requires { ⌜ pieces * length (now left) ≤ length (now parent) ⌝ }
-    ensures { λ _. ⌜ RowsFilled lengths (now (left .entry)) (now (right .entry)) (behind (length (now (left .entry))) (now (cost .entry))) leaves (now (over .exit)) (now (cost .exit)) (now (parent .exit)) pieces ⌝ }
+    ensures { λ _. ⌜
+        RowsFilled lengths (now (left .entry)) (now (right .entry)) (behind (length (now (left .entry))) (now (cost .entry))) leaves
+        (now (over .exit)) (now (cost .exit)) (now (parent .exit)) pieces
+        ⌝ }
 {
     let n = left.len();
     let mut k: usize = 1;
@@ -56,7 +59,10 @@ pub fn fill_rows(
     requires { ⌜ Laid lengths (now left) (now right) leaves (now over) (now cost) ⌝ }
     requires { ⌜ (0 < pieces) × (pieces < length (now left)) ⌝ }
     requires { ⌜ pieces * length (now left) ≤ length (now parent) ⌝ }
-    ensures { λ _. ⌜ RowsFilled lengths (now (left .entry)) (now (right .entry)) (behind (length (now (left .entry))) (now (cost .entry))) leaves (now (over .exit)) (now (cost .exit)) (now (parent .exit)) pieces ⌝ }
+    ensures { λ _. ⌜
+        RowsFilled lengths (now (left .entry)) (now (right .entry)) (behind (length (now (left .entry))) (now (cost .entry))) leaves
+        (now (over .exit)) (now (cost .exit)) (now (parent .exit)) pieces
+        ⌝ }
 {
     row::first_row(
         left,

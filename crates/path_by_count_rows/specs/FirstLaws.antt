@@ -11,9 +11,10 @@ use lib.Dec.{T, not-T, leb, leb→le, nleb→lt, le→leb}
 use lib.ListN.{length, getD, set, length-set}
 use lib.Seq.{getD-set-same, getD-set-other}
 use Rattle.base_laws.specs.Tests.{passes, lt-or-le}
-use Rattle.path_pieces.specs.Pieces.{pieceLength, isWithin}
+use Rattle.path_pieces.specs.Pieces.{pieceLength, isWithin, mayStart}
 use Rattle.path_pieces.specs.Domain.{Candidates}
 use Rattle.path_pieces.specs.DomainLaws.{piece-longer}
+use Rattle.path_pieces.specs.PredecessorLaws.{within-yes, within-is, start-next, start-within, start-none}
 use Rattle.path_by_count_rows.specs.First.{firstPassing, firstStart, FirstStarts}
 
 pick-yes : (b : Bool) (x y : ℕ) → T b → cond b x y ≡ x
@@ -83,18 +84,10 @@ module _ (test : ℕ → Bool) where
 -- ---- within the limit
 
 module _ (limit : ℕ) (left right : List ℕ) where
-  pub within-yes : (j i : ℕ) → pieceLength left right i j ≤ limit → T (isWithin limit left right j i)
-  unfolding isWithin
-  within-yes j i h = le→leb (pieceLength left right i j) limit h
-
   pub within-no : (j i : ℕ) → limit < pieceLength left right i j → T (not (isWithin limit left right j i))
   unfolding isWithin
   within-no j i h = not-T (leb (pieceLength left right i j) limit) (λ (t : T (leb (pieceLength left right i j) limit)).
       let g = leb→le (pieceLength left right i j) limit t in omega arith)
-
-  pub within-is : (j i : ℕ) → T (isWithin limit left right j i) → pieceLength left right i j ≤ limit
-  unfolding isWithin
-  within-is j i t = leb→le (pieceLength left right i j) limit t
 
   pub over-is : (j i : ℕ) → T (not (isWithin limit left right j i)) → limit < pieceLength left right i j
   unfolding isWithin
@@ -110,16 +103,21 @@ module _ (limit : ℕ) (left right : List ℕ) where
   unfolding firstStart
   first-start-over j i h = over-is j i (first-fails (isWithin limit left right j) (j - 1) i h)
 
+  -- document 01's "piece rule" leaves nothing before it
+  pub first-start-none : (j i : ℕ) → i < firstStart limit left right j → T (not (mayStart limit left right j i))
+  unfolding firstStart
+  first-start-none j i h = start-none limit left right j i (first-fails (isWithin limit left right j) (j - 1) i h) (omega (arith, first-start-high j))
+
   module _ (ok : Candidates left right) where
-    -- a piece from it or from after it is within the limit, or starts at j - 1: document 01's "piece rule"
-    pub first-start-within : (j i : ℕ) → j < length left → firstStart limit left right j ≤ i → i < j → (pieceLength left right i j ≤ limit) ⊎ (suc i ≡ j)
+    -- from it on every piece may
+    pub first-start-all : (j i : ℕ) → j < length left → firstStart limit left right j ≤ i → i < j → T (mayStart limit left right j i)
     unfolding firstStart
-    first-start-within j i h f g = elim (lt-or-le (suc i) j) [
-      | inr m ↦ inr (omega arith)
+    first-start-all j i h f g = elim (lt-or-le (suc i) j) [
+      | inr m ↦ start-next limit left right j i (omega arith)
       | inl m ↦
           let first = firstStart limit left right j in
-          inl (le-trans (piece-longer ok first i j f (omega arith))
-          (within-is j first (first-passes (isWithin limit left right j) (j - 1) (omega arith))))
+          start-within limit left right j i (le-trans (piece-longer ok first i j f (omega arith))
+          (within-is limit left right j first (first-passes (isWithin limit left right j) (j - 1) (omega arith))))
     ]
 
     -- a piece that ends further on is no shorter

@@ -8,12 +8,11 @@ use lib.Dec.{T}
 use lib.Ieee.{Float, nan}
 use lib.ListN.{length, getD, take, drop}
 use Rattle.base_terms.specs.Floats.{nonneg}
-use Rattle.path_pieces.specs.Pieces.{pieceLength, noScore, withPiece, withCutAt, arrival, scoreAt}
-use Rattle.path_pieces.specs.Domain.{Lent}
+use Rattle.path_pieces.specs.Pieces.{pieceLength, noScore, withPiece, withCutAt, scoreAt}
+use Rattle.path_pieces.specs.Least.{foundScore, foundIndex, predecessorOf}
+use Rattle.path_pieces.specs.Domain.{Searchable}
 use Rattle.path_pieces.specs.declared.lengths.Lengths.{Lengths}
 use Rattle.path_pieces.specs.declared.score.Score.{Score}
-use Rattle.path_by_count_search.specs.declared.best.Best.{Best}
-use Rattle.path_by_count_search.specs.Least.{leastIn}
 use Rattle.path_by_count_search.specs.Tree.{Leaves, noLeaf, Covers}
 use Rattle.path_by_count_rows.specs.First.{firstStart}
 
@@ -22,11 +21,6 @@ use Rattle.path_by_count_rows.specs.First.{firstStart}
 -- where the pieces to candidate j may start in row k: an allowed piece, and k - 1 pieces before it
 abbrev pub startOf : ℕ → List ℕ → List ℕ → ℕ → ℕ → ℕ
 startOf limit left right k j = max (firstStart limit left right j) (k - 1)
-
--- the best predecessor of candidate j in row k: the lowest whose own score, with one piece fewer, plus this piece is least.
--- Scores are compared before the cut at j is added.
-unfoldable pub predecessorOf : Lengths → List ℕ → List ℕ → (ℕ → Score) → ℕ → ℕ → Best
-predecessorOf l left right own k j = leastIn (arrival l left right own j) (startOf (l .limit) left right k j) j
 
 -- document 01's "by count, the first piece may have any length": a path of one piece. To the first candidate there is none
 unfoldable pub firstScore : Lengths → List ℕ → List ℕ → List Float → ℕ → Score
@@ -45,7 +39,7 @@ behind n xs = take n (drop (n * 4) xs)
 
 -- candidates, and two lists with room for the tree and the entries behind it, which are the first starts and the costs of the cuts
 pub record Laid (l : Lengths) (left right : List ℕ) (leaves : ℕ) (over : List ℕ) (cost : List Float) : Type 0 where
-  pub lent : Lent l left right (behind (length left) cost)
+  pub domain : Searchable l left right (behind (length left) cost)
   pub tree : Leaves (length left) leaves
   pub overs : length left * 5 ≤ length over
   pub costs : length left * 5 ≤ length cost
@@ -74,11 +68,11 @@ module _ (l : Lengths) (left right : List ℕ) (leaves : ℕ) (over₀ : List �
     pub is-row : Row leaves (length left) over cost
     pub cuts : behind (length left) cost ≡ behind (length left) cost₀
 
-  -- row k, by the scores of the row before
+  -- row k, by the scores of the row before: k - 1 pieces reach the candidates from k - 1 on
   pub record NextRow (k : ℕ) : Type 0 where
     pub score : (j : ℕ) → k ≤ j → j < length left
-        → leafScore leaves over cost j ≡ withCutAt (behind (length left) cost) j (predecessorOf l left right (leafScore leaves over₀ cost₀) k j .score)
-    pub parent : (j : ℕ) → k ≤ j → j < length left → getD row j 0 ≡ predecessorOf l left right (leafScore leaves over₀ cost₀) k j .at
+        → leafScore leaves over cost j ≡ withCutAt (behind (length left) cost) j (foundScore (predecessorOf l left right (leafScore leaves over₀ cost₀) (k - 1) j))
+    pub parent : (j : ℕ) → k ≤ j → j < length left → getD row j 0 ≡ foundIndex (predecessorOf l left right (leafScore leaves over₀ cost₀) (k - 1) j)
     pub laid : Laid l left right leaves over cost
     pub is-row : Row leaves (length left) over cost
     pub cuts : behind (length left) cost ≡ behind (length left) cost₀
@@ -95,8 +89,8 @@ module _ (l : Lengths) (left right : List ℕ) (leaves : ℕ) (over₀ : List �
   -- row k, from candidate n on; the tree bounds the scores of the row before
   pub record NextWritten (k n : ℕ) : Type 0 where
     pub score : (j : ℕ) → n ≤ j → j < length left
-        → leafScore leaves over cost j ≡ withCutAt (behind (length left) cost₀) j (predecessorOf l left right (leafScore leaves over₀ cost₀) k j .score)
-    pub parent : (j : ℕ) → n ≤ j → j < length left → getD row j 0 ≡ predecessorOf l left right (leafScore leaves over₀ cost₀) k j .at
+        → leafScore leaves over cost j ≡ withCutAt (behind (length left) cost₀) j (foundScore (predecessorOf l left right (leafScore leaves over₀ cost₀) (k - 1) j))
+    pub parent : (j : ℕ) → n ≤ j → j < length left → getD row j 0 ≡ foundIndex (predecessorOf l left right (leafScore leaves over₀ cost₀) (k - 1) j)
     pub before : (m : ℕ) → m < leaves + n → scoreAt over cost m ≡ scoreAt over₀ cost₀ m
     pub rest : Kept (leaves + length left) over₀ cost₀ over cost
 

@@ -1,6 +1,7 @@
 -- Laws of the rows: what the search for a predecessor reads of a row's tree, that each row is again one, and that a row looks at the one before it alone.
 use mathlib.Core.Path.{_≡_, refl, sym, ap, subst, _∙_}
 use mathlib.Core.Logic.{inl, inr}
+use mathlib.Core.Bool.{true}
 use mathlib.Core.List.{List}
 use Prim.Native.Nat.{ℕ, zero, suc, _+_, _-_, _*_, _≤_, _<_}
 use native.Mathlib.Nat.{le-refl, le-trans}
@@ -9,53 +10,48 @@ use lib.Dec.{T}
 use lib.Ieee.{Float, nan}
 use lib.ListN.{length, getD, take, drop, set, length-drop, length-set}
 use lib.Seq.{getD-set-same, getD-set-other, getD-take, getD-drop, length-take-le, ext-getD}
-use Rattle.base_laws.specs.Tests.{lt-or-le}
+use Rattle.base_laws.specs.Tests.{lt-or-le, same-test}
 use Rattle.base_terms.specs.Floats.{nonneg}
 use Rattle.base_laws.specs.Nonneg.{nought-is, nought-nonneg}
 use Rattle.path_pieces.specs.Limits.{maxIndex}
-use Rattle.path_pieces.specs.Pieces.{pieceLength, noScore, withPiece, withCutAt, arrival}
+use Rattle.path_pieces.specs.Pieces.{pieceLength, mayStart, noScore, withPiece, withCutAt, arrival}
 use Rattle.path_pieces.specs.PiecesLaws.{over-one, cut-at-over}
-use Rattle.path_pieces.specs.Domain.{Candidates, Preferred, Lent}
+use Rattle.path_pieces.specs.Domain.{Candidates, Preferred, Searchable}
 use Rattle.path_pieces.specs.DomainLaws.{rights-rise, ends-rise, left-bounded, piece-bounded, piece-nonneg, cut-at-nonneg}
+use Rattle.path_pieces.specs.Least.{heldOf, foundScore, foundIndex, predecessorOf}
+use Rattle.path_pieces.specs.LeastLaws.{least-same, least-skip}
+use Rattle.path_pieces.specs.PredecessorLaws.{predecessor-same, predecessor-chosen}
+use Rattle.path_pieces.specs.declared.best.Found.{Found}
 use Rattle.path_pieces.specs.declared.lengths.Lengths.{Lengths}
 use Rattle.path_pieces.specs.declared.score.Score.{Score}
-use Rattle.path_by_count_search.specs.declared.best.Best.{Best}
-use Rattle.path_by_count_search.specs.Least.{leastOf, leastIn, IsLeast}
-use Rattle.path_by_count_search.specs.LeastLaws.{least-is}
+use Rattle.path_pieces.specs.declared.best.Best.{Best}
+use Rattle.path_by_count_search.specs.Least.{every, leastIn}
 use Rattle.path_by_count_search.specs.Starts.{arrivalAt, Starts}
-use Rattle.path_by_count_rows.specs.FirstLaws.{first-start-high}
+use Rattle.path_by_count_rows.specs.FirstLaws.{first-start-high, first-start-none, first-start-all}
 use Rattle.path_by_count_search.specs.Tree.{noLeaf}
 use Rattle.path_by_count_search.specs.TreeLaws.{Sound, covers-all, covers-front}
 use Rattle.path_by_count_search.specs.Fill.{written, kept, Padded, Linked}
-use Rattle.path_by_count_rows.specs.Rows.{startOf, predecessorOf, firstScore, leafScore, behind, Laid, Kept, Row, FirstRow, NextRow, FirstWritten, NextWritten, Planted, RowReady}
+use Rattle.path_by_count_rows.specs.Rows.{startOf, firstScore, leafScore, behind, Laid, Kept, Row, FirstRow, NextRow, FirstWritten, NextWritten, Planted, RowReady}
 
 -- ---- where the last piece may start
-
--- a row looks at the scores before the candidate alone
-least-same : (score score' : ℕ → Score) (n from : ℕ) → ((i : ℕ) → i < from + suc n → score i ≡ score' i) → leastOf score from n ≡ leastOf score' from n
-unfolding leastOf
-least-same score score' zero from f = rw (f from (omega arith))
-least-same score score' (suc n) from f = rw (f from (omega arith), least-same score score' n (suc from) (λ i h. f i (omega arith)))
 
 module _ (l : Lengths) (left right : List ℕ) where
   -- there is one
   pub start-below : (k j : ℕ) → 0 < k → k ≤ j → startOf (l .limit) left right k j < j
   start-below k j h g = omega (arith, first-start-high (l .limit) left right j)
 
-  pub predecessor-same : (own own' : ℕ → Score) (k j : ℕ) → 0 < k → k ≤ j → ((i : ℕ) → i < j → own i ≡ own' i)
-      → predecessorOf l left right own k j ≡ predecessorOf l left right own' k j
-  unfolding predecessorOf
-  predecessor-same own own' k j h g f =
-      let from = startOf (l .limit) left right k j in
-      let b : from < j = start-below k j h g in
-      least-same (arrival l left right own j) (arrival l left right own' j) (j - suc from) from
-      (λ i m. ap (λ (s : Score). withPiece l s (pieceLength left right i j)) (f i (omega arith)))
-
-  -- the least of the scores through the leaves of a row's tree is the best predecessor
-  pub predecessor-by : (leaves : ℕ) (over : List ℕ) (cost : List Float) (k j from : ℕ) (b : Best) → from ≡ startOf (l .limit) left right k j
-      → b ≡ leastIn (arrivalAt l right over cost leaves (getD left j 0)) from j → b ≡ predecessorOf l left right (leafScore leaves over cost) k j
+  -- the least of the scores through the leaves of a row's tree is the best predecessor: the piece rule leaves the candidates from the first start on
+  pub predecessor-by : (leaves : ℕ) (over : List ℕ) (cost : List Float) (k j from : ℕ) (b : Best) → Candidates left right → 0 < k → k ≤ j → j < length left
+      → from ≡ startOf (l .limit) left right k j → heldOf b ≡ leastIn (arrivalAt l right over cost leaves (getD left j 0)) from j
+      → heldOf b ≡ predecessorOf l left right (leafScore leaves over cost) (k - 1) j
   unfolding predecessorOf pieceLength
-  predecessor-by leaves over cost k j from b e h = rw e at h
+  predecessor-by leaves over cost k j from b ok some reached inside e h =
+      let test = mayStart (l .limit) left right j in
+      let score = arrivalAt l right over cost leaves (getD left j 0) in
+      let low = start-below k j some reached in
+      h
+      ∙ least-same every test score score from j (λ i a m. same-test true (test i) (λ t. first-start-all (l .limit) left right ok j i inside (omega arith) m) (λ t. tt)) (λ i a m. refl)
+      ∙ sym (least-skip test score (k - 1) from j (omega arith) (omega arith) (λ i a m. first-start-none (l .limit) left right j i (omega arith)))
 
 -- ---- what stands behind the tree
 
@@ -92,7 +88,7 @@ kept-trans a b = record { overs = a .overs ∙ b .overs; costs = a .costs ∙ b 
 pub laid-kept : {l : Lengths} {left right : List ℕ} {leaves from : ℕ} {over₀ over : List ℕ} {cost₀ cost : List Float} → Laid l left right leaves over₀ cost₀
     → from ≤ length left * 4 → Kept from over₀ cost₀ over cost → Laid l left right leaves over cost
 laid-kept {l} {left} {right} {leaves} {from} {over₀} {over} {cost₀} {cost} x h k = record {
-  lent = rw (behind-kept (length left) h (x .costs) k) (x .lent);
+  domain = rw (behind-kept (length left) h (x .costs) k) (x .domain);
   tree = x .tree;
   overs = omega (arith, x .overs, k .overs);
   costs = omega (arith, x .costs, k .costs);
@@ -109,9 +105,9 @@ module _ {l : Lengths} {left right : List ℕ} {leaves : ℕ} {over : List ℕ} 
   -- what the search reads of the tree
   pub starts-of : {k j : ℕ} → RowReady l left right leaves over cost k j → Starts l right over cost leaves j (getD left j 0)
   starts-of {k} {j} x =
-      let ok = x .laid .lent .candidates in
+      let ok = x .laid .domain .candidates in
       record {
-        preferred = x .laid .lent .preferred;
+        preferred = x .laid .domain .preferred;
         rights = omega (arith, ok .paired, x .inside);
         rise = λ i m a b. rights-rise ok i m a (omega (arith, x .inside));
         behind = λ i a. ends-rise ok i j a (x .inside);
@@ -128,18 +124,13 @@ module _ {l : Lengths} {left right : List ℕ} (ok : Candidates left right) (lik
       → T (nonneg (arrival l left right own j i .cost))
   arrival-fine own fine j i h g = piece-nonneg likes (own i) (pieceLength left right i j) (piece-bounded ok i j h) (fine i g)
 
-  -- the best predecessor is the lowest least of where the last piece may start
-  pub predecessor-is : (own : ℕ → Score) (k j : ℕ) → ((i : ℕ) → i < j → T (nonneg (own i .cost))) → 0 < k → k ≤ j → j < length left
-      → IsLeast (arrival l left right own j) (startOf (l .limit) left right k j) j (predecessorOf l left right own k j)
-  unfolding predecessorOf
-  predecessor-is own k j fine h g m =
-      least-is (arrival l left right own j) j (λ i a. arrival-fine own fine j i m a) (startOf (l .limit) left right k j) (start-below l left right k j h g)
-
--- it comes before the candidate
+-- the best predecessor comes before the candidate
 pub predecessor-high : {l : Lengths} {left right : List ℕ} {leaves : ℕ} {over : List ℕ} {cost : List Float} {k j : ℕ} (b : Best) → RowReady l left right leaves over cost k j
-    → b ≡ predecessorOf l left right (leafScore leaves over cost) k j → b .at < j
+    → heldOf b ≡ predecessorOf l left right (leafScore leaves over cost) (k - 1) j → b .at < j
 predecessor-high {l} {left} {right} {leaves} {over} {cost} {k} {j} b x e =
-    rw e (predecessor-is (x .laid .lent .candidates) (x .laid .lent .preferred) (leafScore leaves over cost) k j (x .fine) (x .some) (x .reached) (x .inside) .high)
+    let ok = x .laid .domain in
+    let c = predecessor-chosen (ok .candidates) (ok .preferred) (leafScore leaves over cost) (k - 1) j (omega (arith, x .some, x .reached)) (x .inside) (x .fine) in
+    rw (ap foundIndex e) (c .1 .high)
 
 -- ---- each score of a row is one again
 
@@ -147,7 +138,7 @@ predecessor-high {l} {left} {right} {leaves} {over} {cost} {k} {j} b x e =
 abbrev pub Fair : ℕ → Score → Type 0
 Fair j s = (s .over ≤ j) × T (nonneg (s .cost))
 
-module _ {l : Lengths} {left right : List ℕ} {cut : List Float} (ok : Lent l left right cut) where
+module _ {l : Lengths} {left right : List ℕ} {cut : List Float} (ok : Searchable l left right cut) where
   fair-piece : (s : Score) (i j : ℕ) → Fair i s → i < j → j < length left → Fair j (withPiece l s (pieceLength left right i j))
   unfolding withPiece
   fair-piece s i j f g h =
@@ -165,11 +156,12 @@ module _ {l : Lengths} {left right : List ℕ} {cut : List Float} (ok : Lent l l
 
   -- and of a later one
   pub next-fair : (own : ℕ → Score) (k j : ℕ) → ((i : ℕ) → i < j → Fair i (own i)) → 0 < k → k ≤ j → j < length left
-      → Fair j (withCutAt cut j (predecessorOf l left right own k j .score))
+      → Fair j (withCutAt cut j (foundScore (predecessorOf l left right own (k - 1) j)))
   next-fair own k j f p m h =
-      let b = predecessorOf l left right own k j in
-      let is = predecessor-is (ok .candidates) (ok .preferred) own k j (λ i a. f i a .1) p m h in
-      fair-cut (b .score) j (subst (Fair j) (sym (is .is)) (fair-piece (own (b .at)) (b .at) j (f (b .at) (is .high)) (is .high) h)) h
+      let found = predecessorOf l left right own (k - 1) j in
+      let i = foundIndex found in
+      let c = predecessor-chosen (ok .candidates) (ok .preferred) own (k - 1) j (omega arith) h (λ i a. f i a .1) in
+      fair-cut (foundScore found) j (subst (Fair j) (sym (c .0)) (fair-piece (own i) i j (f i (c .1 .high)) (c .1 .high) h)) h
 
 -- ---- the tree of a row
 
@@ -212,7 +204,7 @@ module _ {l : Lengths} {left right : List ℕ} {leaves : ℕ} where
       let sound : Sound leaves over cost = record {
         overs = omega (arith, laid .overs, tree-size laid);
         costs = omega (arith, laid .costs, tree-size laid);
-        few = leaf-few leaves (length left) over cost (x .lent .candidates .few) (row-fair row) (row .beyond);
+        few = leaf-few leaves (length left) over cost (x .domain .candidates .few) (row-fair row) (row .beyond);
         fine = leaf-fine leaves (length left) over cost (row-fair row) (row .beyond);
         inner = λ node p h. k .inner node p p h;
       } in
@@ -266,7 +258,7 @@ module _ {l : Lengths} {left right : List ℕ} {leaves : ℕ} {over₀ : List �
       let same : (i : ℕ) → i < length left → leafScore leaves over cost i ≡ leafScore leaves over₁ cost₁ i = λ i h. p .before (leaves + i) (omega arith) in
       let score : (j : ℕ) → j < length left → leafScore leaves over cost j ≡ firstScore l left right (behind (length left) cost) j =
       λ j h. rw cuts (same j h ∙ w .score j h) in
-      let fair : (i : ℕ) → i < length left → Fair i (leafScore leaves over cost i) = λ i h. subst (Fair i) (sym (score i h)) (rw cuts (first-fair (x .lent) i h)) in
+      let fair : (i : ℕ) → i < length left → Fair i (leafScore leaves over cost i) = λ i h. subst (Fair i) (sym (score i h)) (rw cuts (first-fair (x .domain) i h)) in
       record {
         score = score;
         parent = w .parent;
@@ -291,7 +283,7 @@ module _ {l : Lengths} {left right : List ℕ} {leaves : ℕ} {over₀ : List �
     written-fair i h = elim (lt-or-le i n) [
       | inl a ↦ subst (Fair i) (sym (w .before (leaves + i) (omega arith))) (row-fair (t .is-row) i h)
       | inr a ↦ subst (Fair i) (sym (w .score i a h))
-          (next-fair (t .laid .lent) (leafScore leaves over₀ cost₀) k i (λ m b. row-fair (t .is-row) m (omega arith)) some (omega arith) h)
+          (next-fair (t .laid .domain) (leafScore leaves over₀ cost₀) k i (λ m b. row-fair (t .is-row) m (omega arith)) some (omega arith) h)
     ]
 
     written-none : (i : ℕ) → length left ≤ i → i < leaves → leafScore leaves over cost i ≡ noLeaf
@@ -309,7 +301,7 @@ module _ {l : Lengths} {left right : List ℕ} {leaves : ℕ} {over₀ : List �
           covers = covers-front (t .covers) (omega arith) (omega (arith, t .laid .tree .enough)) (record {
             overs = w .rest .overs;
             costs = w .rest .costs;
-            few = leaf-few leaves (length left) over cost (t .laid .lent .candidates .few) written-fair written-none;
+            few = leaf-few leaves (length left) over cost (t .laid .domain .candidates .few) written-fair written-none;
             fine = leaf-fine leaves (length left) over cost written-fair written-none;
             same = λ m g. w .before m (omega arith);
           });
@@ -327,20 +319,20 @@ module _ {l : Lengths} {left right : List ℕ} {leaves : ℕ} {over₀ : List �
 
     -- one more
     pub next-more : (j : ℕ) (b : Best) (s : Score) → suc j ≡ n → k ≤ j → j < length left → leaves + j < length over → leaves + j < length cost → j < length row
-        → b ≡ predecessorOf l left right (leafScore leaves over cost) k j → s ≡ withCutAt (behind (length left) cost₀) j (b .score)
+        → heldOf b ≡ predecessorOf l left right (leafScore leaves over cost) (k - 1) j → s ≡ withCutAt (behind (length left) cost₀) j (b .score)
         → NextWritten l left right leaves over₀ cost₀ (set over (leaves + j) (s .over)) (set cost (leaves + j) (s .cost)) (set row j (b .at)) k j
     next-more j b s e r inside h g m eb es =
-        let same = predecessor-same l left right (leafScore leaves over cost) (leafScore leaves over₀ cost₀) k j some r (λ i a. same-own i (omega arith)) in
-        let d : b ≡ predecessorOf l left right (leafScore leaves over₀ cost₀) k j = eb ∙ same in
+        let same = predecessor-same l left right (leafScore leaves over cost) (leafScore leaves over₀ cost₀) (k - 1) j (λ i a u. same-own i (omega arith)) in
+        let d : heldOf b ≡ predecessorOf l left right (leafScore leaves over₀ cost₀) (k - 1) j = eb ∙ same in
         record {
           score = λ i a z. elim (lt-or-le j i) [
             | inl x ↦ kept over cost (leaves + j) s (leaves + i) (λ (q : leaves + i ≡ leaves + j). omega arith) ∙ w .score i (omega arith) z
             | inr x ↦ let q : j ≡ i = omega arith in
-                rw (← q) (written over cost (leaves + j) s h g ∙ es ∙ ap (λ (c : Best). withCutAt (behind (length left) cost₀) j (c .score)) d)
+                rw (← q) (written over cost (leaves + j) s h g ∙ es ∙ ap (λ (c : Found). withCutAt (behind (length left) cost₀) j (foundScore c)) d)
           ];
           parent = λ i a z. elim (lt-or-le j i) [
             | inl x ↦ getD-set-other row j i (b .at) 0 (λ (q : i ≡ j). omega arith) ∙ w .parent i (omega arith) z
-            | inr x ↦ let q : j ≡ i = omega arith in rw (← q) (getD-set-same row j (b .at) 0 m ∙ ap (λ (c : Best). c .at) d)
+            | inr x ↦ let q : j ≡ i = omega arith in rw (← q) (getD-set-same row j (b .at) 0 m ∙ ap foundIndex d)
           ];
           before = λ i a. kept over cost (leaves + j) s i (λ (q : i ≡ leaves + j). omega arith) ∙ w .before i (omega arith);
           rest = record {
@@ -361,11 +353,11 @@ next-done {l} {left} {right} {leaves} {k} {over₀} {over₁} {over} {cost₀} {
     let linked : behind (length left) cost₁ ≡ behind (length left) cost₀ = behind-kept (length left) (omega arith) (x .costs) (linked-kept eo ec n) in
     let own₀ = leafScore leaves over₀ cost₀ in
     let own₁ = leafScore leaves over₁ cost₁ in
-    let same : (j : ℕ) → k ≤ j → predecessorOf l left right own₁ k j ≡ predecessorOf l left right own₀ k j =
-    λ j a. predecessor-same l left right own₁ own₀ k j some a (λ i b. n .after (leaves + i) (omega arith)) in
+    let same : (j : ℕ) → predecessorOf l left right own₁ (k - 1) j ≡ predecessorOf l left right own₀ (k - 1) j =
+    λ j. predecessor-same l left right own₁ own₀ (k - 1) j (λ i a b. n .after (leaves + i) (omega arith)) in
     record {
-      score = λ j a h. rw cuts (w .score j a h ∙ ap (λ (c : Best). withCutAt (behind (length left) cost₁) j (c .score)) (same j a));
-      parent = λ j a h. w .parent j a h ∙ ap (λ (c : Best). c .at) (same j a);
+      score = λ j a h. rw cuts (w .score j a h ∙ ap (λ (c : Found). withCutAt (behind (length left) cost₁) j (foundScore c)) (same j));
+      parent = λ j a h. w .parent j a h ∙ ap foundIndex (same j);
       laid = laid-kept (t .laid) (omega (arith, t .laid .tree .enough)) (w .rest);
       is-row = record {
         few = λ i h. written-fair t some (le-refl k) w i h .0;

@@ -1,16 +1,18 @@
 // The rows of the table by count: the first, and each next one from the scores of the one before.
 use base_code::sizes;
-use path_by_count_search::best::Best;
 use path_by_count_search::least;
 use path_by_count_search::tree;
+use path_pieces::best::Best;
 use path_pieces::lengths::Lengths;
 use path_pieces::score;
 use path_pieces::score::Score;
 ghost use mathlib.Core.Path.{_≡_};
-ghost use Prim.Native.Nat.{_≤_, _<_};
+ghost use Prim.Native.Nat.{_-_, _≤_, _<_};
 ghost use lib.ListN.{length};
-ghost use Rattle.path_pieces.specs.Domain.{Lent};
-ghost use Rattle.path_by_count_rows.specs.Rows.{predecessorOf, firstScore, leafScore, behind, Laid, Row, FirstRow, NextRow, FirstWritten, NextWritten, Planted, RowReady};
+ghost use Rattle.path_pieces.specs.Least.{heldOf, predecessorOf};
+ghost use Rattle.path_pieces.specs.Domain.{Searchable};
+ghost use Rattle.path_by_count_rows.specs.Rows.{firstScore, leafScore, behind, Laid, Row, Planted, RowReady};
+ghost use Rattle.path_by_count_rows.specs.Rows.{FirstRow, NextRow, FirstWritten, NextWritten};
 
 // The best predecessor of candidate j in row k.
 fn predecessor(
@@ -24,7 +26,10 @@ fn predecessor(
     j: usize,
 ) -> Best
     requires { ⌜ RowReady lengths (now left) (now right) leaves (now over) (now cost) k j ⌝ }
-    ensures { λ r. ⌜ r ≡ predecessorOf lengths (now (left .entry)) (now (right .entry)) (leafScore leaves (now (over .entry)) (now (cost .entry))) k j ⌝ }
+    ensures { λ r. ⌜
+        heldOf r ≡ predecessorOf lengths (now (left .entry)) (now (right .entry))
+        (leafScore leaves (now (over .entry)) (now (cost .entry))) (k - 1) j
+        ⌝ }
 {
     let first = over[left.len() * 4 + j] as usize;
     let from = sizes::larger(first, k - 1);
@@ -46,7 +51,10 @@ fn write_row(
     requires { ⌜ Planted lengths (now left) (now right) leaves (now over) (now cost) ⌝ }
     requires { ⌜ (0 < k) × (k ≤ length (now left)) ⌝ }
     requires { ⌜ length (now row) ≡ length (now left) ⌝ }
-    ensures { λ _. ⌜ NextWritten lengths (now (left .entry)) (now (right .entry)) leaves (now (over .entry)) (now (cost .entry)) (now (over .exit)) (now (cost .exit)) (now (row .exit)) k k ⌝ }
+    ensures { λ _. ⌜
+        NextWritten lengths (now (left .entry)) (now (right .entry)) leaves (now (over .entry)) (now (cost .entry)) (now (over .exit))
+        (now (cost .exit)) (now (row .exit)) k k
+        ⌝ }
 {
     let n = left.len();
     let mut j = n;
@@ -76,7 +84,10 @@ pub fn next_row(
     requires { ⌜ Row leaves (length (now left)) (now over) (now cost) ⌝ }
     requires { ⌜ (0 < k) × (k ≤ length (now left)) ⌝ }
     requires { ⌜ length (now row) ≡ length (now left) ⌝ }
-    ensures { λ _. ⌜ NextRow lengths (now (left .entry)) (now (right .entry)) leaves (now (over .entry)) (now (cost .entry)) (now (over .exit)) (now (cost .exit)) (now (row .exit)) k ⌝ }
+    ensures { λ _. ⌜
+        NextRow lengths (now (left .entry)) (now (right .entry)) leaves (now (over .entry)) (now (cost .entry)) (now (over .exit))
+        (now (cost .exit)) (now (row .exit)) k
+        ⌝ }
 {
     tree::link_nodes(&mut *over, &mut *cost, leaves);
     write_row(
@@ -93,7 +104,7 @@ pub fn next_row(
 
 // The score of a path of one piece to candidate j; to the first there is none.
 fn first_score(left: &[u64], right: &[u64], cut: &[f64], lengths: Lengths, j: usize) -> Score
-    requires { ⌜ Lent lengths (now left) (now right) (now cut) ⌝ }
+    requires { ⌜ Searchable lengths (now left) (now right) (now cut) ⌝ }
     requires { ⌜ j < length (now left) ⌝ }
     ensures { λ r. ⌜ r ≡ firstScore lengths (now (left .entry)) (now (right .entry)) (now (cut .entry)) j ⌝ }
 {
@@ -117,7 +128,10 @@ fn write_first(
 )
     requires { ⌜ Laid lengths (now left) (now right) leaves (now over) (now cost) ⌝ }
     requires { ⌜ length (now row) ≡ length (now left) ⌝ }
-    ensures { λ _. ⌜ FirstWritten lengths (now (left .entry)) (now (right .entry)) leaves (now (over .entry)) (now (cost .entry)) (now (over .exit)) (now (cost .exit)) (now (row .exit)) (length (now (left .entry))) ⌝ }
+    ensures { λ _. ⌜
+        FirstWritten lengths (now (left .entry)) (now (right .entry)) leaves (now (over .entry)) (now (cost .entry)) (now (over .exit))
+        (now (cost .exit)) (now (row .exit)) (length (now (left .entry)))
+        ⌝ }
 {
     let n = left.len();
     for j in 0..n {
@@ -140,7 +154,10 @@ pub fn first_row(
 )
     requires { ⌜ Laid lengths (now left) (now right) leaves (now over) (now cost) ⌝ }
     requires { ⌜ length (now row) ≡ length (now left) ⌝ }
-    ensures { λ _. ⌜ FirstRow lengths (now (left .entry)) (now (right .entry)) leaves (now (over .entry)) (now (cost .entry)) (now (over .exit)) (now (cost .exit)) (now (row .exit)) ⌝ }
+    ensures { λ _. ⌜
+        FirstRow lengths (now (left .entry)) (now (right .entry)) leaves (now (over .entry)) (now (cost .entry)) (now (over .exit))
+        (now (cost .exit)) (now (row .exit))
+        ⌝ }
 {
     write_first(
         left,

@@ -12,7 +12,7 @@ use Rattle.path_pieces.specs.declared.score.Score.{Score}
 -- the least cost of a length from `shortest` to `longest`
 unfoldable pub lengthBoundOf : Lengths → ℕ → ℕ → Float
 lengthBoundOf l shortest longest =
-    lengthBound binary64 (l .«target_weight») (l .«short_weight») (l .min) (l .target) (ofInt binary64 (pos shortest)) (ofInt binary64 (pos longest))
+    lengthBound binary64 (l .weights .target) (l .weights .short) (l .min) (l .target) (ofInt binary64 (pos shortest)) (ofInt binary64 (pos longest))
 
 -- after a score, the least that one more piece of such a length gives
 unfoldable pub withBound : Lengths → Score → ℕ → ℕ → Score

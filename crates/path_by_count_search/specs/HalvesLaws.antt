@@ -10,7 +10,7 @@ use lib.Ieee.{Float}
 use Rattle.base_terms.specs.Floats.{nonneg}
 use Rattle.base_laws.specs.Tests.{lt-or-le}
 use Rattle.path_pieces.specs.Pieces.{lessThan}
-use Rattle.path_by_count_search.specs.declared.best.Best.{Best}
+use Rattle.path_pieces.specs.declared.best.Best.{Best}
 use Rattle.path_by_count_search.specs.declared.visit.Query.{Query}
 use Rattle.path_by_count_search.specs.declared.halves.Half.{Half}
 use Rattle.path_by_count_search.specs.declared.halves.Ordered.{Ordered}
@@ -18,7 +18,7 @@ use Rattle.path_by_count_search.specs.Least.{aheadOf}
 use Rattle.path_by_count_search.specs.Starts.{Starts}
 use Rattle.path_by_count_search.specs.Tree.{Covers}
 use Rattle.path_by_count_search.specs.TreeLaws.{bound-of, lower-half, upper-half}
-use Rattle.path_by_count_search.specs.Visit.{FirstIn, through}
+use Rattle.path_by_count_search.specs.Visit.{lengthsOf, FirstIn, through}
 use Rattle.path_by_count_search.specs.VisitLaws.{looks, none-better, join}
 use Rattle.path_by_count_search.specs.Halves.{pickOrder, inOrder, halfOf, halvesOf, Halved, Part, Parts}
 
@@ -34,7 +34,7 @@ either-order P lower upper x y = go (lessThan (upper .outlook .score) (lower .ou
 
 module _ (q : Query) {right over : List ℕ} {cost : List Float} {node lo hi : ℕ} (c : Covers (q .leaves) (q .to) over cost node lo hi) (h : 1 < hi - lo) where
   -- they can be read
-  pub halved : Starts (q .lengths) right over cost (q .leaves) (q .to) (q .end) → Halved right over cost q node lo hi
+  pub halved : Starts (lengthsOf q) right over cost (q .leaves) (q .to) (q .end) → Halved right over cost q node lo hi
   halved s =
       let low = lower-half c (λ (e : hi - lo ≡ 1). omega arith) refl in
       let up = upper-half c (λ (e : hi - lo ≡ 1). omega arith) refl in
@@ -66,7 +66,7 @@ module _ (q : Query) {right over : List ℕ} {cost : List Float} {node lo hi : �
 
 module _ (q : Query) {right over : List ℕ} {cost : List Float} {lo hi : ℕ} where
   -- a part whose outlook is not ahead of the best so far has nothing better
-  pub left-out : {h : Half} {best : Best} → Starts (q .lengths) right over cost (q .leaves) (q .to) (q .end) → Part q right over cost lo hi h
+  pub left-out : {h : Half} {best : Best} → Starts (lengthsOf q) right over cost (q .leaves) (q .to) (q .end) → Part q right over cost lo hi h
       → T (nonneg (best .score .cost)) → aheadOf (h .outlook) best ≡ false → FirstIn (through q right over cost) (h .lo) (h .hi) (q .from) (q .to) best best
   left-out {h} {best} s p f x = none-better q s (p .covers) f (subst (λ (o : Best). aheadOf o best ≡ false) (p .seen) x)
 

@@ -1,9 +1,9 @@
--- Laws of the lowest least: that the definition gives it, that there is one only, how it goes from a range to a longer one, and the order of candidates behind it.
-use mathlib.Core.Path.{_≡_, refl, sym, ap, subst, _∙_}
+-- Laws of the lowest least where every candidate may be chosen: how it goes from a range to a longer one, and the order of candidates behind it.
+use mathlib.Core.Path.{_≡_, refl, sym, subst}
 use mathlib.Core.Logic.{inl, inr}
 use mathlib.Core.Bool.{Bool, true, false, not, _&&_, _||_}
-use Prim.Native.Nat.{ℕ, zero, suc, _+_, _-_, _≤_, _<_}
-use native.Mathlib.Nat.{le-refl, le-trans, le-antisymm, le-of-lt, lt-trans}
+use Prim.Native.Nat.{ℕ, _+_, _≤_, _<_}
+use native.Mathlib.Nat.{le-refl, le-trans, le-of-lt, lt-trans}
 use native.Mathlib.Omega.{arith}
 use lib.Dec.{T, T-not, not-T, ltb, ltb→lt, nltb→le}
 use lib.Ieee.Fits.{and-l, and-r, and-i}
@@ -13,8 +13,8 @@ use Rattle.base_laws.specs.Scores.{score-eq-is, score-lt-le-trans}
 use Rattle.path_pieces.specs.Pieces.{atMost, lessThan, equalTo}
 use Rattle.path_pieces.specs.DomainLaws.{at-most-refl, at-most-trans, less-than-is, less-at-most}
 use Rattle.path_pieces.specs.declared.score.Score.{Score}
-use Rattle.path_by_count_search.specs.declared.best.Best.{Best}
-use Rattle.path_by_count_search.specs.Least.{entry, pickBest, leastOf, leastIn, IsLeast, aheadOf, Before}
+use Rattle.path_pieces.specs.declared.best.Best.{Best}
+use Rattle.path_by_count_search.specs.Least.{entry, pickBest, IsLeast, aheadOf, Before}
 
 pub pick-yes : (b : Bool) (x y : Best) → T b → pickBest b x y ≡ x
 pick-yes true x y t = refl
@@ -51,69 +51,43 @@ equal-both a b t =
 pub both-equal : (a b : Score) → T (atMost a b) → T (atMost b a) → T (equalTo a b)
 both-equal a b p q = rw (score-eq-is (a .over) (a .cost) (b .over) (b .cost)) (and-i (atMost a b) (atMost b a) p q)
 
--- ---- the definition gives the lowest least, and there is no other
+-- ---- one candidate more behind the range
 
 module _ (score : ℕ → Score) where
-  -- a candidate in front is the lowest least where it is as good as all after it
-  front-best : (from to : ℕ) → from < to → T (nonneg (score from .cost)) → ((k : ℕ) → suc from ≤ k → k < to → T (atMost (score from) (score k)))
-      → IsLeast score from to (entry score from)
-  front-best from to h p a = record {
-    low = le-refl from;
-    high = h;
-    is = refl;
-    least = λ k g l. elim (lt-or-le from k) [
-      | inl m ↦ a k m l
-      | inr m ↦ let e : from ≡ k = omega arith in subst (λ (n : ℕ). T (atMost (score from) (score n))) e (at-most-refl (score from) p)
-    ];
-    lowest = λ k g l. absurd (omega arith);
-  }
-
-  -- else the one after it stays
-  after-best : (from to : ℕ) (b : Best) → T (lessThan (b .score) (score from)) → IsLeast score (suc from) to b → IsLeast score from to b
-  after-best from to b l a = record {
-    low = omega (arith, a .low);
-    high = a .high;
-    is = a .is;
-    least = λ k g h. elim (lt-or-le from k) [
-      | inl m ↦ a .least k m h
-      | inr m ↦ let e : from ≡ k = omega arith in
-          subst (λ (n : ℕ). T (atMost (b .score) (score n))) e (less-at-most (b .score) (score from) l)
-    ];
-    lowest = λ k g h. elim (lt-or-le from k) [
-      | inl m ↦ a .lowest k m h
-      | inr m ↦ let e : from ≡ k = omega arith in subst (λ (n : ℕ). T (lessThan (b .score) (score n))) e l
-    ];
-  }
-
-  -- the candidate just behind the range is the lowest least where it is better than that of the range
+  -- it is the lowest least where it is better than that of the range
   pub least-next : (from to : ℕ) (b : Best) → from ≤ to → T (nonneg (score to .cost)) → T (lessThan (score to) (b .score)) → IsLeast score from to b
       → IsLeast score from (to + 1) (entry score to)
-  least-next from to b f p l a =
+  least-next from to b f p l (e, a) =
       let below : (k : ℕ) → from ≤ k → k < to → T (lessThan (score to) (score k)) =
-      λ k g h. less-at-most-trans (score to) (b .score) (score k) l (a .least k g h) in
-      record {
-        low = f;
-        high = omega arith;
-        is = refl;
-        least = λ k g h. elim (lt-or-le k to) [
-          | inl m ↦ less-at-most (score to) (score k) (below k g m)
-          | inr m ↦ let e : to ≡ k = omega arith in subst (λ (n : ℕ). T (atMost (score to) (score n))) e (at-most-refl (score to) p)
-        ];
-        lowest = below;
-      }
+      λ k g h. less-at-most-trans (score to) (score (b .at)) (score k) (rw e at l) (a .least k g h tt) in (
+        refl,
+        record {
+          low = f;
+          high = omega arith;
+          passed = tt;
+          least = λ k g h t. elim (lt-or-le k to) [
+            | inl m ↦ less-at-most (score to) (score k) (below k g m)
+            | inr m ↦ let q : to ≡ k = omega arith in subst (λ (n : ℕ). T (atMost (score to) (score n))) q (at-most-refl (score to) p)
+          ];
+          lowest = λ k g h t. below k g h;
+        },
+      )
 
   -- else that of the range stays
   pub least-stays : (from to : ℕ) (b : Best) → T (atMost (b .score) (score to)) → IsLeast score from to b → IsLeast score from (to + 1) b
-  least-stays from to b l a = record {
-    low = a .low;
-    high = omega (arith, a .high);
-    is = a .is;
-    least = λ k g h. elim (lt-or-le k to) [
-      | inl m ↦ a .least k g m
-      | inr m ↦ let e : to ≡ k = omega arith in subst (λ (n : ℕ). T (atMost (b .score) (score n))) e l
-    ];
-    lowest = a .lowest;
-  }
+  least-stays from to b l (e, a) = (
+    e,
+    record {
+      low = a .low;
+      high = omega (arith, a .high);
+      passed = tt;
+      least = λ k g h t. elim (lt-or-le k to) [
+        | inl m ↦ a .least k g m tt
+        | inr m ↦ let q : to ≡ k = omega arith in subst (λ (n : ℕ). T (atMost (score (b .at)) (score n))) q (rw e at l)
+      ];
+      lowest = a .lowest;
+    },
+  )
 
   -- the choice between the two
   pub least-more : (from to : ℕ) (b : Best) → ((k : ℕ) → k < to + 1 → T (nonneg (score k .cost))) → IsLeast score from to b
@@ -121,61 +95,25 @@ module _ (score : ℕ → Score) where
   least-more from to b fine a =
       let p : T (nonneg (score to .cost)) = fine to (omega arith) in
       let q : T (nonneg (b .score .cost)) =
-      subst (λ (s : Score). T (nonneg (s .cost))) (sym (a .is)) (fine (b .at) (omega (arith, a .high))) in
+      subst (λ (s : Score). T (nonneg (s .cost))) (sym (a .0)) (fine (b .at) (omega (arith, a .1 .high))) in
       elim (passes (lessThan (score to) (b .score))) [
-        | inl t ↦ rw (pick-yes (lessThan (score to) (b .score)) (entry score to) b t) (least-next from to b (omega (arith, a .low, a .high)) p t a)
+        | inl t ↦ rw (pick-yes (lessThan (score to) (b .score)) (entry score to) b t) (least-next from to b (omega (arith, a .1 .low, a .1 .high)) p t a)
         | inr t ↦ rw (pick-no (lessThan (score to) (b .score)) (entry score to) b t)
             (least-stays from to b (not-less (score to) (b .score) p q t) a)
       ]
 
   -- one candidate alone
   pub least-one : (i : ℕ) → T (nonneg (score i .cost)) → IsLeast score i (i + 1) (entry score i)
-  least-one i p = front-best i (i + 1) (omega arith) p (λ k g l. absurd (omega arith))
-
-module _ (score : ℕ → Score) (to : ℕ) (fine : (k : ℕ) → k < to → T (nonneg (score k .cost))) where
-  go-least : (n from : ℕ) → from + suc n ≡ to → IsLeast score from to (leastOf score from n)
-  unfolding leastOf
-  go-least zero from e = front-best score from to (omega arith) (fine from (omega arith)) (λ k g l. absurd (omega arith))
-  go-least (suc n) from e =
-      let after = leastOf score (suc from) n in
-      let a : IsLeast score (suc from) to after = go-least n (suc from) (omega arith) in
-      let q : T (nonneg (after .score .cost)) = subst (λ (s : Score). T (nonneg (s .cost))) (sym (a .is)) (fine (after .at) (a .high)) in
-      elim (passes (atMost (score from) (after .score))) [
-        | inl y ↦ rw (pick-yes (atMost (score from) (after .score)) (entry score from) after y)
-            (front-best score from to (omega arith) (fine from (omega arith))
-            (λ k g l. at-most-trans (score from) (after .score) (score k) y (a .least k g l)))
-        | inr n ↦ rw (pick-no (atMost (score from) (after .score)) (entry score from) after n)
-            (after-best score from to after (not-at-most (score from) (after .score) (fine from (omega arith)) q n) a)
-      ]
-
-  -- the definition gives it
-  pub least-is : (from : ℕ) → from < to → IsLeast score from to (leastIn score from to)
-  least-is from h = go-least (to - suc from) from (omega arith)
-
-  -- of two, neither is the earlier
-  none-earlier : (from : ℕ) (b c : Best) → IsLeast score from to b → IsLeast score from to c → c .at ≤ b .at
-  none-earlier from b c x y = elim (lt-or-le (b .at) (c .at)) [
-    | inr m ↦ m
-    | inl m ↦
-        let sb : T (nonneg (score (b .at) .cost)) = fine (b .at) (x .high) in
-        let sc : T (nonneg (score (c .at) .cost)) = fine (c .at) (y .high) in
-        let l : T (lessThan (score (c .at)) (score (b .at))) =
-        subst (λ (s : Score). T (lessThan s (score (b .at)))) (y .is) (y .lowest (b .at) (x .low) m) in
-        let g : T (atMost (score (b .at)) (score (c .at))) =
-        subst (λ (s : Score). T (atMost s (score (c .at)))) (x .is) (x .least (c .at) (y .low) (y .high)) in
-        absurd (T-not (atMost (score (b .at)) (score (c .at))) (less-not-at-least (score (c .at)) (score (b .at)) sc sb l) g)
-  ]
-
-  -- there is one only
-  pub least-unique : (from : ℕ) (b c : Best) → IsLeast score from to b → IsLeast score from to c → b ≡ c
-  least-unique from b c x y =
-      let e : b .at ≡ c .at = le-antisymm (none-earlier from c b y x) (none-earlier from b c x y) in
-      let f : b .score ≡ c .score = x .is ∙ ap score e ∙ sym (y .is) in
-      ap (λ (s : Score). record { score = s; at = b .at }) f ∙ ap (λ (i : ℕ). record { score = c .score; at = i }) e
-
-  -- so it is the definition's
-  pub least-only : (from : ℕ) (b : Best) → from < to → IsLeast score from to b → b ≡ leastIn score from to
-  least-only from b h x = least-unique from b (leastIn score from to) x (least-is from h)
+  least-one i p = (
+    refl,
+    record {
+      low = le-refl i;
+      high = omega arith;
+      passed = tt;
+      least = λ k g h t. let q : i ≡ k = omega arith in subst (λ (n : ℕ). T (atMost (score i) (score n))) q (at-most-refl (score i) p);
+      lowest = λ k g h t. absurd (omega arith);
+    },
+  )
 
 -- ---- which of two comes first
 
@@ -222,14 +160,18 @@ not-ahead-before a b p q t =
 -- what comes before every candidate of a range, and is one of them, is the lowest least
 pub before-least : (score : ℕ → Score) (from to : ℕ) (b : Best) → ((k : ℕ) → from ≤ k → k < to → T (nonneg (score k .cost)))
     → from ≤ b .at → b .at < to → b .score ≡ score (b .at) → ((k : ℕ) → from ≤ k → k < to → Before b (entry score k)) → IsLeast score from to b
-before-least score from to b fine low high is all = record {
-  low = low;
-  high = high;
-  is = is;
-  least = λ k g h. all k g h .better;
-  lowest = λ k g h.
-      let x = all k g (lt-trans h high) in
-      let p : T (nonneg (b .score .cost)) = subst (λ (s : Score). T (nonneg (s .cost))) (sym is) (fine (b .at) low high) in
-      not-at-most (score k) (b .score) (fine k g (lt-trans h high)) p
-      (not-T (atMost (score k) (b .score)) (λ (u : T (atMost (score k) (b .score))). let e = x .earlier u in omega arith));
-}
+before-least score from to b fine low high is all = (
+  is,
+  record {
+    low = low;
+    high = high;
+    passed = tt;
+    least = λ k g h t. subst (λ (s : Score). T (atMost s (score k))) is (all k g h .better);
+    lowest = λ k g h t.
+        let x = all k g (lt-trans h high) in
+        let p : T (nonneg (score (b .at) .cost)) = fine (b .at) low high in
+        not-at-most (score k) (score (b .at)) (fine k g (lt-trans h high)) p
+        (not-T (atMost (score k) (score (b .at))) (λ (u : T (atMost (score k) (score (b .at)))).
+        let e = x .earlier (subst (λ (s : Score). T (atMost (score k) s)) (sym is) u) in omega arith));
+  },
+)

@@ -5,7 +5,8 @@ use lib.Dec.{T}
 use lib.Ieee.{Float, nan}
 use lib.ListN.{length, getD}
 use Rattle.base_terms.specs.Floats.{nonneg}
-use Rattle.path_pieces.specs.Limits.{maxIndex, maxEnd}
+use Rattle.base_terms.specs.Limits.{maxLen}
+use Rattle.path_pieces.specs.Limits.{maxIndex}
 use Rattle.path_pieces.specs.Pieces.{withPiece, scoreAt}
 use Rattle.path_pieces.specs.Domain.{Preferred}
 use Rattle.path_pieces.specs.declared.lengths.Lengths.{Lengths}
@@ -21,7 +22,7 @@ pub record Starts (l : Lengths) (right over : List ℕ) (cost : List Float) (bas
   pub rights : to ≤ length right
   pub rise : (i k : ℕ) → i ≤ k → k < to → getD right i 0 ≤ getD right k 0
   pub behind : (i : ℕ) → i < to → getD right i 0 ≤ end
-  pub bounded : end ≤ maxEnd
+  pub bounded : end ≤ maxLen
   pub overs : base + to ≤ length over
   pub costs : base + to ≤ length cost
   pub few : (i : ℕ) → i < to → getD over (base + i) 0 ≤ maxIndex
@@ -33,5 +34,5 @@ pub record Start (right over : List ℕ) (cost : List Float) (node i end : ℕ) 
   pub in-over : node < length over
   pub in-cost : node < length cost
   pub behind : getD right i 0 ≤ end
-  pub bounded : end ≤ maxEnd
+  pub bounded : end ≤ maxLen
   pub few : getD over node 0 ≤ maxIndex

@@ -7,13 +7,15 @@ use lib.Dec.{T}
 use lib.Ieee.{Float}
 use lib.ListN.{getD}
 use Rattle.base_terms.specs.Floats.{nonneg}
-use Rattle.path_pieces.specs.Pieces.{lessThan, scoreAt}
+use Rattle.path_pieces.specs.Pieces.{lengthWeights, lessThan, scoreAt}
 use Rattle.path_pieces.specs.DomainLaws.{piece-nonneg}
+use Rattle.path_pieces.specs.Least.{heldOf}
+use Rattle.path_pieces.specs.LeastLaws.{least-only}
 use Rattle.path_pieces.specs.declared.lengths.Lengths.{Lengths}
 use Rattle.path_pieces.specs.declared.score.Score.{Score}
-use Rattle.path_by_count_search.specs.declared.best.Best.{Best}
-use Rattle.path_by_count_search.specs.Least.{entry, pickBest, leastIn, IsLeast}
-use Rattle.path_by_count_search.specs.LeastLaws.{least-one, least-more, least-only}
+use Rattle.path_pieces.specs.declared.best.Best.{Best}
+use Rattle.path_by_count_search.specs.Least.{every, entry, pickBest, leastIn, IsLeast}
+use Rattle.path_by_count_search.specs.LeastLaws.{least-one, least-more}
 use Rattle.path_by_count_search.specs.Starts.{arrivalAt, Starts, Start}
 
 module _ {l : Lengths} {right over : List ℕ} {cost : List Float} {base to end : ℕ} (s : Starts l right over cost base to end) where
@@ -32,6 +34,21 @@ module _ {l : Lengths} {right over : List ℕ} {cost : List Float} {base to end 
   pub arrival-nonneg : (i : ℕ) → i < to → T (nonneg (arrivalAt l right over cost base end i .cost))
   arrival-nonneg i h =
       piece-nonneg (s .preferred) (scoreAt over cost (base + i)) (end - getD right i 0) (omega (arith, s .bounded)) (s .fine i h)
+
+  -- the same for the preferences that a search holds, without the weights of a cut
+  pub starts-held : Starts (record { min = l .min; target = l .target; limit = l .limit; weights = lengthWeights (l .weights .target) (l .weights .short) })
+      right over cost base to end
+  starts-held = record {
+    preferred = record { preferences = s .preferred .preferences };
+    rights = s .rights;
+    rise = s .rise;
+    behind = s .behind;
+    bounded = s .bounded;
+    overs = s .overs;
+    costs = s .costs;
+    few = s .few;
+    fine = s .fine;
+  }
 
   -- ---- the plain search from `from` on, score by score
 
@@ -54,5 +71,5 @@ module _ {l : Lengths} {right over : List ℕ} {cost : List Float} {base to end 
 
   -- all
   pub scan-done : (from i : ℕ) (b : Best) → from < to → i ≡ to → IsLeast (arrivalAt l right over cost base end) from i b
-      → b ≡ leastIn (arrivalAt l right over cost base end) from to
-  scan-done from i b h e x = least-only (arrivalAt l right over cost base end) to arrival-nonneg from b h (rw e at x)
+      → heldOf b ≡ leastIn (arrivalAt l right over cost base end) from to
+  scan-done from i b h e x = least-only every (arrivalAt l right over cost base end) from to b (λ k m t. arrival-nonneg k m) (rw e at x)

@@ -5,19 +5,21 @@ use Prim.Native.Nat.{ℕ, _-_, _≤_, _<_}
 use native.Mathlib.Omega.{arith}
 use lib.Dec.{T}
 use Rattle.base_terms.specs.Floats.{nonneg}
+use Rattle.path_pieces.specs.Least.{heldOf}
+use Rattle.path_pieces.specs.LeastLaws.{least-only}
 use Rattle.path_pieces.specs.declared.score.Score.{Score}
-use Rattle.path_by_count_search.specs.declared.best.Best.{Best}
-use Rattle.path_by_count_search.specs.Least.{leastIn}
-use Rattle.path_by_count_search.specs.LeastLaws.{before-least, least-only}
+use Rattle.path_pieces.specs.declared.best.Best.{Best}
+use Rattle.path_by_count_search.specs.Least.{every, leastIn}
+use Rattle.path_by_count_search.specs.LeastLaws.{before-least}
 use Rattle.path_by_count_search.specs.Visit.{FirstIn}
 
 -- document 01's "the pruned tree search stays, and is shown to give this"
 pub visit-is-least : (score : ℕ → Score) (leaves from to : ℕ) (s : Score) (r : Best) → ((i : ℕ) → i < to → T (nonneg (score i .cost))) → from < to → to ≤ leaves
-    → s ≡ score (to - 1) → FirstIn score 0 leaves from to (record { score = s; at = to - 1 }) r → r ≡ leastIn score from to
+    → s ≡ score (to - 1) → FirstIn score 0 leaves from to (record { score = s; at = to - 1 }) r → heldOf r ≡ leastIn score from to
 visit-is-least score leaves from to s r fine h e q x =
     let place : (from ≤ r .at) × (r .at < to) × (r .score ≡ score (r .at)) = elim (x .source) [
       | inl d ↦ subst (λ (y : Best). (from ≤ y .at) × (y .at < to) × (y .score ≡ score (y .at))) (sym d) (omega arith, omega arith, q)
       | inr f ↦ (f .first, f .last, f .is)
     ] in
-    least-only score to fine from r h
+    least-only every score from to r (λ k m t. fine k m)
     (before-least score from to r (λ k a b. fine k b) (place .0) (place .1) (place .2) (λ k a b. x .all k (omega arith) (omega arith) a b))

@@ -12,10 +12,10 @@ use lib.ListN.{getD}
 use borrow.Author.Tests.{lt-ltb, le-ltb}
 use Rattle.base_terms.specs.Floats.{nonneg}
 use Rattle.base_laws.specs.Tests.{passes, lt-or-le}
-use Rattle.path_pieces.specs.Limits.{maxEnd}
+use Rattle.base_terms.specs.Limits.{maxLen}
 use Rattle.path_pieces.specs.Pieces.{atMost, scoreAt}
 use Rattle.path_pieces.specs.declared.score.Score.{Score}
-use Rattle.path_by_count_search.specs.declared.best.Best.{Best}
+use Rattle.path_pieces.specs.declared.best.Best.{Best}
 use Rattle.path_by_count_search.specs.declared.visit.Query.{Query}
 use Rattle.path_by_count_search.specs.Least.{entry, aheadOf, firstOf, Before}
 use Rattle.path_by_count_search.specs.LeastLaws.{pick-yes, pick-no, before-refl, before-trans, ahead-before, not-ahead-before}
@@ -24,7 +24,7 @@ use Rattle.path_by_count_search.specs.Tree.{noLeaf, Bound, Covers}
 use Rattle.path_by_count_search.specs.TreeLaws.{bound-of}
 use Rattle.path_by_count_search.specs.Bound.{boundOf}
 use Rattle.path_by_count_search.specs.BoundLaws.{bound-nonneg, bound-least}
-use Rattle.path_by_count_search.specs.Visit.{Ranged, Looks, Found, FirstIn, through, activeBound, outlookOf}
+use Rattle.path_by_count_search.specs.Visit.{lengthsOf, Ranged, Looks, OneOf, FirstIn, through, activeBound, outlookOf}
 
 -- ---- reading a bound
 
@@ -43,12 +43,12 @@ module _ (q : Query) (right over : List ℕ) (cost : List Float) (node lo hi : �
   outlook-none b p z h d = let l : min hi (q .to) ≤ max lo (q .from) = omega arith in rw (le-ltb (max lo (q .from)) (min hi (q .to)) l) d
 
   -- some do
-  pub outlook-some : (s : Score) → a ≡ max lo (q .from) → e ≡ min hi (q .to) → a < e → s ≡ boundOf (q .lengths) right over cost (q .end) node a e
+  pub outlook-some : (s : Score) → a ≡ max lo (q .from) → e ≡ min hi (q .to) → a < e → s ≡ boundOf (lengthsOf q) right over cost (q .end) node a e
       → _≡_ {A = Best} (record { score = s; at = a }) (outlookOf q right over cost node lo hi)
   unfolding outlookOf
   outlook-some s p z h d = let l : max lo (q .from) < min hi (q .to) = omega arith in rw (d, lt-ltb (max lo (q .from)) (min hi (q .to)) l, p, z)
 
-module _ (q : Query) {right over : List ℕ} {cost : List Float} (s : Starts (q .lengths) right over cost (q .leaves) (q .to) (q .end)) where
+module _ (q : Query) {right over : List ℕ} {cost : List Float} (s : Starts (lengthsOf q) right over cost (q .leaves) (q .to) (q .end)) where
   pub looks : {node lo hi : ℕ} → Bound (q .leaves) (q .to) over cost node lo hi → Looks right over cost q node lo hi
   looks {node} {lo} {hi} b = record {
     ranged = λ h. record {
@@ -73,7 +73,7 @@ module _ (q : Query) {right over : List ℕ} {cost : List Float} (s : Starts (q 
       let last = min hi (q .to) - 1 in
       let rl : getD right first 0 ≤ getD right i 0 = s .rise first i (omega arith) t in
       let rh : getD right i 0 ≤ getD right last 0 = s .rise i last (omega arith) (omega arith) in
-      let e : q .end - getD right first 0 ≤ maxEnd = omega (arith, s .bounded) in (
+      let e : q .end - getD right first 0 ≤ maxLen = omega (arith, s .bounded) in (
         bound-nonneg (s .preferred) (scoreAt over cost node) (q .end - getD right last 0) (q .end - getD right first 0) (omega arith) e (b .fine),
         bound-least (s .preferred) (scoreAt over cost node) (scoreAt over cost (q .leaves + i)) (q .end - getD right last 0) (q .end - getD right i 0)
             (q .end - getD right first 0) (omega arith) (omega arith) e (b .fine) (b .below i a z t),
@@ -115,7 +115,7 @@ module _ (score : ℕ → Score) where
     })
   ])
 
-  widen : {l h from to : ℕ} {r : Best} (lo hi : ℕ) → lo ≤ l → h ≤ hi → Found score l h from to r → Found score lo hi from to r
+  widen : {l h from to : ℕ} {r : Best} (lo hi : ℕ) → lo ≤ l → h ≤ hi → OneOf score l h from to r → OneOf score lo hi from to r
   widen lo hi a z x = record { low = le-trans a (x .low); high = omega (arith, x .high); first = x .first; last = x .last; is = x .is }
 
   -- two ranges, one after the other, of which each candidate of lo .. hi is in one
@@ -127,7 +127,7 @@ module _ (score : ℕ → Score) where
       | inr x ↦ inr (widen lo hi a2 z2 x)
       | inl e ↦ elim (p .source) [
         | inl d ↦ inl (e ∙ d)
-        | inr x ↦ inr (subst (λ (y : Best). Found score lo hi from to y) (sym e) (widen lo hi a1 z1 x))
+        | inr x ↦ inr (subst (λ (y : Best). OneOf score lo hi from to y) (sym e) (widen lo hi a1 z1 x))
       ]
     ];
     under = before-trans (q .under) (p .under);

@@ -1,13 +1,8 @@
-// A candidate with the score of the path through it, and which of two comes first.
+// Which of two candidates with their scores comes first.
+use path_pieces::best::Best;
 use path_pieces::score;
-use path_pieces::score::Score;
 ghost use mathlib.Core.Path.{_≡_};
 ghost use Rattle.path_by_count_search.specs.Least.{aheadOf, firstOf};
-
-pub struct Best {
-    pub score: Score,
-    pub at: usize,
-}
 
 // Whether a has a better score than b, or an equal one and a lower index.
 pub fn ahead(a: Best, b: Best) -> bool

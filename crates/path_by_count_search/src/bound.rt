@@ -5,7 +5,8 @@ use path_pieces::lengths::Lengths;
 use path_pieces::score::Score;
 ghost use mathlib.Core.Path.{_≡_};
 ghost use Prim.Native.Nat.{_-_, _≤_, _<_};
-ghost use Rattle.path_pieces.specs.Limits.{maxEnd};
+ghost use Rattle.base_terms.specs.Limits.{maxLen};
+ghost use Rattle.path_pieces.specs.Limits.{maxCandidates};
 ghost use Rattle.path_by_count_search.specs.Bound.{lengthBoundOf, withBound, boundOf};
 ghost use Rattle.path_by_count_search.specs.Visit.{Ranged};
 
@@ -15,7 +16,7 @@ ghost use Rattle.path_by_count_search.specs.Visit.{Ranged};
 // monotone, including IEEE rounding. Using the same operation order as length_cost makes this safe even at exact ties.
 fn length_bound(lengths: Lengths, shortest: u64, longest: u64) -> f64
     requires { ⌜ shortest ≤ longest ⌝ }
-    requires { ⌜ longest ≤ maxEnd ⌝ }
+    requires { ⌜ longest ≤ maxLen ⌝ }
     ensures { λ r. ⌜ r ≡ lengthBoundOf lengths shortest longest ⌝ }
 {
     let min = shortest as f64;
@@ -23,9 +24,9 @@ fn length_bound(lengths: Lengths, shortest: u64, longest: u64) -> f64
     let target = lengths.target;
     let closest = floats::clamp_f64(target, min, max);
     let off = (closest - lengths.target) / lengths.target;
-    let cost = lengths.target_weight * off * off;
+    let cost = lengths.weights.target * off * off;
     if max < lengths.min {
-        cost + lengths.short_weight * (lengths.min - max) / lengths.min
+        cost + lengths.weights.short * (lengths.min - max) / lengths.min
     } else {
         cost
     }
@@ -33,9 +34,9 @@ fn length_bound(lengths: Lengths, shortest: u64, longest: u64) -> f64
 
 // After a score, the least that one more piece of such a length gives.
 fn bound_score(prior: Score, lengths: Lengths, shortest: u64, longest: u64) -> Score
-    requires { ⌜ prior .over ≤ 1048577 ⌝ }
+    requires { ⌜ prior .over ≤ maxCandidates ⌝ }
     requires { ⌜ shortest ≤ longest ⌝ }
-    requires { ⌜ longest ≤ maxEnd ⌝ }
+    requires { ⌜ longest ≤ maxLen ⌝ }
     ensures { λ r. ⌜ r ≡ withBound lengths prior shortest longest ⌝ }
 {
     let limit = lengths.limit;

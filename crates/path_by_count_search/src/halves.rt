@@ -1,9 +1,11 @@
 // The halves of a node's range, each with the best that a candidate of it can be: the half that promises more comes first.
-use crate::best::Best;
 use crate::bound;
 use crate::range;
+use crate::tree;
+use crate::visit;
 use crate::visit::Query;
 use base_code::sizes;
+use path_pieces::best::Best;
 use path_pieces::score;
 use path_pieces::score::Score;
 ghost use mathlib.Core.Path.{_≡_};
@@ -41,12 +43,12 @@ fn outlook(
     let stop = sizes::lesser(hi, query.to);
     if stop <= start {
         let score = Score {
-            over: 1048577,
+            over: tree::NO_CANDIDATE,
             cost: 0.0,
         };
         return Best { score, at: hi };
     }
-    let lengths = query.lengths;
+    let lengths = visit::lengths_of(query);
     let score = bound::bound(right, over, cost, lengths, query.end, node, start, stop);
     Best { score, at: start }
 }

@@ -1,11 +1,12 @@
 // The best predecessor of a range of candidates, by the quicker of two searches.
-use crate::best::Best;
 use crate::narrow;
 use crate::scan;
 use crate::visit::Query;
+use path_pieces::best::Best;
 use path_pieces::lengths::Lengths;
 ghost use mathlib.Core.Path.{_≡_};
 ghost use Prim.Native.Nat.{_≤_, _<_};
+ghost use Rattle.path_pieces.specs.Least.{heldOf};
 ghost use Rattle.path_by_count_search.specs.Least.{leastIn};
 ghost use Rattle.path_by_count_search.specs.Starts.{arrivalAt, Starts};
 ghost use Rattle.path_by_count_search.specs.Tree.{Covers};
@@ -26,7 +27,7 @@ pub fn least_predecessor(
     requires { ⌜ Covers leaves to (now over) (now cost) 1 0 leaves ⌝ }
     requires { ⌜ from < to ⌝ }
     requires { ⌜ to ≤ leaves ⌝ }
-    ensures { λ r. ⌜ r ≡ leastIn (arrivalAt lengths (now (right .entry)) (now (over .entry)) (now (cost .entry)) leaves end) from to ⌝ }
+    ensures { λ r. ⌜ heldOf r ≡ leastIn (arrivalAt lengths (now (right .entry)) (now (over .entry)) (now (cost .entry)) leaves end) from to ⌝ }
 {
     if to - from <= 16 {
         return scan::scan_least(right, over, cost, leaves, lengths, end, from, to);
@@ -34,7 +35,11 @@ pub fn least_predecessor(
     let last = to - 1;
     let score = scan::score_from(right, over, cost, lengths, end, leaves + last, last);
     let query = Query {
-        lengths,
+        min: lengths.min,
+        target: lengths.target,
+        limit: lengths.limit,
+        target_weight: lengths.weights.target,
+        short_weight: lengths.weights.short,
         end,
         from,
         to,

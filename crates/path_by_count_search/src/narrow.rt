@@ -1,15 +1,15 @@
 // Where the search over the tree starts: at the lowest node whose range holds all that is sought.
-use crate::best::Best;
 use crate::range;
 use crate::visit;
 use crate::visit::Query;
+use path_pieces::best::Best;
 ghost use mathlib.Core.Path.{_≡_};
 ghost use Prim.Native.Nat.{_+_, _*_, _≤_, _<_};
 ghost use lib.Dec.{T};
 ghost use Rattle.base_terms.specs.Floats.{nonneg};
 ghost use Rattle.path_by_count_search.specs.Starts.{Starts};
 ghost use Rattle.path_by_count_search.specs.Tree.{Covers};
-ghost use Rattle.path_by_count_search.specs.Visit.{FirstIn, through};
+ghost use Rattle.path_by_count_search.specs.Visit.{lengthsOf, FirstIn, through};
 ghost use Rattle.path_by_count_search.specs.Narrow.{narrowerOf};
 
 // A node with its range.
@@ -45,7 +45,7 @@ fn narrower(place: Place, from: usize, to: usize) -> Place
 
 // The first of the best so far and the candidates in the query. No bound is needed on the way down to the place that holds them all.
 pub fn seek(right: &[u64], over: &[u32], cost: &[f64], query: Query, best: Best) -> Best
-    requires { ⌜ Starts (query .lengths) (now right) (now over) (now cost) (query .leaves) (query .to) (query .end) ⌝ }
+    requires { ⌜ Starts (lengthsOf query) (now right) (now over) (now cost) (query .leaves) (query .to) (query .end) ⌝ }
     requires { ⌜ Covers (query .leaves) (query .to) (now over) (now cost) 1 0 (query .leaves) ⌝ }
     requires { ⌜ query .to ≤ query .leaves ⌝ }
     requires { ⌜ T (nonneg (best .score .cost)) ⌝ }

@@ -1,5 +1,5 @@
 // The plain search for the best predecessor: every candidate of a range, one after the other.
-use crate::best::Best;
+use path_pieces::best::Best;
 use path_pieces::lengths::Lengths;
 use path_pieces::score;
 use path_pieces::score::Score;
@@ -7,6 +7,7 @@ ghost use mathlib.Core.Path.{_≡_};
 ghost use Prim.Native.Nat.{_-_, _<_};
 ghost use lib.ListN.{getD};
 ghost use Rattle.path_pieces.specs.Pieces.{withPiece, lessThan, scoreAt};
+ghost use Rattle.path_pieces.specs.Least.{heldOf};
 ghost use Rattle.path_by_count_search.specs.Least.{pickBest, leastIn};
 ghost use Rattle.path_by_count_search.specs.Starts.{arrivalAt, Starts, Start};
 
@@ -53,7 +54,7 @@ pub fn scan_least(
 ) -> Best
     requires { ⌜ Starts lengths (now right) (now over) (now cost) base to end ⌝ }
     requires { ⌜ from < to ⌝ }
-    ensures { λ r. ⌜ r ≡ leastIn (arrivalAt lengths (now (right .entry)) (now (over .entry)) (now (cost .entry)) base end) from to ⌝ }
+    ensures { λ r. ⌜ heldOf r ≡ leastIn (arrivalAt lengths (now (right .entry)) (now (over .entry)) (now (cost .entry)) base end) from to ⌝ }
 {
     let mut best = Best {
         score: score_from(right, over, cost, lengths, end, base + from, from),

@@ -4,13 +4,17 @@ use path_pieces::score::Score;
 ghost use mathlib.Core.Path.{_≡_};
 ghost use Prim.Native.Nat.{_*_, _≤_, _<_};
 ghost use lib.ListN.{length};
+ghost use Rattle.path_pieces.specs.Limits.{maxCandidates};
 ghost use Rattle.path_by_count_search.specs.Tree.{Leaves, lesserScore};
 ghost use Rattle.path_by_count_search.specs.Fill.{Padded, Linked};
+
+// More pieces over the limit than a path can have: 2^20 + 1.
+pub const NO_CANDIDATE: u32 = 1048577;
 
 // The number of leaves for n candidates: the least power of two that is at least n.
 pub fn leaves_for(n: usize) -> usize
     requires { ⌜ 0 < n ⌝ }
-    requires { ⌜ n ≤ 1048577 ⌝ }
+    requires { ⌜ n ≤ maxCandidates ⌝ }
     ensures { λ r. ⌜ Leaves n r ⌝ }
 {
     let mut leaves: usize = 1;
@@ -35,7 +39,7 @@ pub fn pad_leaves(tree_over: &mut [u32], tree_cost: &mut [f64], from: usize, to:
     ensures { λ _. ⌜ Padded (now («tree_over» .entry)) (now («tree_cost» .entry)) from (now («tree_over» .exit)) (now («tree_cost» .exit)) to ⌝ }
 {
     for i in from..to {
-        tree_over[i] = 1048577;
+        tree_over[i] = NO_CANDIDATE;
         tree_cost[i] = 0.0;
     }
 }

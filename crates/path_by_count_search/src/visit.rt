@@ -2,11 +2,12 @@
 //
 // Floating-point rounding can break Monge argmin ordering, even with convex real-valued costs, so only bounds prune.
 use crate::best;
-use crate::best::Best;
 use crate::halves;
 use crate::scan;
 use base_code::sizes;
+use path_pieces::best::Best;
 use path_pieces::lengths::Lengths;
+use path_pieces::weights;
 ghost use mathlib.Core.Path.{_≡_};
 ghost use Prim.Native.Nat.{_+_};
 ghost use lib.Dec.{T};
@@ -14,19 +15,38 @@ ghost use Rattle.base_terms.specs.Floats.{nonneg};
 ghost use Rattle.path_by_count_search.specs.Least.{entry, firstOf};
 ghost use Rattle.path_by_count_search.specs.Starts.{Starts, Start};
 ghost use Rattle.path_by_count_search.specs.Tree.{Covers};
-ghost use Rattle.path_by_count_search.specs.Visit.{FirstIn, through};
+ghost use Rattle.path_by_count_search.specs.Visit.{lengthsOf, FirstIn, through};
 
 // So few candidates are compared one after the other: a bound costs about as much as a score, so that halving on would cost more than it leaves out.
 pub const FEW: usize = 8;
 
 // What is sought: the best predecessor among the candidates from..to of a piece that ends at the place `end`.
 // The leaf of candidate i stands at leaves + i.
+//
+// Of the preferences it holds the five numbers that a length's cost and its bound look at: every call of `visit` copies the query, and the weights
+// of a cut made it slower by up to 8 %.
 pub struct Query {
-    pub lengths: Lengths,
+    pub min: f64,
+    pub target: f64,
+    pub limit: u64,
+    pub target_weight: f64,
+    pub short_weight: f64,
     pub end: u64,
     pub from: usize,
     pub to: usize,
     pub leaves: usize,
+}
+
+// The preferences of a query, by value.
+pub fn lengths_of(query: Query) -> Lengths
+    ensures { λ r. ⌜ r ≡ lengthsOf query ⌝ }
+{
+    Lengths {
+        min: query.min,
+        target: query.target,
+        limit: query.limit,
+        weights: weights::length_weights(query.target_weight, query.short_weight),
+    }
 }
 
 // The first of the best so far and the candidate i.
@@ -34,7 +54,7 @@ fn at_leaf(right: &[u64], over: &[u32], cost: &[f64], query: Query, i: usize, be
     requires { ⌜ Start (now right) (now over) (now cost) (query .leaves + i) i (query .end) ⌝ }
     ensures { λ r. ⌜ r ≡ firstOf (entry (through query (now (right .entry)) (now (over .entry)) (now (cost .entry))) i) best ⌝ }
 {
-    let lengths = query.lengths;
+    let lengths = lengths_of(query);
     let score = scan::score_from(right, over, cost, lengths, query.end, query.leaves + i, i);
     best::first_of(Best { score, at: i }, best)
 }
@@ -49,7 +69,7 @@ fn at_leaves(
     hi: usize,
     best: Best,
 ) -> Best
-    requires { ⌜ Starts (query .lengths) (now right) (now over) (now cost) (query .leaves) (query .to) (query .end) ⌝ }
+    requires { ⌜ Starts (lengthsOf query) (now right) (now over) (now cost) (query .leaves) (query .to) (query .end) ⌝ }
     requires { ⌜ T (nonneg (best .score .cost)) ⌝ }
     ensures { λ r. ⌜ FirstIn (through query (now (right .entry)) (now (over .entry)) (now (cost .entry))) lo hi (query .from) (query .to) best r ⌝ }
 {
@@ -75,7 +95,7 @@ pub fn visit(
     hi: usize,
     best: Best,
 ) -> Best
-    requires { ⌜ Starts (query .lengths) (now right) (now over) (now cost) (query .leaves) (query .to) (query .end) ⌝ }
+    requires { ⌜ Starts (lengthsOf query) (now right) (now over) (now cost) (query .leaves) (query .to) (query .end) ⌝ }
     requires { ⌜ Covers (query .leaves) (query .to) (now over) (now cost) node lo hi ⌝ }
     requires { ⌜ T (nonneg (best .score .cost)) ⌝ }
     ensures { λ r. ⌜ FirstIn (through query (now (right .entry)) (now (over .entry)) (now (cost .entry))) lo hi (query .from) (query .to) best r ⌝ }

@@ -5,20 +5,22 @@ use mathlib.Core.List.{List}
 use Prim.Native.Nat.{ℕ, _≤_, _<_}
 use lib.Dec.{T}
 use lib.Ieee.{Float, nan}
-use lib.ListN.{getD}
+use lib.ListN.{length, getD}
 use Rattle.base_terms.specs.Floats.{nonneg}
 use Rattle.path_pieces.specs.Pieces.{noScore, pieceLength, isWithin, isShort, passesTarget, withPiece, arrival, scoreAt, lessThan}
-use Rattle.path_pieces.specs.Domain.{Preferred}
+use Rattle.path_pieces.specs.Domain.{Candidates, Preferred}
 use Rattle.path_pieces.specs.declared.lengths.Lengths.{Lengths}
 use Rattle.path_pieces.specs.declared.score.Score.{Score}
-use Rattle.path_by_length.specs.declared.predecessor.Found.{Found}
-use Rattle.path_by_length.specs.declared.predecessor.Found.the-variants.{At}
-use Rattle.path_by_length.specs.declared.backward.Best.{Best}
-use Rattle.path_by_length.specs.LeastLaws.{Walking}
+use Rattle.path_pieces.specs.declared.best.Best.{Best}
+use Rattle.path_pieces.specs.Least.{heldOf, BestSoFar}
 
--- the best so far as an answer
-abbrev pub heldOf : Best → Found
-heldOf best = At (best .score) (best .at)
+-- what the search for a predecessor of candidate j reads: candidates in order, and a score for each before j, of no more pieces over the limit than there are pieces
+pub record Scored (left right over : List ℕ) (cost : List Float) (j : ℕ) : Type 0 where
+  pub candidates : Candidates left right
+  pub inside : j < length left
+  pub overs : j ≤ length over
+  pub costs : j ≤ length cost
+  pub few : (k : ℕ) → k < j → getD over k 0 ≤ k
 
 -- the costs of the scores before candidate j are not negative, nor is that of a length
 pub record Costed (l : Lengths) (cost : List Float) (j : ℕ) : Type 0 where
@@ -28,7 +30,7 @@ pub record Costed (l : Lengths) (cost : List Float) (j : ℕ) : Type 0 where
 module _ (l : Lengths) (left right : List ℕ) where
   -- `best` is the best predecessor of candidate j among the candidates from i on whose piece is within the limit
   pub record Walked (over : List ℕ) (cost : List Float) (from j : ℕ) (best : Best) (i : ℕ) : Type 0 where
-    pub walking : Walking (isWithin (l .limit) left right j) (arrival l left right (scoreAt over cost) j) from j (heldOf best) i
+    pub so-far : BestSoFar (isWithin (l .limit) left right j) (arrival l left right (scoreAt over cost) j) from j (heldOf best) i
     pub number : T (nonneg (best .score .cost))
 
   -- of the candidates from..i, none has a piece to j within the limit that is below the minimum

@@ -16,12 +16,11 @@ use Rattle.path_pieces.specs.Pieces.{noScore, pieceLength, isWithin, isShort, p
 use Rattle.path_pieces.specs.DomainLaws.{piece-bounded, piece-longer, piece-long, piece-nonneg, piece-alone, less-than-is}
 use Rattle.path_pieces.specs.declared.lengths.Lengths.{Lengths}
 use Rattle.path_pieces.specs.declared.score.Score.{Score}
-use Rattle.path_by_length.specs.declared.backward.Best.{Best}
-use Rattle.path_by_length.specs.Least.{orBetter}
-use Rattle.path_by_length.specs.LeastLaws.{least-worse, walking-start, walking-next, walking-stop, walking-done}
-use Rattle.path_by_length.specs.PredecessorLaws.{within-yes, within-none}
-use Rattle.path_by_length.specs.Table.{Scored}
-use Rattle.path_by_length.specs.Backward.{heldOf, Costed, Walked, Long, isBeyond}
+use Rattle.path_pieces.specs.declared.best.Best.{Best}
+use Rattle.path_pieces.specs.Least.{orBetter, heldOf}
+use Rattle.path_pieces.specs.LeastLaws.{least-worse, so-far-start, so-far-next, so-far-stop, so-far-done}
+use Rattle.path_pieces.specs.PredecessorLaws.{within-yes, within-none}
+use Rattle.path_by_length.specs.Backward.{Scored, Costed, Walked, Long, isBeyond}
 
 -- ---- one candidate more
 
@@ -44,7 +43,7 @@ module _ {l : Lengths} {left right over : List ℕ} {cost : List Float} {j : ℕ
   -- the walk starts just before j
   pub walked-first : (from : ℕ) → from < j → pieceLength left right (j - 1) j ≤ l .limit → Walked l left right over cost from j (record { score = score (j - 1); at = j - 1 }) (j - 1)
   walked-first from h g = record {
-    walking = walking-next test score from j _ j h (within-yes (l .limit) left right j (j - 1) g) (walking-start test score from j);
+    so-far = so-far-next test score from j _ j h (within-yes (l .limit) left right j (j - 1) g) (so-far-start test score from j);
     number = score-number (j - 1) (omega arith);
   }
 
@@ -53,18 +52,18 @@ module _ {l : Lengths} {left right over : List ℕ} {cost : List Float} {j : ℕ
     pub walked-next : (next : Best) → from < i → pieceLength left right (i - 1) j ≤ l .limit → heldOf next ≡ orBetter (score (i - 1)) (i - 1) (heldOf best)
         → T (nonneg (next .score .cost)) → Walked l left right over cost from j next (i - 1)
     walked-next next h g e p = record {
-      walking = rw e (walking-next test score from j (heldOf best) i h (within-yes (l .limit) left right j (i - 1) g) (w .walking));
+      so-far = rw e (so-far-next test score from j (heldOf best) i h (within-yes (l .limit) left right j (i - 1) g) (w .so-far));
       number = p;
     }
 
     -- it ends where a piece is over the limit
     pub walked-stop : from ≤ j → from < i → l .limit < pieceLength left right (i - 1) j → Walked l left right over cost from j best from
     walked-stop g h o = record {
-      walking = (
+      so-far = (
         g,
         omega arith,
-        walking-stop test score from j (heldOf best) i h
-            (λ k m. within-none (l .limit) left right j (i - 1) (ok .candidates) (omega (arith, w .walking .0, ok .inside)) o k (omega arith)) (w .walking),
+        so-far-stop test score from j (heldOf best) i h
+            (λ k m. within-none (l .limit) left right j (i - 1) (ok .candidates) (omega (arith, w .so-far .0, ok .inside)) o k (omega arith)) (w .so-far),
       );
       number = w .number;
     }
@@ -72,7 +71,7 @@ module _ {l : Lengths} {left right over : List ℕ} {cost : List Float} {j : ℕ
     -- or where no candidate is left
     pub walked-done : from ≤ j → i ≤ from → Walked l left right over cost from j best from
     walked-done g h = record {
-      walking = (g, omega arith, walking-done test score from j (heldOf best) i h (w .walking));
+      so-far = (g, omega arith, so-far-done test score from j (heldOf best) i h (w .so-far));
       number = w .number;
     }
 
@@ -84,15 +83,15 @@ module _ {l : Lengths} {left right over : List ℕ} {cost : List Float} {j : ℕ
         let alone = withPiece l noScore len in
         let (p, q) = both (passesTarget l len) (lessThan (best .score) alone) b in
         record {
-          walking = (
+          so-far = (
             g,
             omega arith,
-            least-worse test score from i j (best .score) (best .at) (omega arith) (w .walking .0) (w .walking .2)
+            least-worse test score from i j (best .score) (best .at) (omega arith) (w .so-far .0) (w .so-far .2)
                 (λ k a m.
-                let low = piece-alone (costed .preferred) (scoreAt over cost k) len (pieceLength left right k j) (costed .cost-nonneg k (omega (arith, w .walking .0)))
-                (piece-longer (ok .candidates) k (i - 1) j (omega arith) (omega (arith, w .walking .0, ok .inside)))
+                let low = piece-alone (costed .preferred) (scoreAt over cost k) len (pieceLength left right k j) (costed .cost-nonneg k (omega (arith, w .so-far .0)))
+                (piece-longer (ok .candidates) k (i - 1) j (omega arith) (omega (arith, w .so-far .0, ok .inside)))
                 (piece-bounded (ok .candidates) k j (ok .inside)) e p in
-                subst T (less-than-is (best .score) (score k) (w .number) (score-number k (omega (arith, w .walking .0))))
+                subst T (less-than-is (best .score) (score k) (w .number) (score-number k (omega (arith, w .so-far .0))))
                 (score-lt-le-trans (best .score .over) (best .score .cost) (alone .over) (alone .cost) (score k .over) (score k .cost) (holds q) low)),
           );
           number = w .number;
@@ -104,13 +103,13 @@ module _ {l : Lengths} {left right over : List ℕ} {cost : List Float} {j : ℕ
     pub long-over : from < i → l .limit < pieceLength left right (i - 1) j → Long l left right from j i
     long-over h o = record {
       none-short = λ k a b t. absurd
-          (T-not (test k) (within-none (l .limit) left right j (i - 1) (ok .candidates) (omega (arith, w .walking .0, ok .inside)) o k (omega arith)) t);
+          (T-not (test k) (within-none (l .limit) left right j (i - 1) (ok .candidates) (omega (arith, w .so-far .0, ok .inside)) o k (omega arith)) t);
     }
 
     -- where one is not below it
     pub long-met : from < i → isShort l (pieceLength left right (i - 1) j) ≡ false → Long l left right from j i
     long-met h e = record {
-      none-short = λ k a b t. piece-long (ok .candidates) l k (i - 1) j (omega arith) (omega (arith, w .walking .0, ok .inside)) e;
+      none-short = λ k a b t. piece-long (ok .candidates) l k (i - 1) j (omega arith) (omega (arith, w .so-far .0, ok .inside)) e;
     }
 
 -- where no candidate is left
@@ -124,4 +123,4 @@ long-part from' i' h g ok = record { none-short = λ k a b t. ok .none-short k (
 -- the same walk towards another end
 pub walked-from : {l : Lengths} {left right over : List ℕ} {cost : List Float} {from j : ℕ} {best : Best} {i : ℕ} (from' : ℕ) → from' ≤ i
     → Walked l left right over cost from j best i → Walked l left right over cost from' j best i
-walked-from from' h w = record { walking = (w .walking .0, omega arith, w .walking .2); number = w .number }
+walked-from from' h w = record { so-far = (w .so-far .0, omega arith, w .so-far .2); number = w .number }

@@ -9,11 +9,11 @@ use lib.Dec.{T}
 use lib.Ieee.{Float}
 use lib.ListN.{length}
 use Rattle.path_pieces.specs.Pieces.{pieceLength, noScore, withPiece, atMost, arrival}
-use Rattle.path_pieces.specs.Domain.{Lent}
+use Rattle.path_pieces.specs.Domain.{Searchable}
 use Rattle.path_pieces.specs.DomainLaws.{at-most-refl, at-most-trans, piece-bounded, piece-nonneg, piece-keeps, cut-at-keeps}
 use Rattle.path_pieces.specs.declared.lengths.Lengths.{Lengths}
 use Rattle.path_pieces.specs.declared.score.Score.{Score}
-use Rattle.path_by_length.specs.Paths.{Allowed, Run, Path, step, scoreFrom, pathScore, Chosen}
+use Rattle.path_by_length.specs.Paths.{Allowed, Onward, Path, step, scoreFrom, pathScore, Chosen}
 use Rattle.path_by_length.specs.PathsLaws.{path-more, path-score-more}
 use Rattle.path_by_length.specs.Table.{bestScore, parentOf, wayTo, Falling}
 use Rattle.path_by_length.specs.TableLaws.{best-first, best-nonneg, best-step, best-least, parent-chosen, parent-below}
@@ -34,9 +34,9 @@ way-path rule parent j f r = go (suc j) j (le-refl (suc j)) (le-refl j)
         (path-more rule (wayTo parent (parent (suc k))) (parent (suc k)) (suc k) (go n (parent (suc k)) (omega arith) (omega arith)) (r (suc k) (omega arith) g))
 
 -- a run of rising pieces ends no lower than it starts
-pub run-rises : (rule : ℕ → ℕ → Type 0) → ((i j : ℕ) → rule i j → i < j) → (i : ℕ) (rest : List ℕ) (last : ℕ) → Run rule i rest last → i ≤ last
-run-rises rule w i [] last e = le-of-eq e
-run-rises rule w i (j ∷ rest) last (p, r) = let a = w i j p in let b = run-rises rule w j rest last r in omega arith
+pub onward-rises : (rule : ℕ → ℕ → Type 0) → ((i j : ℕ) → rule i j → i < j) → (i : ℕ) (rest : List ℕ) (last : ℕ) → Onward rule i rest last → i ≤ last
+onward-rises rule w i [] last e = le-of-eq e
+onward-rises rule w i (j ∷ rest) last (p, r) = let a = w i j p in let b = onward-rises rule w j rest last r in omega arith
 
 -- a path by a rule is a path by a weaker one
 pub path-weaken : (rule rule' : ℕ → ℕ → Type 0) (last : ℕ) → ((i j : ℕ) → rule i j → i < j) → ((i j : ℕ) → j ≤ last → rule i j → rule' i j) → (path : List ℕ)
@@ -44,13 +44,13 @@ pub path-weaken : (rule rule' : ℕ → ℕ → Type 0) (last : ℕ) → ((i j :
 path-weaken rule rule' last rises w [] p = p
 path-weaken rule rule' last rises w (i ∷ rest) (e, r) = (e, go i rest r)
   where
-    go : (i : ℕ) (rest : List ℕ) → Run rule i rest last → Run rule' i rest last
+    go : (i : ℕ) (rest : List ℕ) → Onward rule i rest last → Onward rule' i rest last
     go i [] e = e
-    go i (j ∷ rest) (p, r) = (w i j (run-rises rule rises j rest last r) p, go j rest r)
+    go i (j ∷ rest) (p, r) = (w i j (onward-rises rule rises j rest last r) p, go j rest r)
 
 -- ---- the table
 
-module _ {l : Lengths} {left right : List ℕ} {cut : List Float} (ok : Lent l left right cut) where
+module _ {l : Lengths} {left right : List ℕ} {cut : List Float} (ok : Searchable l left right cut) where
   abbrev own : ℕ → Score
   own = bestScore l left right cut
 
@@ -90,12 +90,12 @@ module _ {l : Lengths} {left right : List ℕ} {cut : List Float} (ok : Lent l l
       (piece-nonneg (ok .preferred) (own i) (pieceLength left right i j) bound (best-nonneg ok i h))
       (piece-keeps (ok .preferred) (own i) s (pieceLength left right i j) bound (best-nonneg ok i h) a)
 
-  run-best : (s : Score) (i : ℕ) (rest : List ℕ) (last : ℕ) → last < length left → Run (Allowed (l .limit) left right) i rest last → T (atMost (own i) s)
+  run-best : (s : Score) (i : ℕ) (rest : List ℕ) (last : ℕ) → last < length left → Onward (Allowed (l .limit) left right) i rest last → T (atMost (own i) s)
       → T (atMost (own last) (scoreFrom l left right cut s i rest))
   unfolding scoreFrom
   run-best s i [] last h e a = rw (← e) a
   run-best s i (j ∷ rest) last h (p, r) a =
-      let up = run-rises (Allowed (l .limit) left right) (λ m n q. q .0) j rest last r in
+      let up = onward-rises (Allowed (l .limit) left right) (λ m n q. q .0) j rest last r in
       let lower = p .0 in
       run-best (step l left right cut s i j) j rest last h r
       (at-most-trans (own j) (step l left right cut (own i) i j) (step l left right cut s i j) (best-least ok i j p (omega arith))

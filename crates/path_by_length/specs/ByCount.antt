@@ -7,12 +7,11 @@ use Prim.Native.Nat.{ℕ, zero, suc, _≤_, _<_}
 use lib.Dec.{T}
 use lib.Ieee.{Float}
 use lib.ListN.{length}
-use Rattle.path_pieces.specs.Pieces.{pieceLength, noScore, withPiece, atMost, arrival, withCutAt}
+use Rattle.path_pieces.specs.Pieces.{pieceLength, noScore, withPiece, atMost, arrival, withCutAt, mayStart}
 use Rattle.path_pieces.specs.declared.lengths.Lengths.{Lengths}
 use Rattle.path_pieces.specs.declared.score.Score.{Score}
-use Rattle.path_by_length.specs.Least.{foundScore, foundIndex, LowestLeast}
-use Rattle.path_by_length.specs.Paths.{mayStart, PathWith, piecesOf, lastOf, pathScore}
-use Rattle.path_by_length.specs.Table.{predecessorOf}
+use Rattle.path_pieces.specs.Least.{foundScore, foundIndex, LowestLeast, predecessorOf}
+use Rattle.path_by_length.specs.Paths.{PathWith, piecesOf, lastOf, pathScore}
 
 module _ (l : Lengths) (left right : List ℕ) (cut : List Float) where
   -- ---- the table
@@ -59,14 +58,14 @@ module _ (l : Lengths) (left right : List ℕ) where
   ChosenByCount own (suc k) i j = LowestLeast (mayStart (l .limit) left right j) (arrival l left right (own (suc k)) j) (suc k) j i
 
   -- from candidate i on, after k pieces
-  abbrev pub TieRun : (ℕ → ℕ → Score) → ℕ → ℕ → List ℕ → ℕ → Type 0
-  TieRun own k i [] last = i ≡ last
-  TieRun own k i (j ∷ rest) last = ChosenByCount own k i j × TieRun own (suc k) j rest last
+  abbrev pub TieOnward : (ℕ → ℕ → Score) → ℕ → ℕ → List ℕ → ℕ → Type 0
+  TieOnward own k i [] last = i ≡ last
+  TieOnward own k i (j ∷ rest) last = ChosenByCount own k i j × TieOnward own (suc k) j rest last
 
   -- from the first candidate to `last`
   abbrev pub TiePath : (ℕ → ℕ → Score) → List ℕ → ℕ → Type 0
   TiePath own [] last = ⊥
-  TiePath own (i ∷ rest) last = (i ≡ 0) × TieRun own 0 i rest last
+  TiePath own (i ∷ rest) last = (i ≡ 0) × TieOnward own 0 i rest last
 
   abbrev pub TieRuleByCount : (ℕ → ℕ → Score) → List ℕ → Type 0
   TieRuleByCount own path = TiePath own path (lastOf left)

@@ -10,23 +10,21 @@ use lib.Ieee.{Float}
 use lib.ListN.{length, length-append}
 use Rattle.base_terms.specs.Floats.{nonneg}
 use Rattle.base_laws.specs.Nonneg.{nought-nonneg}
-use Rattle.path_pieces.specs.Pieces.{pieceLength, noScore, withPiece, atMost, arrival, withCutAt}
-use Rattle.path_pieces.specs.Domain.{Lent}
+use Rattle.path_pieces.specs.Pieces.{pieceLength, noScore, withPiece, atMost, arrival, withCutAt, mayStart}
+use Rattle.path_pieces.specs.Domain.{Searchable}
 use Rattle.path_pieces.specs.DomainLaws.{at-most-refl, at-most-trans, piece-bounded, piece-nonneg, piece-keeps, cut-at-nonneg, cut-at-keeps}
 use Rattle.path_pieces.specs.declared.lengths.Lengths.{Lengths}
 use Rattle.path_pieces.specs.declared.score.Score.{Score}
-use Rattle.path_by_length.specs.declared.predecessor.Found.{Found}
-use Rattle.path_by_length.specs.declared.predecessor.Found.the-variants.{At, Nothing}
-use Rattle.path_by_length.specs.Least.{foundScore, LowestLeast}
-use Rattle.path_by_length.specs.LeastLaws.{Answers, least-answers}
-use Rattle.path_by_length.specs.Paths.{mayStart, AllowedByCount, PathWith, Run, Path, step, scoreFrom, pathScore}
+use Rattle.path_pieces.specs.declared.best.Found.{Found}
+use Rattle.path_pieces.specs.declared.best.Found.the-variants.{At, Nothing}
+use Rattle.path_pieces.specs.Least.{foundScore, LowestLeast, Answers, predecessorOf}
+use Rattle.path_pieces.specs.LeastLaws.{least-answers}
+use Rattle.path_by_length.specs.Paths.{AllowedByCount, PathWith, Onward, Path, step, scoreFrom, pathScore}
 use Rattle.path_by_length.specs.PathsLaws.{path-more, path-score-more}
-use Rattle.path_by_length.specs.Table.{predecessorOf}
-use Rattle.path_by_length.specs.PredecessorLaws.{start-next, predecessor-nothing}
-use Rattle.path_by_length.specs.TableLaws.{least-settled}
-use Rattle.path_by_length.specs.BestLaws.{run-rises}
+use Rattle.path_pieces.specs.PredecessorLaws.{predecessor-nothing, predecessor-chosen}
+use Rattle.path_by_length.specs.BestLaws.{onward-rises}
 use Rattle.base_laws.specs.Tests.{lt-or-le}
-use Rattle.path_by_length.specs.ByCount.{bestWith, parentWith, wayWith, ChosenByCount, TieRun, TiePath}
+use Rattle.path_by_length.specs.ByCount.{bestWith, parentWith, wayWith, ChosenByCount, TieOnward, TiePath}
 
 -- k pieces reach the candidates from k on, and none only the first
 abbrev pub Reached : ℕ → ℕ → Type 0
@@ -35,8 +33,8 @@ Reached k j = (k ≤ j) × (k ≡ 0 → j ≡ 0)
 -- ---- one more piece by the tie rule
 
 module _ (l : Lengths) (left right : List ℕ) (own : ℕ → ℕ → Score) where
-  tie-run-more : (k n a : ℕ) (rest : List ℕ) (i j : ℕ) → n + length rest ≡ k → TieRun l left right own n a rest i → ChosenByCount l left right own k i j
-      → TieRun l left right own n a (rest ++ (j ∷ [])) j
+  tie-run-more : (k n a : ℕ) (rest : List ℕ) (i j : ℕ) → n + length rest ≡ k → TieOnward l left right own n a rest i → ChosenByCount l left right own k i j
+      → TieOnward l left right own n a (rest ++ (j ∷ [])) j
   tie-run-more k n a [] i j e r c = let q : k ≡ n = omega arith in (rw (← q, r) c, refl)
   tie-run-more k n a (b ∷ rest) i j e (p, r) c = (p, tie-run-more k (suc n) b rest i j (omega arith) r c)
 
@@ -47,7 +45,7 @@ module _ (l : Lengths) (left right : List ℕ) (own : ℕ → ℕ → Score) whe
 
 -- ---- the table
 
-module _ {l : Lengths} {left right : List ℕ} {cut : List Float} (ok : Lent l left right cut) where
+module _ {l : Lengths} {left right : List ℕ} {cut : List Float} (ok : Searchable l left right cut) where
   abbrev own : ℕ → ℕ → Score
   own = bestWith l left right cut
 
@@ -90,8 +88,7 @@ module _ {l : Lengths} {left right : List ℕ} {cut : List Float} (ok : Lent l l
       × LowestLeast (mayStart (l .limit) left right j) (arrival l left right (own (suc k)) j) (suc k) j (parent (suc (suc k)) j)
   unfolding parentWith
   choice k j h g =
-      least-settled (mayStart (l .limit) left right j) (arrival l left right (own (suc k)) j) (suc k) j (j - 1) (predecessorOf l left right (own (suc k)) (suc k) j)
-      (omega arith) (omega arith) (start-next (l .limit) left right j (j - 1) (omega arith)) (answers (suc k) j g (omega arith) (with-nonneg (suc k)))
+      predecessor-chosen (ok .candidates) (ok .preferred) (own (suc k)) (suc k) j h g (λ i m. with-nonneg (suc k) i (omega arith))
 
   -- the parent is reached with one piece fewer, and its piece is allowed and chosen
   pub parent-reached : (k j : ℕ) → suc k ≤ j → j < length left → Reached k (parent (suc k) j)
@@ -168,11 +165,11 @@ module _ {l : Lengths} {left right : List ℕ} {cut : List Float} (ok : Lent l l
       (piece-keeps (ok .preferred) (own k i) s (pieceLength left right i j) bound (with-nonneg k i h) a)
 
   run-with : (s : Score) (k i : ℕ) (rest : List ℕ) (m last : ℕ) → k + length rest ≡ m → 0 < k → k ≤ i → last < length left
-      → Run (AllowedByCount (l .limit) left right) i rest last → T (atMost (own k i) s) → T (atMost (own m last) (scoreFrom l left right cut s i rest))
+      → Onward (AllowedByCount (l .limit) left right) i rest last → T (atMost (own k i) s) → T (atMost (own m last) (scoreFrom l left right cut s i rest))
   unfolding scoreFrom
   run-with s k i [] m last e z h g r a = let q : m ≡ k = omega arith in rw (q, ← r) a
   run-with s k i (j ∷ rest) m last e z h g (p, r) a =
-      let up = run-rises (AllowedByCount (l .limit) left right) (λ u v q. q .0) j rest last r in
+      let up = onward-rises (AllowedByCount (l .limit) left right) (λ u v q. q .0) j rest last r in
       let lower = p .0 in
       run-with (step l left right cut s i j) (suc k) j rest m last (omega arith) (omega arith) (omega arith) g r
       (at-most-trans (own (suc k) j) (step l left right cut (own k i) i j) (step l left right cut s i j) (with-least k i j z h p (omega arith))
@@ -183,7 +180,7 @@ module _ {l : Lengths} {left right : List ℕ} {cut : List Float} (ok : Lent l l
   with-below [] k j z g (p, n) = absurd p
   with-below (i ∷ []) k j z g ((e, r), n) = absurd (omega arith)
   with-below (i ∷ b ∷ rest) k j z g ((e, (p, r)), n) =
-      let up = run-rises (AllowedByCount (l .limit) left right) (λ u v q. q .0) b rest j r in
+      let up = onward-rises (AllowedByCount (l .limit) left right) (λ u v q. q .0) b rest j r in
       let lower = p .0 in
       run-with (step l left right cut noScore i b) 1 b rest k j (omega arith) (omega arith) (omega arith) g r
       (rw e (at-most-refl (own 1 b) (with-nonneg 1 b (omega arith))))

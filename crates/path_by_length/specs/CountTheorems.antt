@@ -13,7 +13,7 @@ use lib.Ieee.{Float}
 use lib.ListN.{length}
 use Rattle.base_laws.specs.Nonneg.{nought-nonneg}
 use Rattle.path_pieces.specs.Pieces.{noScore, atMost}
-use Rattle.path_pieces.specs.Domain.{Lent}
+use Rattle.path_pieces.specs.Domain.{Searchable}
 use Rattle.path_pieces.specs.DomainLaws.{at-most-refl}
 use Rattle.path_pieces.specs.declared.lengths.Lengths.{Lengths}
 use Rattle.path_pieces.specs.declared.score.Score.{Score}
@@ -22,7 +22,7 @@ use Rattle.path_by_length.specs.ByCount.{bestWith, wayWith, bestPathByCo
 use Rattle.path_by_length.specs.CountTieLaws.{tie-unique-by-count, tie-same-by-count}
 use Rattle.path_by_length.specs.CountLaws.{Reached, with-allowed, with-attained, with-below, with-tie}
 
-module _ {l : Lengths} {left right : List ℕ} {cut : List Float} (ok : Lent l left right cut) where
+module _ {l : Lengths} {left right : List ℕ} {cut : List Float} (ok : Searchable l left right cut) where
   -- the best scores with k pieces are the best of the allowed paths of k pieces
   pub own-best-by-count : OwnBestByCount l left right cut (bestWith l left right cut)
   own-best-by-count = record {

@@ -7,24 +7,25 @@ use native.Mathlib.Omega.{arith}
 use lib.Dec.{T}
 use lib.Ieee.{Float}
 use lib.ListN.{length, length-append}
+use Rattle.path_pieces.specs.LeastLaws.{lowest-unique, lowest-same}
 use Rattle.base_terms.specs.Floats.{nonneg}
 use Rattle.path_pieces.specs.Pieces.{pieceLength, atMost, arrival}
-use Rattle.path_pieces.specs.Domain.{Lent}
+use Rattle.path_pieces.specs.Domain.{Searchable}
 use Rattle.path_pieces.specs.DomainLaws.{piece-bounded, piece-nonneg, piece-keeps}
 use Rattle.path_pieces.specs.declared.lengths.Lengths.{Lengths}
 use Rattle.path_pieces.specs.declared.score.Score.{Score}
 use Rattle.path_by_length.specs.Paths.{AllowedByCount}
-use Rattle.path_by_length.specs.TieLaws.{lowest-unique, lowest-same, path-nonneg}
-use Rattle.path_by_length.specs.ByCount.{OwnBestByCount, ChosenByCount, TieRun, TiePath}
+use Rattle.path_by_length.specs.TieLaws.{path-nonneg}
+use Rattle.path_by_length.specs.ByCount.{OwnBestByCount, ChosenByCount, TieOnward, TiePath}
 use Rattle.path_by_length.specs.CountLaws.{tie-more}
 
 -- ---- paths by the rule
 
 module _ (l : Lengths) (left right : List ℕ) (own : ℕ → ℕ → Score) where
   -- after the first piece a run ends no lower than it starts
-  tie-run-rises : (k i : ℕ) (rest : List ℕ) (last : ℕ) → TieRun l left right own (suc k) i rest last → i ≤ last
-  tie-run-rises k i [] last e = le-of-eq e
-  tie-run-rises k i (j ∷ rest) last (c, r) = let b = tie-run-rises (suc k) j rest last r in omega (arith, c .high)
+  tie-onward-rises : (k i : ℕ) (rest : List ℕ) (last : ℕ) → TieOnward l left right own (suc k) i rest last → i ≤ last
+  tie-onward-rises k i [] last e = le-of-eq e
+  tie-onward-rises k i (j ∷ rest) last (c, r) = let b = tie-onward-rises (suc k) j rest last r in omega (arith, c .high)
 
   -- what the rule chooses by some scores it may choose by others
   tie-weaken : (own' : ℕ → ℕ → Score) (last : ℕ) → ((k i j : ℕ) → j ≤ last → ChosenByCount l left right own k i j → ChosenByCount l left right own' k i j)
@@ -32,9 +33,9 @@ module _ (l : Lengths) (left right : List ℕ) (own : ℕ → ℕ → Score) whe
   tie-weaken own' last w [] p = p
   tie-weaken own' last w (i ∷ rest) (e, r) = (e, go 0 i rest r)
     where
-      go : (k i : ℕ) (rest : List ℕ) → TieRun l left right own k i rest last → TieRun l left right own' k i rest last
+      go : (k i : ℕ) (rest : List ℕ) → TieOnward l left right own k i rest last → TieOnward l left right own' k i rest last
       go k i [] e = e
-      go k i (j ∷ rest) (c, r) = (w k i j (tie-run-rises k j rest last r) c, go (suc k) j rest r)
+      go k i (j ∷ rest) (c, r) = (w k i j (tie-onward-rises k j rest last r) c, go (suc k) j rest r)
 
   -- a path of k + 1 pieces, taken apart at its last piece
   record Split (k : ℕ) (path : List ℕ) (last : ℕ) : Type 0 where
@@ -46,7 +47,7 @@ module _ (l : Lengths) (left right : List ℕ) (own : ℕ → ℕ → Score) whe
     joined : path ≡ before ++ (last ∷ [])
 
   split-run : (k n i : ℕ) (front : List ℕ) (j : ℕ) (rest : List ℕ) (last : ℕ) → TiePath l left right own front i → length front ≡ suc n → n + length rest ≡ k
-      → TieRun l left right own n i (j ∷ rest) last → Split k (front ++ (j ∷ rest)) last
+      → TieOnward l left right own n i (j ∷ rest) last → Split k (front ++ (j ∷ rest)) last
   split-run k n i front j [] last p m e (c, q) =
       let s : n ≡ k = omega arith in
       record { before = front; start = i; shorter = p; counted = omega arith; piece = rw (← s, ← q) c; joined = ap (λ (b : ℕ). front ++ (b ∷ [])) q }
@@ -67,7 +68,7 @@ module _ (l : Lengths) (left right : List ℕ) (own : ℕ → ℕ → Score) whe
 
 -- ---- own best scores with k pieces
 
-module _ {l : Lengths} {left right : List ℕ} {cut : List Float} (ok : Lent l left right cut) where
+module _ {l : Lengths} {left right : List ℕ} {cut : List Float} (ok : Searchable l left right cut) where
   module _ {own : ℕ → ℕ → Score} (best : OwnBestByCount l left right cut own) where
     own-nonneg : (k j : ℕ) → 0 < k → k ≤ j → j < length left → T (nonneg (own k j .cost))
     own-nonneg k j z h g =

@@ -2,22 +2,17 @@
 -- The limit is an argument of every definition, alone or in the length preferences.
 use mathlib.Core.Path.{_≡_}
 use mathlib.Core.Logic.{_⊎_}
-use mathlib.Core.Bool.{Bool, _||_}
 use mathlib.Core.List.{List, [], _∷_}
-use Prim.Native.Nat.{ℕ, suc, _-_, _<_, min}
-use lib.Dec.{T, eqb}
+use Prim.Native.Nat.{ℕ, suc, _+_, _-_, _<_, min}
+use lib.Dec.{T}
 use lib.Ieee.{Float}
 use lib.ListN.{length}
-use Rattle.path_pieces.specs.Pieces.{pieceLength, isWithin, noScore, withPiece, withCutAt, arrival, atMost}
+use Rattle.path_pieces.specs.Pieces.{pieceLength, mayStart, overOf, noScore, withPiece, withCutAt, arrival, atMost}
 use Rattle.path_pieces.specs.declared.lengths.Lengths.{Lengths}
 use Rattle.path_pieces.specs.declared.score.Score.{Score}
-use Rattle.path_by_length.specs.Least.{LowestLeast}
+use Rattle.path_pieces.specs.Least.{LowestLeast}
 
 -- ---- pieces
-
--- document 01's "piece rule": a piece that ends at candidate j may start at candidate i if it is no longer than the limit or i = j - 1
-unfoldable pub mayStart : ℕ → List ℕ → List ℕ → ℕ → ℕ → Bool
-mayStart limit left right j i = isWithin limit left right j i || eqb (suc i) j
 
 -- an allowed piece from candidate i to candidate j, by length
 abbrev pub Allowed : ℕ → List ℕ → List ℕ → ℕ → ℕ → Type 0
@@ -30,14 +25,14 @@ AllowedByCount limit left right i j = (i < j) × ((i ≡ 0) ⊎ T (mayStart limi
 -- ---- paths: lists of candidates
 
 -- from candidate i on: each piece follows the rule, and the last one ends at `last`
-abbrev pub Run : (ℕ → ℕ → Type 0) → ℕ → List ℕ → ℕ → Type 0
-Run rule i [] last = i ≡ last
-Run rule i (j ∷ rest) last = rule i j × Run rule j rest last
+abbrev pub Onward : (ℕ → ℕ → Type 0) → ℕ → List ℕ → ℕ → Type 0
+Onward rule i [] last = i ≡ last
+Onward rule i (j ∷ rest) last = rule i j × Onward rule j rest last
 
 -- from the first candidate to `last`
 abbrev pub Path : (ℕ → ℕ → Type 0) → List ℕ → ℕ → Type 0
 Path rule [] last = ⊥
-Path rule (i ∷ rest) last = (i ≡ 0) × Run rule i rest last
+Path rule (i ∷ rest) last = (i ≡ 0) × Onward rule i rest last
 
 -- the last candidate
 abbrev pub lastOf : List ℕ → ℕ
@@ -58,6 +53,19 @@ piecesOf left count = min count (lastOf left)
 -- document 01's "path" by count
 abbrev pub PathByCount : ℕ → ℕ → List ℕ → List ℕ → List ℕ → Type 0
 PathByCount count limit left right path = PathWith limit left right (piecesOf left count) (lastOf left) path
+
+-- ---- how many pieces are over the limit
+
+module _ (limit : ℕ) (left right : List ℕ) where
+  -- from candidate i on
+  unfoldable pub overFrom : ℕ → List ℕ → ℕ
+  overFrom i [] = 0
+  overFrom i (j ∷ rest) = overOf limit (pieceLength left right i j) + overFrom j rest
+
+  -- document 01's "number of pieces over the limit" of a path
+  unfoldable pub overCount : List ℕ → ℕ
+  overCount [] = 0
+  overCount (i ∷ rest) = overFrom i rest
 
 -- ---- scores
 

@@ -1,17 +1,19 @@
--- Laws of a path's score: one more piece at the end of a path is one more step of its score.
+-- Laws of a path's score: one more piece at the end of a path is one more step of its score, and the score counts the pieces over the limit.
 use mathlib.Core.Path.{_≡_, refl, sym, ap, subst}
 use mathlib.Core.List.{List, [], _∷_, _++_}
-use Prim.Native.Nat.{ℕ}
+use Prim.Native.Nat.{ℕ, _+_}
+use native.Mathlib.Omega.{arith}
 use lib.Ieee.{Float}
-use Rattle.path_pieces.specs.Pieces.{noScore}
+use Rattle.path_pieces.specs.Pieces.{pieceLength, overOf, noScore, withPiece}
+use Rattle.path_pieces.specs.PiecesLaws.{cut-at-over}
 use Rattle.path_pieces.specs.declared.lengths.Lengths.{Lengths}
 use Rattle.path_pieces.specs.declared.score.Score.{Score}
-use Rattle.path_by_length.specs.Paths.{Run, Path, step, scoreFrom, pathScore}
+use Rattle.path_by_length.specs.Paths.{Onward, Path, overFrom, overCount, step, scoreFrom, pathScore}
 
 -- ---- one more piece at the end
 
 module _ (rule : ℕ → ℕ → Type 0) where
-  run-more : (a : ℕ) (rest : List ℕ) (i j : ℕ) → Run rule a rest i → rule i j → Run rule a (rest ++ (j ∷ [])) j
+  run-more : (a : ℕ) (rest : List ℕ) (i j : ℕ) → Onward rule a rest i → rule i j → Onward rule a (rest ++ (j ∷ [])) j
   run-more a [] i j e p = (subst (λ (n : ℕ). rule n j) (sym e) p, refl)
   run-more a (b ∷ rest) i j (q, r) p = (q, run-more b rest i j r p)
 
@@ -21,7 +23,7 @@ module _ (rule : ℕ → ℕ → Type 0) where
   path-more (b ∷ rest) i j (e, r) p = (e, run-more b rest i j r p)
 
   module _ (l : Lengths) (left right : List ℕ) (cut : List Float) where
-    score-more : (s : Score) (a : ℕ) (rest : List ℕ) (i j : ℕ) → Run rule a rest i
+    score-more : (s : Score) (a : ℕ) (rest : List ℕ) (i j : ℕ) → Onward rule a rest i
         → scoreFrom l left right cut s a (rest ++ (j ∷ [])) ≡ step l left right cut (scoreFrom l left right cut s a rest) i j
     unfolding scoreFrom
     score-more s a [] i j e = ap (λ (n : ℕ). step l left right cut s n j) e
@@ -33,3 +35,20 @@ module _ (rule : ℕ → ℕ → Type 0) where
     unfolding pathScore
     path-score-more [] i j a = absurd a
     path-score-more (b ∷ rest) i j (e, r) = score-more noScore b rest i j r
+
+-- ---- the pieces over the limit
+
+module _ (l : Lengths) (left right : List ℕ) (cut : List Float) where
+  over-from : (s : Score) (i : ℕ) (rest : List ℕ) → scoreFrom l left right cut s i rest .over ≡ s .over + overFrom (l .limit) left right i rest
+  unfolding scoreFrom overFrom withPiece
+  over-from s i [] = omega arith
+  over-from s i (j ∷ rest) =
+      let next = step l left right cut s i j in
+      let e : next .over ≡ s .over + overOf (l .limit) (pieceLength left right i j) = cut-at-over cut j (withPiece l s (pieceLength left right i j)) in
+      omega (arith, over-from next j rest, e)
+
+  -- a path's score counts them
+  pub over-count : (path : List ℕ) → pathScore l left right cut path .over ≡ overCount (l .limit) left right path
+  unfolding pathScore overCount
+  over-count [] = refl
+  over-count (i ∷ rest) = omega (arith, over-from noScore i rest)

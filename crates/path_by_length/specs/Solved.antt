@@ -3,15 +3,14 @@ use mathlib.Core.Path.{_≡_}
 use mathlib.Core.List.{List}
 use Prim.Native.Nat.{ℕ, _+_, _≤_, _<_}
 use lib.Ieee.{Float}
-use lib.ListN.{length, getD, take, drop}
+use lib.ListN.{length, getD, take, drop, set}
 use Rattle.path_pieces.specs.Pieces.{scoreAt}
-use Rattle.base_terms.specs.Lists.{onto}
 use Rattle.path_pieces.specs.Limits.{maxIndex}
-use Rattle.path_pieces.specs.Domain.{Lent}
+use Rattle.path_pieces.specs.Domain.{Searchable}
 use Rattle.path_pieces.specs.declared.lengths.Lengths.{Lengths}
 use Rattle.path_by_length.specs.declared.solve.Solved.{Solved}
 use Rattle.path_by_length.specs.Paths.{lastOf}
-use Rattle.path_by_length.specs.Table.{bestScore, parentOf, Falling, bestPath}
+use Rattle.path_by_length.specs.Table.{bestScore, bestOver, bestCost, parentOf, Falling, bestPath}
 
 -- ---- the table
 
@@ -23,16 +22,23 @@ cutsIn n cost = take n (drop n cost)
 abbrev pub parentsIn : ℕ → List ℕ → List ℕ
 parentsIn n over = take n (drop n over)
 
+-- the two lists once candidate j is settled: its best score at j, and its parent behind the counts
+abbrev pub overWith : Lengths → List ℕ → List ℕ → List Float → List ℕ → ℕ → List ℕ
+overWith l left right cut over j = set (set over j (bestOver l left right cut j)) (length left + j) (parentOf l left right cut j)
+
+abbrev pub costWith : Lengths → List ℕ → List ℕ → List Float → List Float → ℕ → List Float
+costWith l left right cut cost j = set cost j (bestCost l left right cut j)
+
 module _ (l : Lengths) (left right : List ℕ) where
   -- the lists have two places for each candidate, and the costs of the cuts are there
-  pub record Room (over : List ℕ) (cost : List Float) : Type 0 where
-    pub lent : Lent l left right (cutsIn (length left) cost)
+  pub record TableRoom (over : List ℕ) (cost : List Float) : Type 0 where
+    pub domain : Searchable l left right (cutsIn (length left) cost)
     pub overs : length left + length left ≤ length over
     pub costs : length left + length left ≤ length cost
 
   -- the table holds the best scores of the candidates before j
-  pub record Ready (over : List ℕ) (cost : List Float) (j : ℕ) : Type 0 where
-    pub room : Room over cost
+  pub record FilledBefore (over : List ℕ) (cost : List Float) (j : ℕ) : Type 0 where
+    pub room : TableRoom over cost
     pub later : 0 < j
     pub inside : j < length left
     pub scores : (k : ℕ) → k < j → scoreAt over cost k ≡ bestScore l left right (cutsIn (length left) cost) k
@@ -45,6 +51,12 @@ module _ (l : Lengths) (left right : List ℕ) where
     pub overs : length over ≡ length over₀
     pub costs : length cost ≡ length cost₀
 
+  -- the whole table, and the best path's score and number of candidates, read off it
+  pub record Settled (over₀ : List ℕ) (cost₀ : List Float) (over : List ℕ) (cost : List Float) (answer : Solved) : Type 0 where
+    pub filled : Filled over₀ cost₀ over cost (length left)
+    pub score : answer .score ≡ bestScore l left right (cutsIn (length left) cost₀) (lastOf left)
+    pub count : answer .len ≡ length (bestPath l left right (cutsIn (length left) cost₀))
+
 -- ---- the way back
 
 -- the parent of candidate j in a list of parents
@@ -56,12 +68,3 @@ pub record Parents (parent : List ℕ) (last : ℕ) : Type 0 where
   pub inside : last < length parent
   pub few : last ≤ maxIndex
   pub falling : Falling (parentAt parent) last
-
--- ---- the answer
-
-module _ (l : Lengths) (left right : List ℕ) (cut : List Float) where
-  -- the score and the number of candidates of the path, which is written to the front of the last list
-  pub record Solution (path₀ path : List ℕ) (answer : Solved) : Type 0 where
-    pub score : answer .score ≡ bestScore l left right cut (lastOf left)
-    pub count : answer .len ≡ length (bestPath l left right cut)
-    pub written : path ≡ onto (bestPath l left right cut) path₀

@@ -9,20 +9,20 @@ use lib.Ieee.{Float, nan}
 use lib.ListN.{length, set, take, drop, length-set, length-drop}
 use lib.Seq.{getD-set-same, getD-set-other, getD-take, getD-drop, drop-set-lt, length-take-le}
 use Rattle.base_laws.specs.Tests.{lt-or-le}
-use Rattle.path_pieces.specs.Pieces.{noScore, arrival, scoreAt, withCutAt}
+use Rattle.path_pieces.specs.Pieces.{noScore, arrival, scoreAt, withCutAt, mayStart}
 use Rattle.path_pieces.specs.declared.lengths.Lengths.{Lengths}
 use Rattle.path_pieces.specs.declared.score.Score.{Score}
-use Rattle.path_by_length.specs.declared.predecessor.Found.{Found}
-use Rattle.path_by_length.specs.declared.predecessor.Found.the-variants.{At, Nothing}
-use Rattle.path_by_length.specs.Least.{foundScore, foundIndex, lowestLeast}
-use Rattle.path_by_length.specs.LeastLaws.{least-nothing}
-use Rattle.path_by_length.specs.Paths.{mayStart, lastOf}
-use Rattle.path_by_length.specs.Table.{Scored, predecessorOf, bestScore, bestOver, bestCost, parentOf, wayTo, bestPath}
-use Rattle.path_by_length.specs.Backward.{Costed}
-use Rattle.path_by_length.specs.WayLaws.{way-few, way-same}
-use Rattle.path_by_length.specs.PredecessorLaws.{start-next, predecessor-same}
+use Rattle.path_pieces.specs.declared.best.Found.{Found}
+use Rattle.path_pieces.specs.declared.best.Found.the-variants.{At, Nothing}
+use Rattle.path_pieces.specs.Least.{foundScore, foundIndex, lowestLeast, predecessorOf}
+use Rattle.path_pieces.specs.LeastLaws.{least-nothing}
+use Rattle.path_by_length.specs.Paths.{lastOf}
+use Rattle.path_by_length.specs.Table.{bestScore, bestOver, bestCost, parentOf, wayTo, bestPath}
+use Rattle.path_by_length.specs.Backward.{Scored, Costed}
+use Rattle.path_by_length.specs.WayLaws.{way-same}
+use Rattle.path_pieces.specs.PredecessorLaws.{start-next, predecessor-same}
 use Rattle.path_by_length.specs.TableLaws.{best-first, best-next, best-nonneg, best-few, parent-below}
-use Rattle.path_by_length.specs.Solved.{cutsIn, parentsIn, Room, Ready, Filled, parentAt, Parents}
+use Rattle.path_by_length.specs.Solved.{cutsIn, parentsIn, TableRoom, FilledBefore, Filled, parentAt, Parents}
 
 -- the part of a list from n to n + n, as it is lent
 pub second-part : {A : Type 0} (n : ℕ) (xs : List A) → take (n + n - n) (drop n xs) ≡ take n (drop n xs)
@@ -30,30 +30,30 @@ second-part n xs = let e : n + n - n ≡ n = omega arith in rw e
 
 -- ---- at one candidate
 
-module _ {l : Lengths} {left right over : List ℕ} {cost : List Float} {j : ℕ} (ok : Ready l left right over cost j) where
+module _ {l : Lengths} {left right over : List ℕ} {cost : List Float} {j : ℕ} (ok : FilledBefore l left right over cost j) where
   abbrev cut : List Float
   cut = cutsIn (length left) cost
 
   -- what the search reads
   pub ready-scored : Scored left right over cost j
   ready-scored = record {
-    candidates = ok .room .lent .candidates;
+    candidates = ok .room .domain .candidates;
     inside = ok .inside;
     overs = omega (arith, ok .inside, ok .room .overs);
     costs = omega (arith, ok .inside, ok .room .costs);
-    few = λ k h. let e = ap (λ (s : Score). s .over) (ok .scores k h) in rw e (best-few (ok .room .lent) k (omega (arith, ok .inside)));
+    few = λ k h. let e = ap (λ (s : Score). s .over) (ok .scores k h) in rw e (best-few (ok .room .domain) k (omega (arith, ok .inside)));
   }
 
   -- whose costs are no NaN
   pub ready-costed : Costed l cost j
   ready-costed = record {
-    preferred = ok .room .lent .preferred;
-    cost-nonneg = λ k h. let e = ap (λ (s : Score). s .cost) (ok .scores k h) in rw e (best-nonneg (ok .room .lent) k (omega (arith, ok .inside)));
+    preferred = ok .room .domain .preferred;
+    cost-nonneg = λ k h. let e = ap (λ (s : Score). s .cost) (ok .scores k h) in rw e (best-nonneg (ok .room .domain) k (omega (arith, ok .inside)));
   }
 
   -- it searches the best scores
   search-same : predecessorOf l left right (scoreAt over cost) 0 j ≡ predecessorOf l left right (bestScore l left right cut) 0 j
-  search-same = predecessor-same l left right (scoreAt over cost) (bestScore l left right cut) 0 j (ok .scores)
+  search-same = predecessor-same l left right (scoreAt over cost) (bestScore l left right cut) 0 j (λ k a h. ok .scores k h)
 
   -- it finds a candidate
   pub ready-found : Nothing ≡ predecessorOf l left right (scoreAt over cost) 0 j → ⊥
@@ -73,7 +73,7 @@ module _ {l : Lengths} {left right over : List ℕ} {cost : List Float} {j : ℕ
   ready-parent s i e = ap foundIndex (e ∙ search-same)
 
   pub ready-below : (s : Score) (i : ℕ) → At s i ≡ predecessorOf l left right (scoreAt over cost) 0 j → i < j
-  ready-below s i e = rw (ready-parent s i e) (parent-below (ok .room .lent) j (ok .later) (ok .inside))
+  ready-below s i e = rw (ready-parent s i e) (parent-below (ok .room .domain) j (ok .later) (ok .inside))
 
 -- ---- from one candidate to the next
 
@@ -87,21 +87,21 @@ filled-none = record {
   costs = refl;
 }
 
-module _ {l : Lengths} {left right over₀ : List ℕ} {cost₀ : List Float} (room : Room l left right over₀ cost₀) where
+module _ {l : Lengths} {left right over₀ : List ℕ} {cost₀ : List Float} (room : TableRoom l left right over₀ cost₀) where
   abbrev cut₀ : List Float
   cut₀ = cutsIn (length left) cost₀
 
   module _ {over : List ℕ} {cost : List Float} {j : ℕ} (f : Filled l left right over₀ cost₀ over cost j) where
     -- the lists have room as before
-    filled-room : Room l left right over cost
+    filled-room : TableRoom l left right over cost
     filled-room = record {
-      lent = rw (f .cuts) (room .lent);
+      domain = rw (f .cuts) (room .domain);
       overs = rw (f .overs) (room .overs);
       costs = rw (f .costs) (room .costs);
     }
 
     -- the next candidate can be settled
-    pub filled-ready : 0 < j → j < length left → Ready l left right over cost j
+    pub filled-ready : 0 < j → j < length left → FilledBefore l left right over cost j
     filled-ready h g = record { room = filled-room; later = h; inside = g; scores = λ k m. rw (f .cuts) (f .scores k m) }
 
     -- with its best score and its parent it stands in the table
@@ -158,9 +158,9 @@ module _ {l : Lengths} {left right over₀ : List ℕ} {cost₀ : List Float} (r
     unfolding parentOf predecessorOf lowestLeast
     first =
         let q : length left + 0 ≡ length left = omega arith in
-        rw q at (filled-with filled-none (room .lent .candidates .some) 0 z 0 (best-first l left right cut₀ ∙ ap (λ (c : Float). record { over = 0; cost = c }) (sym e)) refl)
+        rw q at (filled-with filled-none (room .domain .candidates .some) 0 z 0 (best-first l left right cut₀ ∙ ap (λ (c : Float). record { over = 0; cost = c }) (sym e)) refl)
 
-    pub room-first : Room l left right over₁ cost₁
+    pub room-first : TableRoom l left right over₁ cost₁
     room-first = filled-room first
 
     pub filled-first : Filled l left right over₁ cost₁ over₁ cost₁ 1
@@ -184,10 +184,10 @@ module _ {l : Lengths} {left right over₀ : List ℕ} {cost₀ : List Float} (r
 
 -- ---- the whole table
 
-module _ {l : Lengths} {left right over₀ : List ℕ} {cost₀ : List Float} (room : Room l left right over₀ cost₀)
+module _ {l : Lengths} {left right over₀ : List ℕ} {cost₀ : List Float} (room : TableRoom l left right over₀ cost₀)
     {over : List ℕ} {cost : List Float} (f : Filled l left right over₀ cost₀ over cost (length left)) where
   last-inside : lastOf left < length left
-  last-inside = omega (arith, room .lent .candidates .some)
+  last-inside = omega (arith, room .domain .candidates .some)
 
   -- its score at the last candidate is the best
   pub filled-score : scoreAt over cost (lastOf left) ≡ bestScore l left right (cutsIn (length left) cost₀) (lastOf left)
@@ -202,15 +202,11 @@ module _ {l : Lengths} {left right over₀ : List ℕ} {cost₀ : List Float} (r
   pub filled-parents : Parents (parentsIn (length left) over) (lastOf left)
   filled-parents = record {
     inside = rw (length-take-le (length left) (drop (length left) over) (simp length-drop (omega (arith, f .overs, room .overs)))) last-inside;
-    few = omega (arith, room .lent .candidates .few);
-    falling = λ j h g. rw (parent-same j g) (parent-below (room .lent) j h (omega (arith, last-inside)));
+    few = omega (arith, room .domain .candidates .few);
+    falling = λ j h g. rw (parent-same j g) (parent-below (room .domain) j h (omega (arith, last-inside)));
   }
 
   -- along the best path
   pub filled-path : wayTo (parentAt (parentsIn (length left) over)) (lastOf left) ≡ bestPath l left right (cutsIn (length left) cost₀)
   unfolding bestPath
   filled-path = way-same (parentAt (parentsIn (length left) over)) (parentOf l left right (cutsIn (length left) cost₀)) (lastOf left) (filled-parents .falling) parent-same
-
-  -- which fits into a list that has a place for each candidate
-  pub filled-few : length (wayTo (parentAt (parentsIn (length left) over)) (lastOf left)) ≤ length left
-  filled-few = omega (arith, way-few (parentAt (parentsIn (length left) over)) (lastOf left) (filled-parents .falling), last-inside)

@@ -1,28 +1,14 @@
 -- The table by length: at each candidate the best score, and where the last piece of the best path to it starts; and the path that the table gives.
 -- In words: the best score at j is the least of the best scores before it, each plus the piece from there, and then the cut at j.
 use mathlib.Core.List.{List, [], _∷_, _++_}
-use Prim.Native.Nat.{ℕ, zero, suc, _-_, _≤_, _<_}
+use Prim.Native.Nat.{ℕ, zero, suc, _≤_, _<_}
 use lib.Ieee.{Float}
-use lib.ListN.{length, getD}
-use Rattle.path_pieces.specs.Pieces.{noScore, arrival, withCutAt}
-use Rattle.path_pieces.specs.Domain.{Candidates}
+use lib.ListN.{getD}
+use Rattle.path_pieces.specs.Pieces.{noScore, withCutAt}
 use Rattle.path_pieces.specs.declared.lengths.Lengths.{Lengths}
 use Rattle.path_pieces.specs.declared.score.Score.{Score}
-use Rattle.path_by_length.specs.declared.predecessor.Found.{Found}
-use Rattle.path_by_length.specs.Least.{foundScore, foundIndex, lowestLeast}
-use Rattle.path_by_length.specs.Paths.{mayStart, lastOf}
-
--- what the search for a predecessor of candidate j reads: candidates in order, and a score for each before j, of no more pieces over the limit than there are pieces
-pub record Scored (left right over : List ℕ) (cost : List Float) (j : ℕ) : Type 0 where
-  pub candidates : Candidates left right
-  pub inside : j < length left
-  pub overs : j ≤ length over
-  pub costs : j ≤ length cost
-  pub few : (k : ℕ) → k < j → getD over k 0 ≤ k
-
--- the best predecessor of candidate j from `from` on: the lowest where an allowed piece starts whose score, before the cut at j, is least
-unfoldable pub predecessorOf : Lengths → List ℕ → List ℕ → (ℕ → Score) → ℕ → ℕ → Found
-predecessorOf l left right own from j = lowestLeast (mayStart (l .limit) left right j) (arrival l left right own j) from (j - from)
+use Rattle.path_pieces.specs.Least.{foundScore, foundIndex, predecessorOf}
+use Rattle.path_by_length.specs.Paths.{lastOf}
 
 module _ (l : Lengths) (left right : List ℕ) (cut : List Float) where
   -- the best score at candidate j, from those of the candidates before it

@@ -1,30 +1,27 @@
 -- Laws of the table: each best score by those before it; in the domain it is no NaN, it comes from the lowest candidate whose score is least, and no allowed piece gives a better one.
 use mathlib.Core.Path.{_≡_, refl, ap, _∙_}
 use mathlib.Core.Logic.{inl, inr}
-use mathlib.Core.Bool.{Bool}
 use mathlib.Core.List.{List, [], _∷_}
-use Prim.Native.Nat.{ℕ, zero, suc, _-_, _≤_, _<_}
+use Prim.Native.Nat.{ℕ, zero, suc, _≤_, _<_}
 use native.Mathlib.Omega.{arith}
-use lib.Dec.{T, T-not}
+use lib.Dec.{T}
 use lib.ListN.{length, getD, length-append, List·getD-append}
 use lib.Seq.{getD-at}
 use lib.Ieee.{Float}
 use Rattle.path_pieces.specs.Pieces.{pieceLength, noScore, withPiece, atMost, arrival, withCutAt}
 use Rattle.base_terms.specs.Floats.{nonneg}
 use Rattle.base_laws.specs.Nonneg.{nought-nonneg}
-use Rattle.path_pieces.specs.Domain.{Lent}
+use Rattle.path_pieces.specs.Domain.{Searchable}
 use Rattle.path_pieces.specs.DomainLaws.{piece-bounded, piece-nonneg, cut-at-nonneg, cut-at-keeps}
 use Rattle.path_pieces.specs.PiecesLaws.{over-one, cut-at-over}
 use Rattle.base_laws.specs.Tests.{lt-or-le}
 use Rattle.path_pieces.specs.declared.lengths.Lengths.{Lengths}
 use Rattle.path_pieces.specs.declared.score.Score.{Score}
-use Rattle.path_by_length.specs.declared.predecessor.Found.{Found}
-use Rattle.path_by_length.specs.declared.predecessor.Found.the-variants.{At, Nothing}
-use Rattle.path_by_length.specs.Least.{foundScore, foundIndex, LowestLeast}
-use Rattle.path_by_length.specs.LeastLaws.{Answers, least-answers}
-use Rattle.path_by_length.specs.Paths.{mayStart, step, Chosen, Allowed}
-use Rattle.path_by_length.specs.Table.{predecessorOf, nextScore, tableOf, bestScore, parentOf}
-use Rattle.path_by_length.specs.PredecessorLaws.{predecessor-same, start-next}
+use Rattle.path_pieces.specs.declared.best.Found.{Found}
+use Rattle.path_pieces.specs.Least.{foundScore, predecessorOf}
+use Rattle.path_by_length.specs.Paths.{step, Chosen, Allowed}
+use Rattle.path_by_length.specs.Table.{nextScore, tableOf, bestScore, parentOf}
+use Rattle.path_pieces.specs.PredecessorLaws.{predecessor-same, predecessor-chosen}
 
 module _ (l : Lengths) (left right : List ℕ) (cut : List Float) where
   table-length : (n : ℕ) → length (tableOf l left right cut n) ≡ n
@@ -53,17 +50,11 @@ module _ (l : Lengths) (left right : List ℕ) (cut : List Float) where
       let t = tableOf l left right cut (suc j) in
       getD-at t (nextScore l left right cut (λ i. getD t i noScore) (suc j)) [] noScore (suc j) (table-length (suc j))
       ∙ ap (λ (f : Found). withCutAt cut (suc j) (foundScore f))
-      (predecessor-same l left right (λ i. getD t i noScore) (bestScore l left right cut) 0 (suc j) (λ k g. table-at (suc j) k g))
+      (predecessor-same l left right (λ i. getD t i noScore) (bestScore l left right cut) 0 (suc j) (λ k a g. table-at (suc j) k g))
 
 -- ---- in the domain
 
--- what is found where some candidate passes
-pub least-settled : (test : ℕ → Bool) (score : ℕ → Score) (from to i : ℕ) (f : Found) → from ≤ i → i < to → T (test i) → Answers test score from to f
-    → (foundScore f ≡ score (foundIndex f)) × LowestLeast test score from to (foundIndex f)
-least-settled test score from to i Nothing g h t a = absurd (T-not (test i) (a i g h) t)
-least-settled test score from to i (At s k) g h t a = a
-
-module _ {l : Lengths} {left right : List ℕ} {cut : List Float} (ok : Lent l left right cut) where
+module _ {l : Lengths} {left right : List ℕ} {cut : List Float} (ok : Searchable l left right cut) where
   abbrev best : ℕ → Score
   best = bestScore l left right cut
 
@@ -71,12 +62,8 @@ module _ {l : Lengths} {left right : List ℕ} {cut : List Float} (ok : Lent l l
   choice : (j : ℕ) → 0 < j → j < length left → ((k : ℕ) → k < j → T (nonneg (best k .cost)))
       → (foundScore (predecessorOf l left right best 0 j) ≡ arrival l left right best j (parentOf l left right cut j))
       × Chosen l left right best (parentOf l left right cut j) j
-  unfolding predecessorOf parentOf
-  choice j h g p =
-      least-settled (mayStart (l .limit) left right j) (arrival l left right best j) 0 j (j - 1) (predecessorOf l left right best 0 j) (omega arith) (omega arith)
-      (start-next (l .limit) left right j (j - 1) (omega arith))
-      (least-answers (mayStart (l .limit) left right j) (arrival l left right best j) j
-      (λ k m t. piece-nonneg (ok .preferred) (best k) (pieceLength left right k j) (piece-bounded (ok .candidates) k j g) (p k m)) 0 (omega arith))
+  unfolding parentOf
+  choice j h g p = predecessor-chosen (ok .candidates) (ok .preferred) best 0 j h g p
 
   arrival-nonneg : (i j : ℕ) → j < length left → T (nonneg (best i .cost)) → T (nonneg (arrival l left right best j i .cost))
   arrival-nonneg i j g p = piece-nonneg (ok .preferred) (best i) (pieceLength left right i j) (piece-bounded (ok .candidates) i j g) p

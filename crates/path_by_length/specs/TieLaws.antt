@@ -1,59 +1,24 @@
 -- The tie rule determines the path: a candidate has one lowest least predecessor, and own best scores are equal however they are worked out.
 -- So a path that follows the rule by some own best scores follows it by all, and there is only one.
 use mathlib.Core.Path.{_≡_, refl, sym, ap, subst, _∙_}
-use mathlib.Core.Logic.{inl, inr}
-use mathlib.Core.Bool.{Bool}
 use mathlib.Core.List.{List, [], _∷_, _++_, append-assoc}
 use Prim.Native.Nat.{ℕ, zero, suc, _≤_, _<_}
 use native.Mathlib.Nat.{le-refl}
 use native.Mathlib.Omega.{arith}
-use lib.Dec.{T, T-not}
+use lib.Dec.{T}
 use lib.Ieee.{Float}
 use lib.ListN.{length}
 use Rattle.base_terms.specs.Floats.{nonneg}
 use Rattle.base_laws.specs.Nonneg.{nought-nonneg}
-use Rattle.base_laws.specs.Scores.{score-lt-le-trans, score-le-lt-trans}
-use Rattle.base_laws.specs.Tests.{lt-or-le}
-use Rattle.path_pieces.specs.Pieces.{pieceLength, noScore, withPiece, atMost, lessThan, arrival}
-use Rattle.path_pieces.specs.Domain.{Lent}
-use Rattle.path_pieces.specs.DomainLaws.{at-most-trans, less-than-is, piece-bounded, piece-nonneg, piece-keeps, cut-at-nonneg}
+use Rattle.path_pieces.specs.Pieces.{pieceLength, noScore, withPiece, atMost, arrival}
+use Rattle.path_pieces.specs.Domain.{Searchable}
+use Rattle.path_pieces.specs.DomainLaws.{piece-bounded, piece-nonneg, piece-keeps, cut-at-nonneg}
 use Rattle.path_pieces.specs.declared.lengths.Lengths.{Lengths}
 use Rattle.path_pieces.specs.declared.score.Score.{Score}
-use Rattle.path_by_length.specs.Least.{LowestLeast}
-use Rattle.path_by_length.specs.Paths.{Allowed, Run, Path, lastOf, step, scoreFrom, pathScore, OwnBest, Chosen, TieRule}
+use Rattle.path_pieces.specs.LeastLaws.{lowest-unique, lowest-same}
+use Rattle.path_by_length.specs.Paths.{Allowed, Onward, Path, lastOf, step, scoreFrom, pathScore, OwnBest, Chosen, TieRule}
 use Rattle.path_by_length.specs.PathsLaws.{path-more}
-use Rattle.path_by_length.specs.BestLaws.{run-rises}
-
--- ---- one lowest least
-
-pub lowest-unique : {test : ℕ → Bool} {score : ℕ → Score} {from to : ℕ} (i k : ℕ) → T (nonneg (score i .cost)) → T (nonneg (score k .cost))
-    → LowestLeast test score from to i → LowestLeast test score from to k → i ≡ k
-lowest-unique {test} {score} i k p q a b = elim (lt-or-le i k) [
-  | inl l ↦ absurd (beaten i k p q (b .lowest i (a .low) l (a .passed)) (a .least k (b .low) (b .high) (b .passed)))
-  | inr g ↦ elim (lt-or-le k i) [
-    | inl l ↦ absurd (beaten k i q p (a .lowest k (b .low) l (b .passed)) (b .least i (a .low) (a .high) (a .passed)))
-    | inr h ↦ omega arith
-  ]
-]
-  where
-    beaten : (i k : ℕ) → T (nonneg (score i .cost)) → T (nonneg (score k .cost)) → T (lessThan (score k) (score i)) → T (atMost (score i) (score k)) → ⊥
-    beaten i k p q l m = T-not (atMost (score i) (score k)) (rw (less-than-is (score k) (score i) q p) at l) m
-
--- scores that are equal in order choose the same
-pub lowest-same : {test : ℕ → Bool} {score score' : ℕ → Score} {from to i : ℕ}
-    → ((k : ℕ) → from ≤ k → k < to → T (atMost (score k) (score' k))) → ((k : ℕ) → from ≤ k → k < to → T (atMost (score' k) (score k)))
-    → LowestLeast test score from to i → LowestLeast test score' from to i
-lowest-same {test} {score} {score'} {from} {to} {i} up down c = record {
-  low = c .low;
-  high = c .high;
-  passed = c .passed;
-  least = λ k h m t.
-      at-most-trans (score' i) (score i) (score' k) (down i (c .low) (c .high)) (at-most-trans (score i) (score k) (score' k) (c .least k h m t) (up k h m));
-  lowest = λ k h m t.
-      score-le-lt-trans (score' i .over) (score' i .cost) (score i .over) (score i .cost) (score' k .over) (score' k .cost) (down i (c .low) (c .high))
-      (score-lt-le-trans (score i .over) (score i .cost) (score k .over) (score k .cost) (score' k .over) (score' k .cost) (c .lowest k h m t)
-      (up k h (omega (arith, c .high))));
-}
+use Rattle.path_by_length.specs.BestLaws.{onward-rises}
 
 -- ---- one path
 
@@ -66,12 +31,12 @@ record Split (rule : ℕ → ℕ → Type 0) (path : List ℕ) (last : ℕ) : Ty
   joined : path ≡ before ++ (last ∷ [])
 
 module _ (rule : ℕ → ℕ → Type 0) (rises : (i j : ℕ) → rule i j → i < j) where
-  split-run : (i : ℕ) (front rest : List ℕ) (last : ℕ) → Path rule front i → i < last → Run rule i rest last → Split rule (front ++ rest) last
+  split-run : (i : ℕ) (front rest : List ℕ) (last : ℕ) → Path rule front i → i < last → Onward rule i rest last → Split rule (front ++ rest) last
   split-run i front [] last p h e = absurd (omega arith)
   split-run i front (j ∷ []) last p h (r, e) =
       record { before = front; start = i; shorter = p; piece = subst (λ (n : ℕ). rule i n) e r; joined = ap (λ (n : ℕ). front ++ (n ∷ [])) e }
   split-run i front (j ∷ k ∷ rest) last p h (r, q) =
-      let up = run-rises rule rises k rest last (q .1) in
+      let up = onward-rises rule rises k rest last (q .1) in
       let a = rises j k (q .0) in
       subst (λ (path : List ℕ). Split rule path last) (append-assoc front (j ∷ []) (k ∷ rest))
       (split-run j (front ++ (j ∷ [])) (k ∷ rest) last (path-more rule front i j p r) (omega arith) q)
@@ -84,7 +49,7 @@ module _ (rule : ℕ → ℕ → Type 0) (rises : (i j : ℕ) → rule i j → i
   path-still : (path : List ℕ) → Path rule path 0 → path ≡ 0 ∷ []
   path-still [] p = absurd p
   path-still (i ∷ []) (e, r) = ap (λ (n : ℕ). n ∷ []) e
-  path-still (i ∷ j ∷ rest) (e, (r, q)) = let a = rises i j r in let b = run-rises rule rises j rest 0 q in absurd (omega arith)
+  path-still (i ∷ j ∷ rest) (e, (r, q)) = let a = rises i j r in let b = onward-rises rule rises j rest 0 q in absurd (omega arith)
 
   -- where a piece's end determines its start, the last candidate determines the path
   pub path-unique : (last : ℕ) → ((i k j : ℕ) → j ≤ last → rule i j → rule k j → i ≡ k) → (path other : List ℕ) → Path rule path last → Path rule other last → path ≡ other
@@ -103,14 +68,14 @@ module _ (rule : ℕ → ℕ → Type 0) (rises : (i j : ℕ) → rule i j → i
 
 -- ---- own best scores
 
-module _ {l : Lengths} {left right : List ℕ} {cut : List Float} (ok : Lent l left right cut) where
+module _ {l : Lengths} {left right : List ℕ} {cut : List Float} (ok : Searchable l left right cut) where
   module _ (rule : ℕ → ℕ → Type 0) (rises : (i j : ℕ) → rule i j → i < j) where
-    run-nonneg : (s : Score) (i : ℕ) (rest : List ℕ) (last : ℕ) → last < length left → Run rule i rest last → T (nonneg (s .cost))
+    run-nonneg : (s : Score) (i : ℕ) (rest : List ℕ) (last : ℕ) → last < length left → Onward rule i rest last → T (nonneg (s .cost))
         → T (nonneg (scoreFrom l left right cut s i rest .cost))
     unfolding scoreFrom
     run-nonneg s i [] last h e p = p
     run-nonneg s i (j ∷ rest) last h (r, q) p =
-        let up = run-rises rule rises j rest last q in
+        let up = onward-rises rule rises j rest last q in
         run-nonneg (step l left right cut s i j) j rest last h q
         (cut-at-nonneg (ok .costs) j (omega arith) (withPiece l s (pieceLength left right i j))
         (piece-nonneg (ok .preferred) s (pieceLength left right i j) (piece-bounded (ok .candidates) i j (omega arith)) p))

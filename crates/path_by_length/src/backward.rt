@@ -1,4 +1,5 @@
 // The walk back from a candidate over those before it, for the best predecessor: first the pieces below the minimum, then the others.
+use path_pieces::best::Best;
 use path_pieces::lengths;
 use path_pieces::lengths::Lengths;
 use path_pieces::score;
@@ -8,17 +9,10 @@ ghost use mathlib.Core.Bool.{false};
 ghost use Prim.Native.Nat.{_≤_, _<_};
 ghost use lib.Dec.{T};
 ghost use Rattle.base_terms.specs.Floats.{nonneg};
-ghost use Rattle.path_pieces.specs.Limits.{maxEnd};
+ghost use Rattle.base_terms.specs.Limits.{maxLen};
 ghost use Rattle.path_pieces.specs.Pieces.{isShort};
-ghost use Rattle.path_by_length.specs.Least.{orBetter};
-ghost use Rattle.path_by_length.specs.Table.{Scored};
-ghost use Rattle.path_by_length.specs.Backward.{heldOf, Costed, Walked, Long, isBeyond};
-
-// The best predecessor so far, with that score.
-pub struct Best {
-    pub score: Score,
-    pub at: usize,
-}
+ghost use Rattle.path_pieces.specs.Least.{orBetter, heldOf};
+ghost use Rattle.path_by_length.specs.Backward.{Scored, Costed, Walked, Long, isBeyond};
 
 // How far a walk back has come: the best of the candidates from `at` on.
 pub struct Walk {
@@ -129,7 +123,7 @@ fn long_pieces(
 // Whether no candidate from this piece's start back can do better than the best so far: from the target on a longer piece costs no less, and this one
 // alone costs more.
 fn none_better(best: Score, lengths: Lengths, len: u64) -> bool
-    requires { ⌜ len ≤ maxEnd ⌝ }
+    requires { ⌜ len ≤ maxLen ⌝ }
     requires { ⌜ isShort lengths len ≡ false ⌝ }
     ensures { λ r. ⌜ r ≡ isBeyond lengths best len ⌝ }
 {

@@ -1,27 +1,22 @@
 // The best predecessor of a candidate: where the last piece of the best path to it starts.
 use crate::backward;
-use crate::backward::Best;
 use crate::backward::Walk;
+use path_pieces::best::Best;
+use path_pieces::best::Found;
 use path_pieces::lengths::Lengths;
 use path_pieces::score;
 use path_pieces::score::Score;
 ghost use mathlib.Core.Path.{_≡_};
+ghost use Rattle.path_pieces.specs.Least.{predecessorOf};
 ghost use Rattle.path_pieces.specs.Pieces.{scoreAt};
-ghost use Rattle.path_by_length.specs.Table.{Scored, predecessorOf};
-ghost use Rattle.path_by_length.specs.Backward.{Costed};
-
-// A predecessor, with the score of the path through it before the cut at the piece's end.
-pub enum Found {
-    At(Score, usize),
-    Nothing,
-}
+ghost use Rattle.path_by_length.specs.Backward.{Scored, Costed};
 
 // The best predecessor of candidate j among the candidates from..j, given each one's score.
 //
 // Predecessors within the limit come first. When there is none, the candidate just before j is used, which
 // keeps the too-long piece as short as possible, and the piece is counted as over the limit.
 //
-// Walking back, pieces get no shorter, so those below the minimum come first, and none follows the first that is over the limit.
+// BestSoFar back, pieces get no shorter, so those below the minimum come first, and none follows the first that is over the limit.
 pub fn best_predecessor(
     j: usize,
     from: usize,

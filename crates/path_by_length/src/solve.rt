@@ -1,15 +1,13 @@
 // The best path by length: the table of best scores, filled from the left, and the path that it gives.
 use crate::backtrack;
 use crate::predecessor;
-use crate::predecessor::Found;
+use path_pieces::best::Found;
 use path_pieces::lengths::Lengths;
 use path_pieces::score;
 use path_pieces::score::Score;
 ghost use mathlib.Core.Path.{_≡_};
-ghost use Prim.Native.Nat.{_+_, _≤_};
-ghost use lib.ListN.{length, set};
-ghost use Rattle.path_by_length.specs.Table.{bestOver, bestCost, parentOf};
-ghost use Rattle.path_by_length.specs.Solved.{cutsIn, Room, Ready, Filled, Solution};
+ghost use lib.ListN.{length};
+ghost use Rattle.path_by_length.specs.Solved.{cutsIn, overWith, costWith, TableRoom, FilledBefore, Filled, Settled};
 
 // A path's score and the number of its candidates.
 pub struct Solved {
@@ -26,9 +24,15 @@ fn fill_at(
     over: &mut [u32],
     cost: &mut [f64],
 )
-    requires { ⌜ Ready lengths (now left) (now right) (now over) (now cost) j ⌝ }
-    ensures { λ _. ⌜ now (over .exit) ≡ set (set (now (over .entry)) j (bestOver lengths (now (left .entry)) (now (right .entry)) (cutsIn (length (now (left .entry))) (now (cost .entry))) j)) (length (now (left .entry)) + j) (parentOf lengths (now (left .entry)) (now (right .entry)) (cutsIn (length (now (left .entry))) (now (cost .entry))) j) ⌝ }
-    ensures { λ _. ⌜ now (cost .exit) ≡ set (now (cost .entry)) j (bestCost lengths (now (left .entry)) (now (right .entry)) (cutsIn (length (now (left .entry))) (now (cost .entry))) j) ⌝ }
+    requires { ⌜ FilledBefore lengths (now left) (now right) (now over) (now cost) j ⌝ }
+    ensures { λ _. ⌜
+        now (over .exit) ≡ overWith lengths (now (left .entry)) (now (right .entry))
+        (cutsIn (length (now (left .entry))) (now (cost .entry))) (now (over .entry)) j
+        ⌝ }
+    ensures { λ _. ⌜
+        now (cost .exit) ≡ costWith lengths (now (left .entry)) (now (right .entry))
+        (cutsIn (length (now (left .entry))) (now (cost .entry))) (now (cost .entry)) j
+        ⌝ }
 {
     let n = left.len();
     let found = predecessor::best_predecessor(j, 0, left, right, lengths, over, cost);
@@ -42,9 +46,12 @@ fn fill_at(
 }
 
 // Fills the table: at each candidate the best score of a path to it, and where its last piece starts.
-pub fn fill_table(left: &[u64], right: &[u64], lengths: Lengths, over: &mut [u32], cost: &mut [f64])
-    requires { ⌜ Room lengths (now left) (now right) (now over) (now cost) ⌝ }
-    ensures { λ _. ⌜ Filled lengths (now (left .entry)) (now (right .entry)) (now (over .entry)) (now (cost .entry)) (now (over .exit)) (now (cost .exit)) (length (now (left .entry))) ⌝ }
+fn fill_table(left: &[u64], right: &[u64], lengths: Lengths, over: &mut [u32], cost: &mut [f64])
+    requires { ⌜ TableRoom lengths (now left) (now right) (now over) (now cost) ⌝ }
+    ensures { λ _. ⌜
+        Filled lengths (now (left .entry)) (now (right .entry)) (now (over .entry)) (now (cost .entry)) (now (over .exit))
+        (now (cost .exit)) (length (now (left .entry)))
+        ⌝ }
 {
     let n = left.len();
     over[0] = 0;
@@ -55,26 +62,25 @@ pub fn fill_table(left: &[u64], right: &[u64], lengths: Lengths, over: &mut [u32
     }
 }
 
-// The best path from the first to the last candidate, written to the front of `path`. The work lists have two places for each candidate: the best score's
-// parts stand at j, its parent behind the counts at n + j, and the cost of the cut behind the costs at n + j, where the caller has put it.
+// Fills the table, and returns what it says of the best path from the first to the last candidate: its score, and the number of its candidates, which
+// `backtrack` writes. The work lists have two places for each candidate: the best score's parts stand at j, its parent behind the counts at n + j, and the
+// cost of the cut behind the costs at n + j, where the caller has put it.
 pub fn solve(
     left: &[u64],
     right: &[u64],
     lengths: Lengths,
     over: &mut [u32],
     cost: &mut [f64],
-    path: &mut [u32],
 ) -> Solved
-    requires { ⌜ Room lengths (now left) (now right) (now over) (now cost) ⌝ }
-    requires { ⌜ length (now left) ≤ length (now path) ⌝ }
-    ensures { λ r. ⌜ Solution lengths (now (left .entry)) (now (right .entry)) (cutsIn (length (now (left .entry))) (now (cost .entry))) (now (path .entry)) (now (path .exit)) r ⌝ }
-    ensures { λ _. ⌜ (length (now (over .exit)) ≡ length (now (over .entry))) × (length (now (cost .exit)) ≡ length (now (cost .entry))) ⌝ }
+    requires { ⌜ TableRoom lengths (now left) (now right) (now over) (now cost) ⌝ }
+    ensures { λ r. ⌜
+        Settled lengths (now (left .entry)) (now (right .entry)) (now (over .entry)) (now (cost .entry)) (now (over .exit)) (now (cost .exit)) r
+        ⌝ }
 {
     fill_table(left, right, lengths, over, cost);
     let n = left.len();
     let last = n - 1;
     let len = backtrack::path_len(&over[n..n + n], last);
-    backtrack::backtrack(&over[n..n + n], last, len, path);
     let score = Score {
         over: over[last],
         cost: cost[last],

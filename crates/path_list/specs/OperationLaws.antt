@@ -1,143 +1,44 @@
--- Each end of the operation, and of the search inside it, is what the definition gives; and the costs copied into work memory.
-use mathlib.Core.Path.{_≡_, refl, ap}
-use mathlib.Core.Bool.{true, false}
-use mathlib.Core.List.{List, _++_}
-use Prim.Native.Nat.{ℕ, _+_, _-_, _*_, _≤_, _<_}
-use native.Mathlib.Nat.{mul-le-mul}
-use native.Mathlib.Omega.{arith}
-use borrow.Author.Tests.{le-leb, lt-leb}
-use borrow.Rule.Slice.PartMut.{putMid}
+-- Each end of the operation is what the definition gives.
+use mathlib.Core.Path.{_≡_, ap}
+use mathlib.Core.List.{List}
+use Prim.Native.Nat.{ℕ}
 use lib.Ieee.{Float, binary64, ofBits}
-use lib.ListN.{length, take, drop, length-append, length-take, length-drop}
-use lib.Seq.{length-take-le, take-at, drop-at}
-use Rattle.base_terms.specs.Lists.{filled, onto}
+use lib.ListN.{length}
+use Rattle.base_terms.specs.Lists.{filled}
+use Rattle.base_terms.specs.Work.{Work, cleared}
 use Rattle.path_pieces.specs.declared.lengths.Lengths.{Lengths}
 use Rattle.path_pieces.specs.declared.mode.Mode.{Mode}
-use Rattle.path_pieces.specs.declared.mode.Mode.the-variants.{ByLength, ByCount}
-use Rattle.path_pieces.specs.declared.score.Score.{Score}
-use Rattle.path_by_length.specs.Paths.{lastOf, piecesOf}
-use Rattle.path_by_length.specs.Table.{bestScore, bestPath}
-use Rattle.path_by_length.specs.ByCount.{bestPathByCount, bestScoreByCount}
-use Rattle.path_by_length.specs.Solved.{Room, cutsIn}
-use Rattle.path_by_length.specs.declared.solve.Solved.{Solved}
-use Rattle.path_by_count_rows.specs.Rows.{behind}
-use Rattle.path_by_count.specs.Counted as counted
-use Rattle.path_tests.specs.Refusal.{firstRefusalOf, isFine}
-use Rattle.path_tests.specs.RefusalLaws.{Ready}
-use Rattle.path_tests.specs.declared.refusal.Verdict.{Verdict}
+use Rattle.path_tests.specs.Refusal.{firstRefusalOf}
+use Rattle.path_tests.specs.declared.refusal.Verdict.the-variants.{Fine, Fails}
+use Rattle.path_tests.specs.declared.refusal.Refusal.{Refusal}
 use Rattle.path_list.specs.declared.seek.Answer.{Answer}
-use Rattle.path_list.specs.declared.seek.Answer.the-variants.{Found, Refused, ShortParent, ShortPath}
-use Rattle.path_list.specs.Operation.{Outcome, handedOf, soughtOf, Workable, End, pathOf}
+use Rattle.path_list.specs.declared.seek.Answer.the-variants.{Refused}
+use Rattle.path_list.specs.Operation.{Outcome, outcomeOf, soughtOf, End, endOf, pathOf}
 
--- ---- a part of a list in its middle is what was put there
-
-part-put : {A : Type 0} (l r : List A) (a w : ℕ) → length r ≡ w → a + w ≤ length l → take w (drop a (putMid a w l r)) ≡ r
-part-put l r a w e h =
-    rw (drop-at (take a l) (r ++ drop w (drop a l)) a (length-take-le a l (omega arith)), take-at r (drop w (drop a l)) w e)
-
-put-length : {A : Type 0} (l r : List A) (a w : ℕ) → length r ≡ w → a + w ≤ length l → length (putMid a w l r) ≡ length l
-put-length l r a w e h = simp (length-append, length-take, length-drop) (omega arith)
-
-module _ {l : Lengths} {left right : List ℕ} {cost : List Float} {mode : Mode} {work32 : List ℕ} {workf : List Float} (x : Workable l left right cost mode work32 workf) where
-  priced : length cost ≡ length left
-  priced = x .lent .costs .each
-
-  -- by length: the cuts' costs stand behind the scores
-  pub length-cuts : cutsIn (length left) (putMid (length left) (length left + length left - length left) workf cost) ≡ cost
-  length-cuts =
-      let n = length left in
-      let d : n + n - n ≡ n = omega arith in
-      rw d (part-put workf cost n n priced (omega (arith, x .enoughf)))
-
-  pub length-room : Room l left right work32 (putMid (length left) (length left + length left - length left) workf cost)
-  length-room =
-      let n = length left in
-      let d : n + n - n ≡ n = omega arith in
-      let e : length (putMid n (n + n - n) workf cost) ≡ length workf = rw d (put-length workf cost n n priced (omega (arith, x .enoughf))) in
-      record { lent = rw length-cuts (x .lent); overs = omega (arith, x .enough32); costs = omega (arith, x .enoughf, e) }
-
-  -- by count: behind the tree
-  pub count-cuts : behind (length left) (putMid (length left * 4) (length left * 5 - length left * 4) workf cost) ≡ cost
-  unfolding behind
-  count-cuts =
-      let n = length left in
-      let d : n * 5 - n * 4 ≡ n = omega arith in
-      rw d (part-put workf cost (n * 4) n priced (omega (arith, x .enoughf)))
-
-  pub count-room : counted.Room l left right work32 (putMid (length left * 4) (length left * 5 - length left * 4) workf cost)
-  count-room =
-      let n = length left in
-      let d : n * 5 - n * 4 ≡ n = omega arith in
-      let e : length (putMid (n * 4) (n * 5 - n * 4) workf cost) ≡ length workf = rw d (put-length workf cost (n * 4) n priced (omega (arith, x .enoughf))) in
-      record { lent = rw count-cuts (x .lent); overs = omega (arith, x .enough32); costs = omega (arith, x .enoughf, e) }
-
-  -- the size of the parent list that is asked can be worked out
-  pub size-fits : (pieces : ℕ) → pieces ≤ lastOf left → pieces * length left ≤ 1099513724929
-  size-fits pieces h =
-      let few = x .lent .candidates .few in
-      let a : pieces ≤ 1048577 = omega (arith, few) in
-      let b : length left ≤ 1048577 = omega (arith, few) in
-      let p : pieces * length left ≤ 1048577 * 1048577 = mul-le-mul a b in
-      omega (arith, p)
-
--- what the tests leave is what the search asks
-pub workable : {l : Lengths} {left right : List ℕ} {cost : List Float} {mode : Mode} {work32 : List ℕ} {n64 : ℕ} {workf : List Float}
-    → Ready left right cost l mode (length work32) n64 (length workf) → Workable l left right cost mode work32 workf
-workable r = record { lent = r .lent; counted = λ count e. r .counted count e .0; enough32 = r .work .enough32; enoughf = r .work .enoughf }
-
--- ---- the search's ends
-
--- no room for the path
-pub handed-short : (way : List ℕ) (score : Score) (path : List ℕ) → length path < length way → _≡_ {A = Outcome} (record { answer = ShortPath; path = path }) (handedOf way score path)
-unfolding handedOf
-handed-short way score path h = rw (lt-leb (length way) (length path) h)
-
--- the path is handed out
-pub handed-found : (way : List ℕ) (score : Score) (path path' : List ℕ) (s : Solved) → length way ≤ length path → s .score ≡ score → s .len ≡ length way
-    → path' ≡ onto way path → _≡_ {A = Outcome} (record { answer = Found s; path = path' }) (handedOf way score path)
-unfolding handedOf
-handed-found way score path path' s h e f g = rw (le-leb (length way) (length path) h, ← e, ← f, g)
-
-module _ (l : Lengths) (left right : List ℕ) (cost : List Float) where
-  pub sought-length : (parents : ℕ) (path : List ℕ)
-      → handedOf (bestPath l left right cost) (bestScore l left right cost (lastOf left)) path ≡ soughtOf l left right cost ByLength parents path
-  unfolding soughtOf
-  sought-length parents path = refl
-
-  -- 14
-  pub sought-short : (count parents : ℕ) (path : List ℕ) → parents < piecesOf left count * length left
-      → _≡_ {A = Outcome} (record { answer = ShortParent; path = path }) (soughtOf l left right cost (ByCount count) parents path)
-  unfolding soughtOf
-  sought-short count parents path h = rw (lt-leb (piecesOf left count * length left) parents h)
-
-  pub sought-count : (count parents : ℕ) (path : List ℕ) → piecesOf left count * length left ≤ parents
-      → handedOf (bestPathByCount l left right cost count) (bestScoreByCount l left right cost count) path ≡ soughtOf l left right cost (ByCount count) parents path
-  unfolding soughtOf
-  sought-count count parents path h = rw (le-leb (piecesOf left count * length left) parents h)
-
--- ---- the operation's ends
-
-module _ (l : Lengths) (left right : List ℕ) (cost : List Float) (mode : Mode) (path work32 work64 : List ℕ) (workf : List Float) (parent : List ℕ) (v : Verdict)
-    (e : v ≡ firstRefusalOf left right cost l mode (length work32) (length work64) (length workf)) where
+module _ (l : Lengths) (left right : List ℕ) (cost : List Float) (mode : Mode) (path : List ℕ) (work : Work) (parent : List ℕ) where
   -- a refusal up to 13
-  pub path-refused : isFine v ≡ false
-      → _≡_ {A = End} (record { answer = Refused v; path = path; work32 = work32; work64 = work64; workf = workf; parent = parent })
-      (pathOf l left right cost mode path work32 work64 workf parent)
+  pub path-refused : (r : Refusal) → Fails r ≡ firstRefusalOf left right cost l mode (length (work .u32s)) (length (work .u64s)) (length (work .f64s))
+      → endOf (Refused r) path work parent ≡ pathOf l left right cost mode path work parent
   unfolding pathOf
-  path-refused f = rw (← e, f)
+  path-refused r e = rw (← e)
 
   -- what the search gave, with work memory cleared
-  pub path-sought : isFine v ≡ true → (a : Answer) (path' w32 w64 : List ℕ) (wf : List Float) (p : List ℕ)
-      → _≡_ {A = Outcome} (record { answer = a; path = path' }) (soughtOf l left right cost mode (length parent) path)
-      → w32 ≡ filled 0 work32 → w64 ≡ filled 0 work64 → wf ≡ filled (ofBits binary64 0) workf → p ≡ filled 0 parent
-      → _≡_ {A = End} (record { answer = a; path = path'; work32 = w32; work64 = w64; workf = wf; parent = p }) (pathOf l left right cost mode path work32 work64 workf parent)
+  pub path-sought : Fine ≡ firstRefusalOf left right cost l mode (length (work .u32s)) (length (work .u64s)) (length (work .f64s))
+      → (a : Answer) (path' : List ℕ) (work' : Work) (parent' : List ℕ) → outcomeOf a path' ≡ soughtOf l left right cost mode (length parent) path
+      → work' ≡ cleared work → parent' ≡ filled 0 parent → endOf a path' work' parent' ≡ pathOf l left right cost mode path work parent
   unfolding pathOf
-  path-sought f a path' w32 w64 wf p s e32 e64 ef ep =
+  path-sought e a path' work' parent' s w p =
       let x : a ≡ soughtOf l left right cost mode (length parent) path .answer = ap (λ (o : Outcome). o .answer) s in
       let y : path' ≡ soughtOf l left right cost mode (length parent) path .path = ap (λ (o : Outcome). o .path) s in
-      rw (← e, f, x, y, e32, e64, ef, ep)
+      rw (← e, x, y, w, p)
 
 -- cleared lists of one length are equal
 pub filled-same : {A : Type 0} (v : A) (xs ys : List A) → length xs ≡ length ys → filled v xs ≡ filled v ys
 unfolding filled
 filled-same v xs ys e = rw e
+
+-- so are cleared work lists
+pub cleared-same : (v w : Work) → length (v .u32s) ≡ length (w .u32s) → length (v .u64s) ≡ length (w .u64s) → length (v .f64s) ≡ length (w .f64s)
+    → cleared v ≡ cleared w
+cleared-same v w a b c =
+    rw (filled-same 0 (v .u32s) (w .u32s) a, filled-same 0 (v .u64s) (w .u64s) b, filled-same (ofBits binary64 0) (v .f64s) (w .f64s) c)

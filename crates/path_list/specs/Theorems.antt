@@ -1,116 +1,155 @@
--- What an answer of the operation means: the theorems of the path, by length and by count, hold of every path that it hands out.
---   found-by-length   the path and score of an answer by length are those of `solve-allowed`, `solve-score`, `solve-best`, `solve-tie`, `solve-only`
---   found-by-count    those of an answer by count, of `solve-count-allowed` and its sisters
+-- What an answer of the operation means, with no other hypothesis than the answer.
+--   found-by-length, found-by-count   the path that was found is document 01's best path, by length and by count
+--   number-zero                       0 is its number, and of no other answer
 use mathlib.Core.Path.{_≡_, refl, sym, ap, _∙_}
+use mathlib.Core.Logic.{_↔_}
 use mathlib.Core.Bool.{Bool, true, false, cond}
 use mathlib.Core.List.{List}
-use Prim.Native.Nat.{ℕ, _*_}
+use Prim.Native.Nat.{ℕ, _*_, _≤_}
+use native.Mathlib.Omega.{arith}
+use borrow.Author.Tests.{leb-true}
 use lib.Dec.{leb}
-use lib.Ieee.{Float, binary64, ofBits}
-use lib.ListN.{length}
-use Rattle.base_laws.specs.Tests.{holds}
-use Rattle.base_terms.specs.Lists.{filled, onto}
+use lib.Ieee.{Float}
+use lib.ListN.{length, take}
+use Rattle.base_code.specs.FrontLaws.{onto-take}
+use Rattle.base_terms.specs.Lists.{onto}
+use Rattle.base_terms.specs.Work.{Work}
 use Rattle.path_pieces.specs.declared.lengths.Lengths.{Lengths}
 use Rattle.path_pieces.specs.declared.mode.Mode.{Mode}
 use Rattle.path_pieces.specs.declared.mode.Mode.the-variants.{ByLength, ByCount}
 use Rattle.path_pieces.specs.declared.score.Score.{Score}
-use Rattle.path_by_length.specs.Paths.{lastOf, piecesOf}
+use Rattle.path_by_length.specs.Paths.{piecesOf, lastOf, pathScore}
 use Rattle.path_by_length.specs.Table.{bestScore, bestPath}
 use Rattle.path_by_length.specs.ByCount.{bestPathByCount, bestScoreByCount}
-use Rattle.path_by_length.specs.Solved.{Solution}
+use Rattle.path_by_length.specs.Theorems.{own-best, best-path-allowed, best-path-score, best-path-least, best-path-tie, best-path-only}
+use Rattle.path_by_length.specs.CountTheorems.{own-best-by-count, count-allowed, count-score, count-best, count-tie, count-only}
 use Rattle.path_by_length.specs.declared.solve.Solved.{Solved}
-use Rattle.path_by_count.specs.Counted.{SolutionByCount}
-use Rattle.path_tests.specs.Refusal.{firstRefusalOf, isFine}
+use Rattle.path_tests.specs.Refusal.{firstRefusalOf}
+use Rattle.path_tests.specs.RefusalLaws.{AcceptedLists, accepted-lists}
 use Rattle.path_tests.specs.declared.refusal.Verdict.{Verdict}
+use Rattle.path_tests.specs.declared.refusal.Verdict.the-variants.{Fine, Fails}
+use Rattle.path_tests.specs.declared.refusal.Refusal.{Refusal}
+use Rattle.path_tests.specs.declared.refusal.Refusal.the-variants.{BadLists, BadEnds, BadCosts, BadCount, ShortWork}
 use Rattle.path_list.specs.declared.seek.Answer.{Answer}
 use Rattle.path_list.specs.declared.seek.Answer.the-variants.{Found, Refused, ShortParent, ShortPath}
-use Rattle.path_list.specs.Operation.{Outcome, handedOf, soughtOf, End, pathOf}
+use Rattle.path_list.specs.Operation.{numberOf, Outcome, outcomeOf, handedOf, handedByCount, soughtOf, endAfter, pathOf}
+use Rattle.path_list.specs.Found.{Written, FoundByLength, FoundByCount}
 
--- what was found, and else what is given
-abbrev solvedIn : Solved → Answer → Solved
-solvedIn s (Found r) = r
-solvedIn s (Refused v) = s
-solvedIn s ShortParent = s
-solvedIn s ShortPath = s
+-- ---- a path that is handed out, with its score
 
-abbrev isFound : Answer → Bool
-isFound (Found r) = true
-isFound (Refused v) = false
-isFound ShortParent = false
-isFound ShortPath = false
-
--- a path that is handed out, with its score
-record Handed (way : List ℕ) (score : Score) (path path' : List ℕ) (s : Solved) : Type 0 where
+record Handed (way : List ℕ) (score : Score) (before after : List ℕ) (s : Solved) : Type 0 where
   is : s .score ≡ score
-  long : s .len ≡ length way
-  front : path' ≡ onto way path
+  front : take (s .len) after ≡ way
+  output : Written before after s
 
 handed-is : (way : List ℕ) (score : Score) (path : List ℕ) (s : Solved) → handedOf way score path .answer ≡ Found s
     → Handed way score path (handedOf way score path .path) s
 unfolding handedOf
-handed-is way score path s e = go (leb (length way) (length path)) e
+handed-is way score path s e = go (leb (length way) (length path)) (leb-true (length way) (length path)) e
   where
     outcome : Bool → Outcome
-    outcome b = cond b (record { answer = Found (record { score = score; len = length way }); path = onto way path }) (record { answer = ShortPath; path = path })
+    outcome b = cond b (outcomeOf (Found (record { score = score; len = length way })) (onto way path)) (outcomeOf ShortPath path)
 
-    go : (b : Bool) → outcome b .answer ≡ Found s → Handed way score path (outcome b .path) s
-    go true q = let r : record { score = score; len = length way } ≡ s = ap (solvedIn s) q in
-        record { is = sym (ap (λ (z : Solved). z .score) r); long = sym (ap (λ (z : Solved). z .len) r); front = refl }
-    go false q = absurd (holds (ap isFound q))
+    go : (b : Bool) → (b ≡ true → length way ≤ length path) → outcome b .answer ≡ Found s → Handed way score path (outcome b .path) s
+    go true h q =
+        let r : record { score = score; len = length way } ≡ s = cc in
+        let len : length way ≡ s .len = ap (λ (z : Solved). z .len) r in
+        let front : take (s .len) (onto way path) ≡ way = rw (← len) (onto-take way path) in
+        record {
+          is = sym (ap (λ (z : Solved). z .score) r);
+          front = front;
+          output = record { fits = omega (arith, h refl); written = ap (λ (w : List ℕ). onto w path) (sym front) };
+        }
+    go false h q = let z : _≡_ {A = ℕ} 0 1 = cc in absurd (omega arith)
 
-module _ (l : Lengths) (left right : List ℕ) (cost : List Float) (path work32 work64 : List ℕ) (workf : List Float) (parent : List ℕ) (s : Solved) where
-  -- an answer that was found is the search's
-  sought-is : (mode : Mode) → pathOf l left right cost mode path work32 work64 workf parent .answer ≡ Found s
-      → (soughtOf l left right cost mode (length parent) path .answer ≡ Found s)
-      × (pathOf l left right cost mode path work32 work64 workf parent .path ≡ soughtOf l left right cost mode (length parent) path .path)
+module _ (l : Lengths) (left right : List ℕ) (cost : List Float) (path : List ℕ) (work : Work) (parent : List ℕ) (s : Solved) where
+  -- an answer that was found is the search's, over candidates that no test refuses
+  record Searched (mode : Mode) : Type 0 where
+    accepted : AcceptedLists left right cost l mode (length (work .u32s)) (length (work .u64s)) (length (work .f64s))
+    answer : soughtOf l left right cost mode (length parent) path .answer ≡ Found s
+    output : pathOf l left right cost mode path work parent .path ≡ soughtOf l left right cost mode (length parent) path .path
+
+  searched : (mode : Mode) → pathOf l left right cost mode path work parent .answer ≡ Found s → Searched mode
   unfolding pathOf
-  sought-is mode e = go (isFine (firstRefusalOf left right cost l mode (length work32) (length work64) (length workf))) e
+  searched mode e =
+      let p = go (firstRefusalOf left right cost l mode (length (work .u32s)) (length (work .u64s)) (length (work .f64s))) e in
+      record {
+        accepted = accepted-lists left right cost l mode (length (work .u32s)) (length (work .u64s)) (length (work .f64s)) (p .0);
+        answer = p .1;
+        output = p .2;
+      }
     where
-      a : Outcome
-      a = soughtOf l left right cost mode (length parent) path
+      sought : Outcome
+      sought = soughtOf l left right cost mode (length parent) path
 
-      v : Verdict
-      v = firstRefusalOf left right cost l mode (length work32) (length work64) (length workf)
-
-      end : Bool → End
-      end b = cond b (record {
-        answer = a .answer;
-        path = a .path;
-        work32 = filled 0 work32;
-        work64 = filled 0 work64;
-        workf = filled (ofBits binary64 0) workf;
-        parent = filled 0 parent;
-      }) (record { answer = Refused v; path = path; work32 = work32; work64 = work64; workf = workf; parent = parent })
-
-      go : (b : Bool) → end b .answer ≡ Found s → (a .answer ≡ Found s) × (end b .path ≡ a .path)
-      go true q = (q, refl)
-      go false q = absurd (holds (ap isFound q))
+      go : (v : Verdict) → endAfter v sought path work parent .answer ≡ Found s
+          → (v ≡ Fine) × (sought .answer ≡ Found s) × (endAfter v sought path work parent .path ≡ sought .path)
+      go Fine q = (refl, q, refl)
+      go (Fails r) q = let z : _≡_ {A = ℕ} 0 1 = cc in absurd (omega arith)
 
   -- by length
-  pub found-by-length : pathOf l left right cost ByLength path work32 work64 workf parent .answer ≡ Found s
-      → Solution l left right cost path (pathOf l left right cost ByLength path work32 work64 workf parent .path) s
+  pub found-by-length : pathOf l left right cost ByLength path work parent .answer ≡ Found s
+      → FoundByLength l left right cost path (pathOf l left right cost ByLength path work parent .path) s
   unfolding soughtOf
   found-by-length e =
-      let x = sought-is ByLength e in
-      let h = handed-is (bestPath l left right cost) (bestScore l left right cost (lastOf left)) path s (x .0) in
-      record { score = h .is; count = h .long; written = x .1 ∙ h .front }
+      let x = searched ByLength e in
+      let h = handed-is (bestPath l left right cost) (bestScore l left right cost (lastOf left)) path s (x .answer) in
+      let ok = x .accepted .domain in
+      rw (x .output)
+      (record {
+        output = h .output;
+        allowed = rw (h .front) (best-path-allowed ok);
+        score = ap (pathScore l left right cost) (h .front) ∙ best-path-score ok ∙ sym (h .is);
+        least = λ other p. rw (h .is) (best-path-least ok other p);
+        own = own-best ok;
+        tie = λ best. rw (h .front) (best-path-tie ok best);
+        only = λ best other t. best-path-only ok best other t ∙ sym (h .front);
+      })
 
   -- by count
-  pub found-by-count : (count : ℕ) → pathOf l left right cost (ByCount count) path work32 work64 workf parent .answer ≡ Found s
-      → SolutionByCount l left right cost count path (pathOf l left right cost (ByCount count) path work32 work64 workf parent .path) s
+  pub found-by-count : (count : ℕ) → pathOf l left right cost (ByCount count) path work parent .answer ≡ Found s
+      → FoundByCount count l left right cost path (pathOf l left right cost (ByCount count) path work parent .path) s
   unfolding soughtOf
   found-by-count count e =
-      let x = sought-is (ByCount count) e in go (leb (piecesOf left count * length left) (length parent)) (x .0) (x .1)
+      let x = searched (ByCount count) e in
+      let p = go (leb (piecesOf left count * length left) (length parent)) (x .answer) in
+      let h = handed-is (bestPathByCount l left right cost count) (bestScoreByCount l left right cost count) path s (p .0) in
+      let ok = x .accepted .domain in
+      let some = x .accepted .counted count refl .0 in
+      rw (x .output ∙ p .1)
+      (record {
+        output = h .output;
+        allowed = rw (h .front) (count-allowed ok count some);
+        score = ap (pathScore l left right cost) (h .front) ∙ count-score ok count some ∙ sym (h .is);
+        least = λ other q. rw (h .is) (count-best ok count some other q);
+        own = own-best-by-count ok;
+        tie = λ best. rw (h .front) (count-tie ok count some best);
+        only = λ best other t n. count-only ok count some best other t n ∙ sym (h .front);
+      })
     where
-      handed : Outcome
-      handed = handedOf (bestPathByCount l left right cost count) (bestScoreByCount l left right cost count) path
+      sought : Bool → Outcome
+      sought b = cond b (handedByCount l left right cost count path) (outcomeOf ShortParent path)
 
-      path' : List ℕ
-      path' = pathOf l left right cost (ByCount count) path work32 work64 workf parent .path
+      go : (b : Bool) → sought b .answer ≡ Found s
+          → (handedByCount l left right cost count path .answer ≡ Found s) × (sought b .path ≡ handedByCount l left right cost count path .path)
+      go true q = (q, refl)
+      go false q = let z : _≡_ {A = ℕ} 0 1 = cc in absurd (omega arith)
 
-      go : (b : Bool) → cond b handed (record { answer = ShortParent; path = path }) .answer ≡ Found s
-          → path' ≡ cond b handed (record { answer = ShortParent; path = path }) .path → SolutionByCount l left right cost count path path' s
-      go true q f =
-          let h = handed-is (bestPathByCount l left right cost count) (bestScoreByCount l left right cost count) path s q in
-          record { score = h .is; count-is = h .long; written = f ∙ h .front }
-      go false q f = absurd (holds (ap isFound q))
+-- ---- the number
+
+-- 0 is the number exactly where a path was found
+pub number-zero : (a : Answer) → (numberOf a ≡ 0) ↔ ((s : Solved) × (a ≡ Found s))
+number-zero a = (found a, λ f. ap numberOf (f .1))
+  where
+    refused : (r : Refusal) → numberOf (Refused r) ≡ 0 → ⊥
+    refused BadLists e = omega arith
+    refused BadEnds e = omega arith
+    refused BadCosts e = omega arith
+    refused BadCount e = omega arith
+    refused ShortWork e = omega arith
+
+    found : (a : Answer) → numberOf a ≡ 0 → (s : Solved) × (a ≡ Found s)
+    found (Found s) e = (s, refl)
+    found (Refused r) e = absurd (refused r e)
+    found ShortParent e = absurd (omega arith)
+    found ShortPath e = absurd (omega arith)

@@ -1,11 +1,15 @@
 // The operation itself.
 use crate::seek;
 use crate::seek::Answer;
+use base_code::clear;
+use base_code::work;
 use path_pieces::lengths::Lengths;
 use path_pieces::mode::Mode;
 use path_tests::refusal;
+use path_tests::refusal::Verdict;
 ghost use mathlib.Core.Path.{_≡_};
-ghost use Rattle.path_list.specs.Operation.{End, numberOf, pathOf};
+ghost use Rattle.base_terms.specs.Work.{workOf};
+ghost use Rattle.path_list.specs.Operation.{endOf, numberOf, pathOf};
 
 // Document 01's number for each case.
 pub fn number(a: Answer) -> u32
@@ -13,7 +17,7 @@ pub fn number(a: Answer) -> u32
 {
     match a {
         Answer::Found(_) => 0,
-        Answer::Refused(v) => refusal::number(v),
+        Answer::Refused(r) => refusal::number(r),
         Answer::ShortParent => 14,
         Answer::ShortPath => 12,
     }
@@ -26,41 +30,30 @@ pub fn best_path(
     cost: &[f64],
     lengths: Lengths,
     mode: Mode,
-    work_u32: &mut [u32],
-    work_u64: &mut [u64],
-    work_f64: &mut [f64],
+    u32s: &mut [u32],
+    u64s: &mut [u64],
+    f64s: &mut [f64],
     parent: &mut [u32],
     path: &mut [u32],
 ) -> Answer
-    ensures { λ a. ⌜ _≡_ {A = End} (record { answer = a; path = now (path .exit); work32 = now («work_u32» .exit); work64 = now («work_u64» .exit); workf = now («work_f64» .exit); parent = now (parent .exit) }) (pathOf lengths (now (left .entry)) (now (right .entry)) (now (cost .entry)) mode (now (path .entry)) (now («work_u32» .entry)) (now («work_u64» .entry)) (now («work_f64» .entry)) (now (parent .entry))) ⌝ }
+    ensures { λ a. ⌜
+        endOf a (now (path .exit))
+        (workOf (now (u32s .exit)) (now (u64s .exit)) (now (f64s .exit)))
+        (now (parent .exit))
+        ≡ pathOf lengths (now (left .entry)) (now (right .entry)) (now (cost .entry)) mode (now (path .entry))
+        (workOf (now (u32s .entry)) (now (u64s .entry)) (now (f64s .entry)))
+        (now (parent .entry))
+        ⌝ }
 {
-    let verdict = refusal::first_refusal(
-        left,
-        right,
-        cost,
-        lengths,
-        mode,
-        work_u32.len(),
-        work_u64.len(),
-        work_f64.len(),
-    );
-    if !refusal::is_fine(verdict) {
-        return Answer::Refused(verdict);
+    let n32 = u32s.len();
+    let n64 = u64s.len();
+    let nf = f64s.len();
+    let verdict = refusal::first_refusal(left, right, cost, lengths, mode, n32, n64, nf);
+    if let Verdict::Fails(refusal) = verdict {
+        return Answer::Refused(refusal);
     }
-    let answer = seek::seek(
-        left,
-        right,
-        cost,
-        lengths,
-        mode,
-        work_u32,
-        work_f64,
-        parent,
-        path,
-    );
-    base_code::clear::clear_u32(work_u32);
-    base_code::clear::clear_u64(work_u64);
-    base_code::clear::clear_f64(work_f64);
-    base_code::clear::clear_u32(parent);
+    let answer = seek::seek(left, right, cost, lengths, mode, u32s, f64s, parent, path);
+    work::clear_work(u32s, u64s, f64s);
+    clear::clear_u32(parent);
     answer
 }

@@ -22,8 +22,8 @@ use Rattle.base_laws.specs.Sums.{float-add-nonneg}
 use Rattle.base_terms.specs.Lengths.{lengthCost, lengthBound}
 use Rattle.base_laws.specs.Lengths.{length-whole, length-cost-nonneg, length-bound-least}
 use Rattle.base_terms.specs.Scores.{scoreLe}
-use Rattle.base_laws.specs.Scores.{score-bound, score-refl, score-total, score-trans, score-lt-is, score-lt-le, score-piece, score-cut}
-use Rattle.path_pieces.specs.Limits.{maxEnd}
+use Rattle.base_laws.specs.Scores.{score-over, score-bound, score-refl, score-total, score-trans, score-lt-is, score-lt-le, score-piece, score-cut}
+use Rattle.base_terms.specs.Limits.{maxLen}
 use Rattle.path_pieces.specs.Pieces.{noScore, pieceLength, lengthCostOf, isShort, passesTarget, overOf, withPiece, withCut, withCutAt, atMost, lessThan}
 use Rattle.path_pieces.specs.PiecesLaws.{over-mono}
 use Rattle.path_pieces.specs.Domain.{Candidates, Costs, Preferred}
@@ -54,11 +54,11 @@ module _ {left right : List ℕ} (ok : Candidates left right) where
   ends-rise i (suc j) h k = le-trans (rights-rise i j (le-of-suc-le-suc h) (omega arith)) (ok .apart j k)
 
   -- a left end is within the bound
-  pub left-bounded : (j : ℕ) → j < length left → getD left j 0 ≤ maxEnd
+  pub left-bounded : (j : ℕ) → j < length left → getD left j 0 ≤ maxLen
   left-bounded j h = le-trans (ok .inside j h) (ok .bounded j h)
 
   -- so is a piece's length
-  pub piece-bounded : (i j : ℕ) → j < length left → pieceLength left right i j ≤ maxEnd
+  pub piece-bounded : (i j : ℕ) → j < length left → pieceLength left right i j ≤ maxLen
   unfolding pieceLength
   piece-bounded i j h = omega (arith, left-bounded j h)
 
@@ -96,27 +96,31 @@ less-than-is a b p q =
 pub less-at-most : (a b : Score) → T (lessThan a b) → T (atMost a b)
 less-at-most a b h = score-lt-le (a .over) (a .cost) (b .over) (b .cost) h
 
+-- a score that is at most another has no more pieces over the limit
+pub over-le : (a b : Score) → T (atMost a b) → a .over ≤ b .over
+over-le a b h = score-over (a .over) (a .cost) (b .over) (b .cost) h
+
 -- ---- one more piece
 
 module _ {l : Lengths} (ok : Preferred l) where
   -- a length's cost is not negative
-  pub length-nonneg : (len : ℕ) → len ≤ maxEnd → T (nonneg (lengthCostOf l len))
+  pub length-nonneg : (len : ℕ) → len ≤ maxLen → T (nonneg (lengthCostOf l len))
   unfolding lengthCostOf
   length-nonneg len h = length-cost-nonneg (ok .preferences) (length-whole binary64 len (le-trans h (lit≤ tt)))
 
   -- nor is the cost after one more piece
-  pub piece-nonneg : (s : Score) (len : ℕ) → len ≤ maxEnd → T (nonneg (s .cost)) → T (nonneg (withPiece l s len .cost))
+  pub piece-nonneg : (s : Score) (len : ℕ) → len ≤ maxLen → T (nonneg (s .cost)) → T (nonneg (withPiece l s len .cost))
   unfolding withPiece
   piece-nonneg s len h p = float-add-nonneg binary64 (s .cost) (lengthCostOf l len) p (length-nonneg len h)
 
   -- the same piece keeps the order
-  pub piece-keeps : (s t : Score) (len : ℕ) → len ≤ maxEnd → T (nonneg (s .cost)) → T (atMost s t) → T (atMost (withPiece l s len) (withPiece l t len))
+  pub piece-keeps : (s t : Score) (len : ℕ) → len ≤ maxLen → T (nonneg (s .cost)) → T (atMost s t) → T (atMost (withPiece l s len) (withPiece l t len))
   unfolding withPiece
   piece-keeps s t len h p k =
       score-piece binary64 (s .over) (s .cost) (t .over) (t .cost) (overOf (l .limit) len) (lengthCostOf l len) p (length-nonneg len h) k
 
   -- past the minimum and the target, a longer piece costs no less
-  pub length-rises : (len more : ℕ) → len ≤ more → more ≤ maxEnd → isShort l len ≡ false → passesTarget l len ≡ true
+  pub length-rises : (len more : ℕ) → len ≤ more → more ≤ maxLen → isShort l len ≡ false → passesTarget l len ≡ true
       → T (le (lengthCostOf l len) (lengthCostOf l more))
   unfolding lengthCostOf
   length-rises len more h g e p =
@@ -124,17 +128,17 @@ module _ {l : Lengths} (ok : Preferred l) where
       let y = ofInt binary64 (pos more) in
       let r : T (le x y) = whole-mono binary64 len more h in
       let y-ok = length-whole binary64 more (le-trans g (lit≤ tt)) in
-      subst (λ (z : Float). T (le z (lengthCost binary64 (l .«target_weight») (l .«short_weight») (l .min) (l .target) y)))
+      subst (λ (z : Float). T (le z (lengthCost binary64 (l .weights .target) (l .weights .short) (l .min) (l .target) y)))
       (bound-is x y r e (long-stays l len more h e) p)
       (length-bound-least (ok .preferences) x y y-ok r (float-le-refl y (nonneg-number y (y-ok .length-nonneg))))
     where
       bound-is : (x y : Float) → T (le x y) → lt x (l .min) ≡ false → lt y (l .min) ≡ false → lt (l .target) x ≡ true
-          → lengthBound binary64 (l .«target_weight») (l .«short_weight») (l .min) (l .target) x y
-          ≡ lengthCost binary64 (l .«target_weight») (l .«short_weight») (l .min) (l .target) x
+          → lengthBound binary64 (l .weights .target) (l .weights .short) (l .min) (l .target) x y
+          ≡ lengthCost binary64 (l .weights .target) (l .weights .short) (l .min) (l .target) x
       bound-is x y r e e' p = unfold lengthBound lengthCost in rw (clamp-below (l .target) x y (holds p) r, e, e')
 
   -- so the piece alone is at most any score with a longer one
-  pub piece-alone : (s : Score) (len more : ℕ) → T (nonneg (s .cost)) → len ≤ more → more ≤ maxEnd → isShort l len ≡ false → passesTarget l len ≡ true
+  pub piece-alone : (s : Score) (len more : ℕ) → T (nonneg (s .cost)) → len ≤ more → more ≤ maxLen → isShort l len ≡ false → passesTarget l len ≡ true
       → T (atMost (withPiece l noScore len) (withPiece l s more))
   unfolding withPiece
   piece-alone s len more q h g e p =

@@ -1,17 +1,24 @@
 -- Document 01's "score" and "length cost": what a piece and a cut add to a path's score, and how scores compare.
 -- A piece from candidate i to candidate j runs from the right end of i to the left end of j.
 use Prim.Native.Nat.{ℕ, suc, _+_, _-_}
-use mathlib.Core.Bool.{Bool, cond}
+use mathlib.Core.Bool.{Bool, cond, _||_}
 use mathlib.Core.List.{List}
-use lib.Dec.{leb, ltb}
+use lib.Dec.{leb, ltb, eqb}
 use lib.IntN.{pos}
-use lib.Ieee.{Float, nan, binary64, add, lt, ofInt}
+use lib.Ieee.{Float, nan, binary64, ofBits, add, lt, ofInt}
 use lib.ListN.{length, getD}
 use Rattle.base_terms.specs.Floats.{nought}
 use Rattle.base_terms.specs.Lengths.{lengthCost}
 use Rattle.base_terms.specs.Scores.{scoreLe, scoreLt, scoreEq}
 use Rattle.path_pieces.specs.declared.lengths.Lengths.{Lengths}
 use Rattle.path_pieces.specs.declared.score.Score.{Score}
+use Rattle.path_pieces.specs.declared.weights.Weights.{Weights}
+
+-- ---- weights
+
+-- the weights of a path over given costs: being off the target, and being below the minimum; those of a cut are not looked at
+abbrev pub lengthWeights : Float → Float → Weights
+lengthWeights target short = let none = ofBits binary64 0 in record { cut = none; level = none; pause = none; «pause_ref» = 0; target = target; short = short }
 
 -- ---- lengths
 
@@ -21,7 +28,7 @@ pieceLength left right i j = getD left j 0 - getD right i 0
 
 -- document 01's "length cost": what a piece of this length costs
 unfoldable pub lengthCostOf : Lengths → ℕ → Float
-lengthCostOf l len = lengthCost binary64 (l .«target_weight») (l .«short_weight») (l .min) (l .target) (ofInt binary64 (pos len))
+lengthCostOf l len = lengthCost binary64 (l .weights .target) (l .weights .short) (l .min) (l .target) (ofInt binary64 (pos len))
 
 -- document 01's "minimum" in the length cost: a piece of this length is below it
 abbrev pub isShort : Lengths → ℕ → Bool
@@ -38,6 +45,10 @@ overOf limit len = cond (ltb limit len) 1 0
 -- the piece that ends at candidate j and starts at candidate i is no longer than the limit
 unfoldable pub isWithin : ℕ → List ℕ → List ℕ → ℕ → ℕ → Bool
 isWithin limit left right j i = leb (pieceLength left right i j) limit
+
+-- document 01's "piece rule": a piece that ends at candidate j may start at candidate i if it is no longer than the limit or i = j - 1
+unfoldable pub mayStart : ℕ → List ℕ → List ℕ → ℕ → ℕ → Bool
+mayStart limit left right j i = isWithin limit left right j i || eqb (suc i) j
 
 -- ---- scores
 

@@ -5,7 +5,8 @@ ghost use mathlib.Core.Path.{_≡_};
 ghost use mathlib.Core.Bool.{false};
 ghost use Prim.Native.Nat.{_≤_, _<_};
 ghost use lib.ListN.{length};
-ghost use Rattle.path_pieces.specs.Limits.{maxEnd, maxIndex};
+ghost use Rattle.base_terms.specs.Limits.{maxLen};
+ghost use Rattle.path_pieces.specs.Limits.{maxIndex};
 ghost use Rattle.path_pieces.specs.Pieces.{isShort, withPiece, withCut, withCutAt, lessThan, atMost, equalTo};
 
 pub struct Score {
@@ -16,7 +17,7 @@ pub struct Score {
 // The score after one more piece of this length.
 pub fn piece_score(prior: Score, lengths: Lengths, len: u64) -> Score
     requires { ⌜ prior .over ≤ maxIndex ⌝ }
-    requires { ⌜ len ≤ maxEnd ⌝ }
+    requires { ⌜ len ≤ maxLen ⌝ }
     ensures { λ r. ⌜ r ≡ withPiece lengths prior len ⌝ }
 {
     let limit = lengths.limit;
@@ -29,7 +30,7 @@ pub fn piece_score(prior: Score, lengths: Lengths, len: u64) -> Score
 // The same for a piece that is not below the minimum.
 pub fn long_score(prior: Score, lengths: Lengths, len: u64) -> Score
     requires { ⌜ prior .over ≤ maxIndex ⌝ }
-    requires { ⌜ len ≤ maxEnd ⌝ }
+    requires { ⌜ len ≤ maxLen ⌝ }
     requires { ⌜ isShort lengths len ≡ false ⌝ }
     ensures { λ r. ⌜ r ≡ withPiece lengths prior len ⌝ }
 {

@@ -1,9 +1,7 @@
 -- Document 01's refusal 17: costs, length weights, target and minimum. A NaN is outside every range: every comparison with it is false.
-use mathlib.Core.Path.{_≡_}
-use mathlib.Core.Bool.{Bool, true, false, _&&_}
-use lib.Dec.{T}
+use mathlib.Core.Bool.{Bool, false, _&&_}
 use lib.IntN.{pos, negsuc}
-use lib.Ieee.{Float, inf, fin, binary64, le, lt, fits}
+use lib.Ieee.{Float, inf, fin, binary64, le, lt}
 use Rattle.base_terms.specs.Floats.{nonneg}
 use Rattle.path_pieces.specs.declared.lengths.Lengths.{Lengths}
 
@@ -29,8 +27,4 @@ isMin x = nonneg x && le x maxLength
 
 -- 17, but for the costs of the cuts
 unfoldable pub lengthsOk : Lengths → Bool
-lengthsOk l = isCost (l .«target_weight») && isCost (l .«short_weight») && isTarget (l .target) && isMin (l .min)
-
--- where a test passed, the minimum fits its format, as every f64 does: the laws of the length cost ask for it
-abbrev pub MinFits : Bool → Lengths → Type 0
-MinFits passed l = passed ≡ true → T (fits binary64 (l .min))
+lengthsOk l = isCost (l .weights .target) && isCost (l .weights .short) && isTarget (l .target) && isMin (l .min)

@@ -5,12 +5,11 @@ use mathlib.Core.List.{List}
 use Prim.Native.Nat.{ℕ, _<_}
 use native.Mathlib.Omega.{arith}
 use lib.Dec.{T}
-use lib.Ieee.{Float, nan, inf, fin, binary64, le, lt, fits}
+use lib.Ieee.{Float, nan, inf, fin, le, lt}
 use lib.Ieee.Scale.{finite}
 use lib.ListN.{length, getD}
 use Rattle.base_laws.specs.Tests.{holds, both}
-use Rattle.base_terms.specs.Floats.{nought, nonneg}
-use Rattle.base_laws.specs.Nonneg.{finite-between}
+use Rattle.base_terms.specs.Floats.{nonneg}
 use Rattle.base_terms.specs.Lists.{allOf}
 use Rattle.base_code.specs.Elements.{all-at}
 use Rattle.path_pieces.specs.Domain.{Costs, Preferred}
@@ -40,29 +39,26 @@ target-range : (x : Float) → isTarget x ≡ true → T (le minTarget x) × T (
 unfolding isTarget
 target-range x e = let p = both (le minTarget x) (le x maxLength) e in (holds (p .0), holds (p .1))
 
--- a minimum is finite
-min-finite : (x : Float) → isMin x ≡ true → T (finite x)
+-- a minimum is at most 2 ^ 60
+min-high : (x : Float) → isMin x ≡ true → T (le x maxLength)
 unfolding isMin
-min-finite x e =
-    let p = both (nonneg x) (le x maxLength) e in
-    finite-between nought x maxLength tt tt (holds (p .0)) (holds (p .1))
+min-high x e = holds (both (nonneg x) (le x maxLength) e .1)
 
--- the preferences are of the search's domain; that the minimum fits its format is known of every f64
-pub lengths-preferred : (l : Lengths) → T (fits binary64 (l .min)) → lengthsOk l ≡ true → Preferred l
+-- the preferences are of the search's domain
+pub lengths-preferred : (l : Lengths) → lengthsOk l ≡ true → Preferred l
 unfolding lengthsOk
-lengths-preferred l f e =
-    let p = both (isCost (l .«target_weight») && isCost (l .«short_weight») && isTarget (l .target)) (isMin (l .min)) e in
-    let q = both (isCost (l .«target_weight») && isCost (l .«short_weight»)) (isTarget (l .target)) (p .0) in
-    let s = both (isCost (l .«target_weight»)) (isCost (l .«short_weight»)) (q .0) in
+lengths-preferred l e =
+    let p = both (isCost (l .weights .target) && isCost (l .weights .short) && isTarget (l .target)) (isMin (l .min)) e in
+    let q = both (isCost (l .weights .target) && isCost (l .weights .short)) (isTarget (l .target)) (p .0) in
+    let s = both (isCost (l .weights .target)) (isCost (l .weights .short)) (q .0) in
     let t = target-range (l .target) (q .1) in
     record {
       preferences = record {
-        target-weight-nonneg = cost-nonneg (l .«target_weight») (s .0);
-        target-weight-finite = cost-finite (l .«target_weight») (s .0);
-        short-weight-nonneg = cost-nonneg (l .«short_weight») (s .1);
-        short-weight-finite = cost-finite (l .«short_weight») (s .1);
-        min-finite = min-finite (l .min) (p .1);
-        min-fits = f;
+        target-weight-nonneg = cost-nonneg (l .weights .target) (s .0);
+        target-weight-finite = cost-finite (l .weights .target) (s .0);
+        short-weight-nonneg = cost-nonneg (l .weights .short) (s .1);
+        short-weight-finite = cost-finite (l .weights .short) (s .1);
+        min-high = min-high (l .min) (p .1);
         target-low = t .0;
         target-high = t .1;
       };

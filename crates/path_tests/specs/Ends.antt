@@ -3,11 +3,8 @@ use Prim.Native.Nat.{ℕ}
 use mathlib.Core.Bool.{Bool, true, false, _&&_}
 use mathlib.Core.List.{List, [], _∷_}
 use lib.Dec.{ltb, leb, eqb}
-use Rattle.path_pieces.specs.Limits.{maxEnd}
-
--- 15: the most candidates
-abbrev pub maxCandidates : ℕ
-maxCandidates = 1048577
+use Rattle.base_terms.specs.Limits.{maxLen}
+use Rattle.path_pieces.specs.Limits.{maxCandidates}
 
 -- 15: there are candidates, not too many, and a right end and a cost for each
 unfoldable pub listsOk : ℕ → ℕ → ℕ → Bool
@@ -15,7 +12,7 @@ listsOk lefts rights costs = ltb 0 lefts && leb lefts maxCandidates && eqb right
 
 -- 16, for one candidate: the right end before it is not above its left end, that is not above its right end, and that is within the bound
 unfoldable pub endOk : ℕ → ℕ → ℕ → Bool
-endOk last left right = leb last left && leb left right && leb right maxEnd
+endOk last left right = leb last left && leb left right && leb right maxLen
 
 -- 16, for the candidates that follow the right end `last`
 unfoldable pub endsFrom : ℕ → List ℕ → List ℕ → Bool
@@ -25,4 +22,4 @@ endsFrom last (l ∷ left) [] = false
 
 -- 16: the limit is within the bound, and the candidates are in order
 unfoldable pub endsOk : List ℕ → List ℕ → ℕ → Bool
-endsOk left right limit = leb limit maxEnd && endsFrom 0 left right
+endsOk left right limit = leb limit maxLen && endsFrom 0 left right

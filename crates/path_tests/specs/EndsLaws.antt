@@ -11,9 +11,10 @@ use lib.Dec.{ltb, leb, eqb}
 use lib.ListN.{length, getD, drop, drop-of-length-le}
 use lib.Seq.{drop-cons}
 use Rattle.base_laws.specs.Tests.{holds, both}
-use Rattle.path_pieces.specs.Limits.{maxEnd}
+use Rattle.base_terms.specs.Limits.{maxLen}
+use Rattle.path_pieces.specs.Limits.{maxCandidates}
 use Rattle.path_pieces.specs.Domain.{Candidates}
-use Rattle.path_tests.specs.Ends.{maxCandidates, listsOk, endOk, endsFrom, endsOk}
+use Rattle.path_tests.specs.Ends.{listsOk, endOk, endsFrom, endsOk}
 
 -- ---- the loop: the test of all candidates has come down to those from i on, which follow the right end `last`
 
@@ -23,14 +24,14 @@ Ending left right limit end last i =
 
 module _ (left right : List ℕ) (limit : ℕ) where
   -- a limit within the bound leaves the test of the candidates
-  pub ending-start : limit ≤ maxEnd → length right ≡ length left → Ending left right limit (length left) 0 0
+  pub ending-start : limit ≤ maxLen → length right ≡ length left → Ending left right limit (length left) 0 0
   unfolding endsOk
-  ending-start h e = (omega arith, refl, e, rw (le-leb limit maxEnd h))
+  ending-start h e = (omega arith, refl, e, rw (le-leb limit maxLen h))
 
   -- a limit above it fails
-  pub ending-limit : maxEnd < limit → false ≡ endsOk left right limit
+  pub ending-limit : maxLen < limit → false ≡ endsOk left right limit
   unfolding endsOk
-  ending-limit h = rw (lt-leb limit maxEnd h)
+  ending-limit h = rw (lt-leb limit maxLen h)
 
   ends-step : (last i : ℕ) → i < length left → i < length right
       → endsFrom last (drop i left) (drop i right) ≡ (endOk last (getD left i 0) (getD right i 0) && endsFrom (getD right i 0) (drop (i + 1) left) (drop (i + 1) right))
@@ -56,13 +57,13 @@ module _ (left right : List ℕ) (limit : ℕ) where
 -- ---- what the tests leave
 
 -- test 15, taken apart
-pub record Counted (lefts rights costs : ℕ) : Type 0 where
+pub record EqualLists (lefts rights costs : ℕ) : Type 0 where
   pub some : 0 < lefts
   pub few : lefts ≤ maxCandidates
   pub paired : rights ≡ lefts
   pub priced : costs ≡ lefts
 
-pub lists-parts : (lefts rights costs : ℕ) → listsOk lefts rights costs ≡ true → Counted lefts rights costs
+pub lists-parts : (lefts rights costs : ℕ) → listsOk lefts rights costs ≡ true → EqualLists lefts rights costs
 unfolding listsOk
 lists-parts lefts rights costs e =
     let p = both (ltb 0 lefts && leb lefts maxCandidates && eqb rights lefts) (eqb costs lefts) e in
@@ -76,12 +77,12 @@ lists-parts lefts rights costs e =
     }
 
 -- one candidate's test, taken apart
-end-parts : (last left right : ℕ) → endOk last left right ≡ true → (last ≤ left) × (left ≤ right) × (right ≤ maxEnd)
+end-parts : (last left right : ℕ) → endOk last left right ≡ true → (last ≤ left) × (left ≤ right) × (right ≤ maxLen)
 unfolding endOk
 end-parts last left right e =
-    let p = both (leb last left && leb left right) (leb right maxEnd) e in
+    let p = both (leb last left && leb left right) (leb right maxLen) e in
     let q = both (leb last left) (leb left right) (p .0) in
-    (leb-true last left (q .0), leb-true left right (q .1), leb-true right maxEnd (p .1))
+    (leb-true last left (q .0), leb-true left right (q .1), leb-true right maxLen (p .1))
 
 -- the candidate at i passes, after the right end before it
 ends-at : (last : ℕ) (left right : List ℕ) (i : ℕ) → i < length left → endsFrom last left right ≡ true
@@ -92,18 +93,12 @@ ends-at last (l ∷ left) [] i h e = absurd (holds e)
 ends-at last (l ∷ left) (r ∷ right) zero h e = both (endOk last l r) (endsFrom r left right) e .0
 ends-at last (l ∷ left) (r ∷ right) (suc i) h e = ends-at r left right i (le-of-suc-le-suc h) (both (endOk last l r) (endsFrom r left right) e .1)
 
--- test 16, taken apart
-pub ends-parts : (left right : List ℕ) (limit : ℕ) → endsOk left right limit ≡ true → (limit ≤ maxEnd) × (endsFrom 0 left right ≡ true)
-unfolding endsOk
-ends-parts left right limit e =
-    let p = both (leb limit maxEnd) (endsFrom 0 left right) e in
-    (leb-true limit maxEnd (p .0), p .1)
-
 -- the candidate at i is in order
 ends-order : (left right : List ℕ) (limit : ℕ) → endsOk left right limit ≡ true → (i : ℕ) → i < length left
-    → (getD (0 ∷ right) i 0 ≤ getD left i 0) × (getD left i 0 ≤ getD right i 0) × (getD right i 0 ≤ maxEnd)
+    → (getD (0 ∷ right) i 0 ≤ getD left i 0) × (getD left i 0 ≤ getD right i 0) × (getD right i 0 ≤ maxLen)
+unfolding endsOk
 ends-order left right limit e i h =
-    end-parts (getD (0 ∷ right) i 0) (getD left i 0) (getD right i 0) (ends-at 0 left right i h (ends-parts left right limit e .1))
+    end-parts (getD (0 ∷ right) i 0) (getD left i 0) (getD right i 0) (ends-at 0 left right i h (both (leb limit maxLen) (endsFrom 0 left right) e .1))
 
 -- tests 15 and 16 leave candidates in order
 pub ends-candidates : (left right : List ℕ) (costs limit : ℕ) → listsOk (length left) (length right) costs ≡ true → endsOk left right limit ≡ true

@@ -1,18 +1,21 @@
 -- Document 01's refusals of "path over lent candidates" before 14: 15, 16, 17, 8 and 13, in this order.
-use Prim.Native.Nat.{ℕ, _*_}
+use Prim.Native.Nat.{ℕ}
 use mathlib.Core.Bool.{Bool, true, false, _&&_, cond}
 use mathlib.Core.List.{List}
 use lib.Dec.{ltb, leb}
 use lib.Ieee.{Float}
 use lib.ListN.{length}
 use Rattle.base_terms.specs.Lists.{allOf}
+use Rattle.base_terms.specs.Work.{workOk}
 use Rattle.path_pieces.specs.declared.lengths.Lengths.{Lengths}
 use Rattle.path_pieces.specs.declared.mode.Mode.{Mode}
 use Rattle.path_pieces.specs.declared.mode.Mode.the-variants.{ByLength, ByCount}
 use Rattle.path_tests.specs.Ends.{listsOk, endsOk}
 use Rattle.path_tests.specs.Costs.{isCost, lengthsOk}
 use Rattle.path_tests.specs.declared.refusal.Verdict.{Verdict}
-use Rattle.path_tests.specs.declared.refusal.Verdict.the-variants.{Fine, BadLists, BadEnds, BadCosts, BadCount, ShortWork}
+use Rattle.path_tests.specs.declared.refusal.Verdict.the-variants.{Fine, Fails}
+use Rattle.path_tests.specs.declared.refusal.Refusal.{Refusal}
+use Rattle.path_tests.specs.declared.refusal.Refusal.the-variants.{BadLists, BadEnds, BadCosts, BadCount, ShortWork}
 
 -- 8: the highest count
 abbrev pub maxCount : ℕ
@@ -27,17 +30,11 @@ unfoldable pub countOk : Mode → Bool
 countOk ByLength = true
 countOk (ByCount count) = isCount count
 
--- 13: how long each work list must be
-abbrev pub workLength : ℕ → ℕ
-workLength candidates = 16 * candidates
-
-unfoldable pub workOk : ℕ → ℕ → ℕ → ℕ → Bool
-workOk candidates n32 n64 nf = leb (workLength candidates) n32 && leb (workLength candidates) n64 && leb (workLength candidates) nf
-
 -- ---- the chain
 
-abbrev pub orElse : Bool → Verdict → Verdict → Verdict
-orElse passes refusal rest = cond passes rest refusal
+-- what the rest of the chain says where a test passes, and else why it does not
+abbrev pub orElse : Bool → Refusal → Verdict → Verdict
+orElse passes refusal rest = cond passes rest (Fails refusal)
 
 -- the first test that fails, in document 01's order; 17 is that of the cuts' costs and that of the lengths
 unfoldable pub firstRefusalOf : List ℕ → List ℕ → List Float → Lengths → Mode → ℕ → ℕ → ℕ → Verdict
@@ -50,18 +47,8 @@ firstRefusalOf left right cost l mode n32 n64 nf =
     (orElse (workOk (length left) n32 n64 nf) ShortWork
     Fine)))))
 
--- no test fails
-abbrev pub isFine : Verdict → Bool
-isFine Fine = true
-isFine BadLists = false
-isFine BadEnds = false
-isFine BadCosts = false
-isFine BadCount = false
-isFine ShortWork = false
-
--- document 01's number for each case; 0 where no test fails
-abbrev pub numberOf : Verdict → ℕ
-numberOf Fine = 0
+-- document 01's number for each case
+abbrev pub numberOf : Refusal → ℕ
 numberOf BadLists = 15
 numberOf BadEnds = 16
 numberOf BadCosts = 17

@@ -1,10 +1,8 @@
 // Test 17: the costs of the cuts, and what is preferred of lengths. A NaN is outside every range.
 use path_pieces::lengths::Lengths;
 ghost use mathlib.Core.Path.{_≡_};
-ghost use mathlib.Core.Bool.{true};
-ghost use lib.Ieee.{binary64, fits};
 ghost use Rattle.base_terms.specs.Lists.{allOf};
-ghost use Rattle.path_tests.specs.Costs.{isCost, isTarget, isMin, lengthsOk, MinFits};
+ghost use Rattle.path_tests.specs.Costs.{isCost, isTarget, isMin, lengthsOk};
 
 // The highest target and the highest minimum, in samples: 2^60.
 const MAX_LENGTH: f64 = 1152921504606846976.0;
@@ -38,10 +36,9 @@ fn is_target(x: f64) -> bool
     MIN_TARGET <= x && x <= MAX_LENGTH
 }
 
-// Whether x may be a minimum length. It fits its format either way.
+// Whether x may be a minimum length.
 fn is_min(x: f64) -> bool
     ensures { λ r. ⌜ r ≡ isMin x ⌝ }
-    ensures { λ _. ⌜ fits binary64 x ≡ true ⌝ }
 {
     0.0 <= x && x <= MAX_LENGTH
 }
@@ -49,12 +46,11 @@ fn is_min(x: f64) -> bool
 // Both weights, the target and the minimum.
 pub fn lengths_ok(lengths: Lengths) -> bool
     ensures { λ r. ⌜ r ≡ lengthsOk lengths ⌝ }
-    ensures { λ r. ⌜ MinFits r lengths ⌝ }
 {
-    if !is_cost(lengths.target_weight) {
+    if !is_cost(lengths.weights.target) {
         return false;
     }
-    if !is_cost(lengths.short_weight) {
+    if !is_cost(lengths.weights.short) {
         return false;
     }
     if !is_target(lengths.target) {

@@ -1,20 +1,17 @@
-// Tests 8 and 13, and the chain of all tests.
+// Test 8, and the chain of all tests.
 use crate::costs;
 use crate::ends;
+use base_code::work;
 use path_pieces::lengths::Lengths;
 use path_pieces::mode::Mode;
 ghost use mathlib.Core.Path.{_≡_};
-ghost use Prim.Native.Nat.{_≤_};
-ghost use Rattle.path_tests.specs.Ends.{maxCandidates};
-ghost use Rattle.path_tests.specs.Costs.{MinFits};
-ghost use Rattle.path_tests.specs.Refusal.{isCount, countOk, workOk, firstRefusalOf, isFine, numberOf};
+ghost use Rattle.path_tests.specs.Refusal.{isCount, countOk, firstRefusalOf, numberOf};
 
 // The most pieces that may be asked for: 2^20.
 const MAX_COUNT: u32 = 1048576;
 
-// What the tests say: that none fails, or the first that does.
-pub enum Verdict {
-    Fine,
+// Why a test fails.
+pub enum Refusal {
     BadLists,
     BadEnds,
     BadCosts,
@@ -22,31 +19,22 @@ pub enum Verdict {
     ShortWork,
 }
 
-// Document 01's number for each case.
-pub fn number(v: Verdict) -> u32
-    ensures { λ r. ⌜ r ≡ numberOf v ⌝ }
-{
-    match v {
-        Verdict::Fine => 0,
-        Verdict::BadLists => 15,
-        Verdict::BadEnds => 16,
-        Verdict::BadCosts => 17,
-        Verdict::BadCount => 8,
-        Verdict::ShortWork => 13,
-    }
+// What the tests say: that none fails, or the first that does.
+pub enum Verdict {
+    Fine,
+    Fails(Refusal),
 }
 
-// Whether no test fails.
-pub fn is_fine(v: Verdict) -> bool
-    ensures { λ r. ⌜ r ≡ isFine v ⌝ }
+// Document 01's number for each case.
+pub fn number(r: Refusal) -> u32
+    ensures { λ n. ⌜ n ≡ numberOf r ⌝ }
 {
-    match v {
-        Verdict::Fine => true,
-        Verdict::BadLists => false,
-        Verdict::BadEnds => false,
-        Verdict::BadCosts => false,
-        Verdict::BadCount => false,
-        Verdict::ShortWork => false,
+    match r {
+        Refusal::BadLists => 15,
+        Refusal::BadEnds => 16,
+        Refusal::BadCosts => 17,
+        Refusal::BadCount => 8,
+        Refusal::ShortWork => 13,
     }
 }
 
@@ -67,21 +55,6 @@ pub fn count_ok(mode: Mode) -> bool
     }
 }
 
-// Test 13: the lengths of the three work lists.
-fn work_ok(candidates: usize, n32: usize, n64: usize, nf: usize) -> bool
-    requires { ⌜ candidates ≤ maxCandidates ⌝ }
-    ensures { λ r. ⌜ r ≡ workOk candidates n32 n64 nf ⌝ }
-{
-    let least = 16 * candidates;
-    if n32 < least {
-        return false;
-    }
-    if n64 < least {
-        return false;
-    }
-    least <= nf
-}
-
 // The tests in document 01's order. It reads the candidates alone, and of work memory its lengths.
 pub fn first_refusal(
     left: &[u64],
@@ -93,26 +66,27 @@ pub fn first_refusal(
     n64: usize,
     nf: usize,
 ) -> Verdict
-    ensures { λ v. ⌜ v ≡ firstRefusalOf (now (left .entry)) (now (right .entry)) (now (cost .entry)) lengths mode n32 n64 nf ⌝ }
-    ensures { λ v. ⌜ MinFits (isFine v) lengths ⌝ }
+    ensures { λ v. ⌜
+        v ≡ firstRefusalOf (now (left .entry)) (now (right .entry)) (now (cost .entry)) lengths mode n32 n64 nf
+        ⌝ }
 {
     if !ends::lists_ok(left.len(), right.len(), cost.len()) {
-        return Verdict::BadLists;
+        return Verdict::Fails(Refusal::BadLists);
     }
     if !ends::ends_ok(left, right, lengths.limit) {
-        return Verdict::BadEnds;
+        return Verdict::Fails(Refusal::BadEnds);
     }
     if !costs::costs_ok(cost) {
-        return Verdict::BadCosts;
+        return Verdict::Fails(Refusal::BadCosts);
     }
     if !costs::lengths_ok(lengths) {
-        return Verdict::BadCosts;
+        return Verdict::Fails(Refusal::BadCosts);
     }
     if !count_ok(mode) {
-        return Verdict::BadCount;
+        return Verdict::Fails(Refusal::BadCount);
     }
-    if !work_ok(left.len(), n32, n64, nf) {
-        return Verdict::ShortWork;
+    if !work::work_ok(left.len(), n32, n64, nf) {
+        return Verdict::Fails(Refusal::ShortWork);
     }
     Verdict::Fine
 }

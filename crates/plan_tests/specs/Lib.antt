@@ -1,9 +1,11 @@
 -- The tests of the operation Plan before 14, and what they leave for the work.
--- Refusal: pieceLengthsOk, allDurationsOk (7); firstRefusalOf, isFine, numberOf; Fitting
+
+-- Refusal: test 7 (`pieceLengthsOk`, `allDurationsOk`), the first test that fails (`firstRefusalOf`, `isFine`) and its number (`numberOf`)
 pub mod Refusal
---   valid-passed, valid-few   what tests 1 to 6 leave
---   fails-recording, fails-durations, fails-count, fails-ratio, fails-weights, fails-threshold, fails-work, passes   the ends of the chain
---   fine-is, Passed, passed   what has passed
+-- Fitting: what the types of a recording's lists say (`Fitting`)
+pub mod Fitting
+-- RefusalLaws: what tests 1 to 6 leave (`valid-passed`, `valid-few`); the ends of the chain (`fails-recording` to `passes`);
+-- what has passed (`TestsPassed`, `passed`); the number is 0 where no test fails (`number-fine`)
 pub mod RefusalLaws
--- Ready: Preferring, lengths-parts   what 7 leaves of the pieces' durations; Ready, passed-ready, fine-ready   all that is left for the work
-pub mod Ready
+-- PlanReady: what 7 leaves of the pieces' durations (`Preferring`, `lengths-parts`), and all that is left for the work (`PlanReady`, `passed-ready`, `ready-levelled`)
+pub mod PlanReady

@@ -1,15 +1,16 @@
 -- Document 01's refusals of the operation Plan before 14: 1 to 11 and 13, in this order.
-use Prim.Native.Nat.{ℕ}
+use Prim.Native.Nat.{ℕ, _+_}
 use mathlib.Core.Bool.{Bool, true, false, _&&_, cond}
 use mathlib.Core.List.{List}
-use lib.Dec.{T, ltb, leb}
-use lib.Ieee.{Float, nan, binary32, binary64, fits}
-use lib.ListN.{length, getD}
+use lib.Dec.{ltb, leb}
+use lib.Ieee.{Float}
+use lib.ListN.{length}
+use Rattle.base_terms.specs.Work.{workOk}
 use Rattle.grid.specs.Limits.{maxDuration}
-use Rattle.grid.specs.Validate.{validityOf, refusalOf}
+use Rattle.grid.specs.Validate.{validityOf, isValid, refusalOf}
 use Rattle.grid.specs.declared.validate.Recording.{Recording}
 use Rattle.silence_levels.specs.Threshold.{thresholdOk}
-use Rattle.silence_list.specs.Silences.{durationsOk, workOk, isValid}
+use Rattle.silence_list.specs.Refusal.{durationsOk}
 use Rattle.silence_list.specs.declared.config.SegmentConfig.{SegmentConfig}
 use Rattle.path_tests.specs.Refusal.{countOk}
 use Rattle.candidate_settings.specs.Tests.{ratioOk, weightsOk}
@@ -40,7 +41,7 @@ firstRefusalOf r segment plan values flags levels n32 n64 nf =
     (orElse (ratioOk (plan .placement)) BadRatio
     (orElse (weightsOk (plan .weights)) BadWeights
     (orElse (thresholdOk (segment .threshold)) BadThreshold
-    (orElse (workOk (length values) n32 n64 nf) ShortWork
+    (orElse (workOk (length values + 1) n32 n64 nf) ShortWork
     Fine))))))
 
 -- no test fails
@@ -64,10 +65,3 @@ numberOf BadRatio = 9
 numberOf BadWeights = 10
 numberOf BadThreshold = 11
 numberOf ShortWork = 13
-
--- ---- what the types of the lists say
-
--- each value is an f32 and each level an f64, as the lists' types have it: the laws of the levels ask for it
-pub record Fitting (values levels : List Float) : Type 0 where
-  pub values-fit : (i : ℕ) → T (fits binary32 (getD values i nan))
-  pub levels-fit : (i : ℕ) → T (fits binary64 (getD levels i nan))

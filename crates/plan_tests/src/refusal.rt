@@ -4,7 +4,7 @@ use grid::validate::Recording;
 use grid::validate::Validity;
 use silence_list::config::SegmentConfig;
 ghost use mathlib.Core.Path.{_≡_};
-ghost use Rattle.plan_tests.specs.Refusal.{pieceLengthsOk, allDurationsOk, firstRefusalOf, isFine, numberOf, Fitting};
+ghost use Rattle.plan_tests.specs.Refusal.{pieceLengthsOk, allDurationsOk, firstRefusalOf, isFine, numberOf};
 
 // What the tests say: that none fails, or the first that does.
 pub enum Verdict {
@@ -91,11 +91,11 @@ pub fn first_refusal(
     n64: usize,
     nf: usize,
 ) -> Verdict
-    ensures { λ v. ⌜ v ≡ firstRefusalOf r segment plan (now (values .entry)) (now (flags .entry)) (now (levels .entry)) n32 n64 nf ⌝ }
-    ensures { λ _. ⌜ Fitting (now (values .entry)) (now (levels .entry)) ⌝ }
+    ensures { λ v. ⌜ v
+        ≡ firstRefusalOf r segment plan (now (values .entry)) (now (flags .entry)) (now (levels .entry)) n32 n64 nf ⌝ }
 {
     let validity = r.validate(values, flags, levels);
-    if !silence_list::list::is_valid(validity) {
+    if !grid::validate::is_valid(validity) {
         return Verdict::BadRecording(validity);
     }
     if !all_durations_ok(segment, plan) {
@@ -116,7 +116,7 @@ pub fn first_refusal(
     if !silence_list::config::threshold_ok(threshold) {
         return Verdict::BadThreshold;
     }
-    if !silence_list::list::work_ok(values.len(), n32, n64, nf) {
+    if !base_code::work::work_ok(values.len() + 1, n32, n64, nf) {
         return Verdict::ShortWork;
     }
     Verdict::Fine

@@ -30,10 +30,10 @@ unfoldable pub isKey : ℕ → Bool
 isKey key = isFinite (valueOf key)
 
 -- the values of the frames with signal: those whose flag is 0, in order
-unfoldable pub kept : List Float → List ℕ → List Float
-kept [] flags = []
-kept (v ∷ vs) [] = []
-kept (v ∷ vs) (f ∷ fs) = cond (eqb f 0) (v ∷ kept vs fs) (kept vs fs)
+unfoldable pub withSignal : List Float → List ℕ → List Float
+withSignal [] flags = []
+withSignal (v ∷ vs) [] = []
+withSignal (v ∷ vs) (f ∷ fs) = cond (eqb f 0) (v ∷ withSignal vs fs) (withSignal vs fs)
 
 -- a frame has no signal
 unfoldable pub isLost : ℕ → Bool
@@ -43,11 +43,11 @@ isLost flag = not (eqb flag 0)
 unfoldable pub anySignal : List ℕ → Bool
 anySignal flags = not (allOf isLost flags)
 
--- the list with the keys of the kept values in front
+-- the list with the keys of the values with signal in front
 unfoldable pub collected : List Float → List ℕ → List ℕ → List ℕ
-collected values flags keys = map keyOf (kept values flags) ++ drop (length (kept values flags)) keys
+collected values flags keys = map keyOf (withSignal values flags) ++ drop (length (withSignal values flags)) keys
 
--- what collecting leaves: how many values are kept, and the list
+-- what collecting leaves: how many values have signal, and the list
 pub record Collected (values : List Float) (flags keys₀ keys : List ℕ) (n : ℕ) : Type 0 where
-  pub count : n ≡ length (kept values flags)
+  pub count : n ≡ length (withSignal values flags)
   pub list : keys ≡ collected values flags keys₀

@@ -1,4 +1,4 @@
--- A value comes back from its key, and collecting one frame after another gives the keys of the kept values.
+-- A value comes back from its key, and collecting one frame after another gives the keys of the values with signal.
 use mathlib.Core.Path.{_≡_, refl, sym, ap, _∙_}
 use mathlib.Core.Logic.{inl, inr}
 use mathlib.Core.Bool.{Bool, true, false, not, cond, _&&_}
@@ -18,7 +18,7 @@ use Rattle.base_terms.specs.Lists.{allOf}
 use Rattle.base_code.specs.Elements.{all-parts}
 use Rattle.grid.specs.Values.{isFinite}
 use Rattle.grid.specs.ValuesLaws.{value-number}
-use Rattle.silence_levels.specs.Keys.{placeOf, patternOf, keyOf, valueOf, isKey, kept, isLost, anySignal, collected, Collected}
+use Rattle.silence_levels.specs.Keys.{placeOf, patternOf, keyOf, valueOf, isKey, withSignal, isLost, anySignal, collected, Collected}
 
 -- ---- keys
 
@@ -77,26 +77,26 @@ unfolding allOf valueOf
 values-fit [] = refl
 values-fit (k ∷ ks) = rw (is-true (fits binary32 (ofBits binary32 (patternOf k))) (ofBits-fits binary32 (patternOf k)), values-fit ks)
 
--- ---- the kept values
+-- ---- the values with signal
 
-kept-more : (vs : List Float) (fs : List ℕ) (v : Float) (f : ℕ) → length fs ≡ length vs → kept (vs ++ (v ∷ [])) (fs ++ (f ∷ [])) ≡ kept vs fs ++ cond (eqb f 0) (v ∷ []) []
-unfolding kept
-kept-more [] [] v f e = refl
-kept-more [] (g ∷ fs) v f e = absurd (not-suc-le-zero {n = 0} (omega arith))
-kept-more (w ∷ vs) [] v f e = absurd (not-suc-le-zero {n = 0} (omega arith))
-kept-more (w ∷ vs) (g ∷ fs) v f e = go (eqb g 0) (kept vs fs) (cond (eqb f 0) (v ∷ []) []) (kept-more vs fs v f (omega arith))
+with-signal-more : (vs : List Float) (fs : List ℕ) (v : Float) (f : ℕ) → length fs ≡ length vs → withSignal (vs ++ (v ∷ [])) (fs ++ (f ∷ [])) ≡ withSignal vs fs ++ cond (eqb f 0) (v ∷ []) []
+unfolding withSignal
+with-signal-more [] [] v f e = refl
+with-signal-more [] (g ∷ fs) v f e = absurd (not-suc-le-zero {n = 0} (omega arith))
+with-signal-more (w ∷ vs) [] v f e = absurd (not-suc-le-zero {n = 0} (omega arith))
+with-signal-more (w ∷ vs) (g ∷ fs) v f e = go (eqb g 0) (withSignal vs fs) (cond (eqb f 0) (v ∷ []) []) (with-signal-more vs fs v f (omega arith))
   where
     go : (b : Bool) {k : List Float} (l m : List Float) → k ≡ l ++ m → cond b (w ∷ k) k ≡ cond b (w ∷ l) l ++ m
     go true l m h = ap (λ (t : List Float). w ∷ t) h
     go false l m h = h
 
-pub kept-length : (vs : List Float) (fs : List ℕ) → length (kept vs fs) ≤ length vs
-unfolding kept
-kept-length [] fs = omega arith
-kept-length (v ∷ vs) [] = omega arith
-kept-length (v ∷ vs) (f ∷ fs) = go (eqb f 0) (kept-length vs fs)
+pub with-signal-length : (vs : List Float) (fs : List ℕ) → length (withSignal vs fs) ≤ length vs
+unfolding withSignal
+with-signal-length [] fs = omega arith
+with-signal-length (v ∷ vs) [] = omega arith
+with-signal-length (v ∷ vs) (f ∷ fs) = go (eqb f 0) (with-signal-length vs fs)
   where
-    go : (b : Bool) → length (kept vs fs) ≤ length vs → length (cond b (v ∷ kept vs fs) (kept vs fs)) ≤ suc (length vs)
+    go : (b : Bool) → length (withSignal vs fs) ≤ length vs → length (cond b (v ∷ withSignal vs fs) (withSignal vs fs)) ≤ suc (length vs)
     go true h = omega arith
     go false h = omega arith
 
@@ -106,18 +106,18 @@ put : (ks : List Float) (v : Float) (keys : List ℕ) (n : ℕ) → n ≡ length
 put ks v keys n e l =
     rw (drop-cons keys n 0 l, set-at (map keyOf ks) (getD keys n 0) (drop (suc n) keys) (keyOf v) n (length-map ks keyOf ∙ sym e), map-append, append-assoc)
 
--- the keys of the values kept before frame i stand in front, n of them: what holds while a loop that ends at `end` collects them
+-- the keys of the values with signal before frame i stand in front, n of them: what holds while a loop that ends at `end` collects them
 abbrev pub Collecting : List Float → List ℕ → List ℕ → ℕ → List ℕ → ℕ → ℕ → Type 0
 Collecting values flags keys₀ end keys n i =
     (i ≤ length values) × (end ≡ length values) × (length flags ≡ length values) × (length keys ≡ length keys₀) × (n ≤ i)
-    × (n ≡ length (kept (take i values) (take i flags))) × (keys ≡ map keyOf (kept (take i values) (take i flags)) ++ drop n keys₀)
+    × (n ≡ length (withSignal (take i values) (take i flags))) × (keys ≡ map keyOf (withSignal (take i values) (take i flags)) ++ drop n keys₀)
 
 module _ (values : List Float) (flags keys₀ : List ℕ) (end : ℕ) where
-  kept-suc : (i : ℕ) (z : Float) → i < length values → length flags ≡ length values
-      → kept (take (suc i) values) (take (suc i) flags) ≡ kept (take i values) (take i flags) ++ cond (eqb (getD flags i 0) 0) (getD values i z ∷ []) []
-  kept-suc i z l e =
+  with-signal-suc : (i : ℕ) (z : Float) → i < length values → length flags ≡ length values
+      → withSignal (take (suc i) values) (take (suc i) flags) ≡ withSignal (take i values) (take i flags) ++ cond (eqb (getD flags i 0) 0) (getD values i z ∷ []) []
+  with-signal-suc i z l e =
       rw (take-suc values i z l, take-suc flags i 0 (omega arith))
-      (kept-more (take i values) (take i flags) (getD values i z) (getD flags i 0)
+      (with-signal-more (take i values) (take i flags) (getD values i z) (getD flags i 0)
       (omega (arith, length-take-le i values (omega arith), length-take-le i flags (omega arith))))
 
   -- frame i has signal
@@ -125,24 +125,24 @@ module _ (values : List Float) (flags keys₀ : List ℕ) (end : ℕ) where
       → Collecting values flags keys₀ end keys n i → Collecting values flags keys₀ end (set keys n (keyOf (getD values i z))) (n + 1) (i + 1)
   collecting-next keys n i z room l f (a, b, c, d, e, g, h) =
       let v : Float = getD values i z in
-      let s : kept (take (suc i) values) (take (suc i) flags) ≡ kept (take i values) (take i flags) ++ (v ∷ []) =
-      rw (eq-eqb (getD flags i 0) 0 f) at (kept-suc i z (omega arith) c) in
-      let more = length-append (kept (take i values) (take i flags)) (v ∷ []) in (
+      let s : withSignal (take (suc i) values) (take (suc i) flags) ≡ withSignal (take i values) (take i flags) ++ (v ∷ []) =
+      rw (eq-eqb (getD flags i 0) 0 f) at (with-signal-suc i z (omega arith) c) in
+      let more = length-append (withSignal (take i values) (take i flags)) (v ∷ []) in (
         omega arith,
         b,
         c,
         length-set keys n (keyOf v) ∙ d,
         omega arith,
         rw (add-one i, s) (omega arith),
-        rw (add-one i, add-one n, s, h) (put (kept (take i values) (take i flags)) v keys₀ n g (omega arith)),
+        rw (add-one i, add-one n, s, h) (put (withSignal (take i values) (take i flags)) v keys₀ n g (omega arith)),
       )
 
   -- frame i has none
   pub collecting-skip : (keys : List ℕ) (n i : ℕ) → i < end → (getD flags i 0 ≡ 0 → ⊥)
       → Collecting values flags keys₀ end keys n i → Collecting values flags keys₀ end keys n (i + 1)
   collecting-skip keys n i l f (a, b, c, d, e, g, h) =
-      let s : kept (take (suc i) values) (take (suc i) flags) ≡ kept (take i values) (take i flags) =
-      rw (ne-eqb (getD flags i 0) 0 f, append-nil) at (kept-suc i nan (omega arith) c) in
+      let s : withSignal (take (suc i) values) (take (suc i) flags) ≡ withSignal (take i values) (take i flags) =
+      rw (ne-eqb (getD flags i 0) 0 f, append-nil) at (with-signal-suc i nan (omega arith) c) in
       (omega arith, b, c, d, omega arith, rw (add-one, s) g, rw (add-one, s) h)
 
   pub collecting-done : (keys : List ℕ) (n i : ℕ) → end ≤ i → Collecting values flags keys₀ end keys n i → Collected values flags keys₀ keys n
@@ -150,58 +150,58 @@ module _ (values : List Float) (flags keys₀ : List ℕ) (end : ℕ) where
   collecting-done keys n i l (a, b, c, d, e, g, h) =
       let v : take i values ≡ values = take-all i values (omega arith) in
       let w : take i flags ≡ flags = take-all i flags (omega arith) in
-      let m : n ≡ length (kept values flags) = rw (v, w) at g in
+      let m : n ≡ length (withSignal values flags) = rw (v, w) at g in
       record { count = m; list = rw (← m) (rw (v, w) at h) }
 
 -- ---- what the values pass
 
-none-kept : (vs : List Float) (fs : List ℕ) → allOf isLost fs ≡ true → length (kept vs fs) ≡ 0
-unfolding kept allOf isLost
-none-kept [] fs h = refl
-none-kept (v ∷ vs) [] h = refl
-none-kept (v ∷ vs) (f ∷ fs) h = go (eqb f 0) h (none-kept vs fs)
+none-with-signal : (vs : List Float) (fs : List ℕ) → allOf isLost fs ≡ true → length (withSignal vs fs) ≡ 0
+unfolding withSignal allOf isLost
+none-with-signal [] fs h = refl
+none-with-signal (v ∷ vs) [] h = refl
+none-with-signal (v ∷ vs) (f ∷ fs) h = go (eqb f 0) h (none-with-signal vs fs)
   where
-    go : (b : Bool) → (not b && allOf isLost fs) ≡ true → (allOf isLost fs ≡ true → length (kept vs fs) ≡ 0) → length (cond b (v ∷ kept vs fs) (kept vs fs)) ≡ 0
+    go : (b : Bool) → (not b && allOf isLost fs) ≡ true → (allOf isLost fs ≡ true → length (withSignal vs fs) ≡ 0) → length (cond b (v ∷ withSignal vs fs) (withSignal vs fs)) ≡ 0
     go true e k = absurd (holds e)
     go false e k = k e
 
-some-kept : (vs : List Float) (fs : List ℕ) → length fs ≡ length vs → allOf isLost fs ≡ false → 0 < length (kept vs fs)
-unfolding kept allOf isLost
-some-kept [] [] e h = absurd (holds (sym h))
-some-kept [] (f ∷ fs) e h = absurd (not-suc-le-zero {n = 0} (omega arith))
-some-kept (v ∷ vs) [] e h = absurd (not-suc-le-zero {n = 0} (omega arith))
-some-kept (v ∷ vs) (f ∷ fs) e h = go (eqb f 0) h (some-kept vs fs (omega arith))
+some-with-signal : (vs : List Float) (fs : List ℕ) → length fs ≡ length vs → allOf isLost fs ≡ false → 0 < length (withSignal vs fs)
+unfolding withSignal allOf isLost
+some-with-signal [] [] e h = absurd (holds (sym h))
+some-with-signal [] (f ∷ fs) e h = absurd (not-suc-le-zero {n = 0} (omega arith))
+some-with-signal (v ∷ vs) [] e h = absurd (not-suc-le-zero {n = 0} (omega arith))
+some-with-signal (v ∷ vs) (f ∷ fs) e h = go (eqb f 0) h (some-with-signal vs fs (omega arith))
   where
-    go : (b : Bool) → (not b && allOf isLost fs) ≡ false → (allOf isLost fs ≡ false → 0 < length (kept vs fs)) → 0 < length (cond b (v ∷ kept vs fs) (kept vs fs))
+    go : (b : Bool) → (not b && allOf isLost fs) ≡ false → (allOf isLost fs ≡ false → 0 < length (withSignal vs fs)) → 0 < length (cond b (v ∷ withSignal vs fs) (withSignal vs fs))
     go true d k = omega arith
     go false d k = k d
 
--- no frame has signal: no value is kept
-pub signal-none : (values : List Float) (flags : List ℕ) → anySignal flags ≡ false → length (kept values flags) ≡ 0
+-- no frame has signal: no value is left
+pub signal-none : (values : List Float) (flags : List ℕ) → anySignal flags ≡ false → length (withSignal values flags) ≡ 0
 unfolding anySignal
 signal-none values flags h = go (allOf isLost flags) refl h
   where
-    go : (b : Bool) → allOf isLost flags ≡ b → not b ≡ false → length (kept values flags) ≡ 0
-    go true e d = none-kept values flags e
+    go : (b : Bool) → allOf isLost flags ≡ b → not b ≡ false → length (withSignal values flags) ≡ 0
+    go true e d = none-with-signal values flags e
     go false e d = absurd (holds (sym d))
 
--- a frame has signal: a value is kept
-pub signal-some : (values : List Float) (flags : List ℕ) → length flags ≡ length values → anySignal flags ≡ true → 0 < length (kept values flags)
+-- a frame has signal: a value is left
+pub signal-some : (values : List Float) (flags : List ℕ) → length flags ≡ length values → anySignal flags ≡ true → 0 < length (withSignal values flags)
 unfolding anySignal
 signal-some values flags l h = go (allOf isLost flags) refl h
   where
-    go : (b : Bool) → allOf isLost flags ≡ b → not b ≡ true → 0 < length (kept values flags)
+    go : (b : Bool) → allOf isLost flags ≡ b → not b ≡ true → 0 < length (withSignal values flags)
     go true e d = absurd (holds d)
-    go false e d = some-kept values flags l e
+    go false e d = some-with-signal values flags l e
 
--- a test that every value passes is passed by every kept one
-pub kept-all : (test : Float → Bool) (values : List Float) (flags : List ℕ) → allOf test values ≡ true → allOf test (kept values flags) ≡ true
-unfolding kept allOf
-kept-all test [] flags h = refl
-kept-all test (v ∷ vs) [] h = refl
-kept-all test (v ∷ vs) (f ∷ fs) h = let a = all-parts test v vs h in go (eqb f 0) (a .0) (kept-all test vs fs (a .1))
+-- a test that every value passes is passed by every one with signal
+pub with-signal-all : (test : Float → Bool) (values : List Float) (flags : List ℕ) → allOf test values ≡ true → allOf test (withSignal values flags) ≡ true
+unfolding withSignal allOf
+with-signal-all test [] flags h = refl
+with-signal-all test (v ∷ vs) [] h = refl
+with-signal-all test (v ∷ vs) (f ∷ fs) h = let a = all-parts test v vs h in go (eqb f 0) (a .0) (with-signal-all test vs fs (a .1))
   where
-    go : (b : Bool) → test v ≡ true → allOf test (kept vs fs) ≡ true → allOf test (cond b (v ∷ kept vs fs) (kept vs fs)) ≡ true
+    go : (b : Bool) → test v ≡ true → allOf test (withSignal vs fs) ≡ true → allOf test (cond b (v ∷ withSignal vs fs) (withSignal vs fs)) ≡ true
     go true p q = rw (p, q)
     go false p q = q
 
@@ -220,16 +220,16 @@ keys-all (v ∷ vs) f h =
     let b = all-parts isFinite v vs h in
     rw (value-key v (holds (a .0)), b .0, keys-all vs (a .1) (b .1))
 
--- how many values are kept does not depend on them
-pub kept-same-length : (vs ws : List Float) (flags : List ℕ) → length vs ≡ length ws → length (kept vs flags) ≡ length (kept ws flags)
-unfolding kept
-kept-same-length [] [] flags e = refl
-kept-same-length [] (w ∷ ws) flags e = absurd (not-suc-le-zero {n = 0} (omega arith))
-kept-same-length (v ∷ vs) [] flags e = absurd (not-suc-le-zero {n = 0} (omega arith))
-kept-same-length (v ∷ vs) (w ∷ ws) [] e = refl
-kept-same-length (v ∷ vs) (w ∷ ws) (f ∷ fs) e = go (eqb f 0) (kept-same-length vs ws fs (omega arith))
+-- how many values have signal does not depend on them
+pub with-signal-same : (vs ws : List Float) (flags : List ℕ) → length vs ≡ length ws → length (withSignal vs flags) ≡ length (withSignal ws flags)
+unfolding withSignal
+with-signal-same [] [] flags e = refl
+with-signal-same [] (w ∷ ws) flags e = absurd (not-suc-le-zero {n = 0} (omega arith))
+with-signal-same (v ∷ vs) [] flags e = absurd (not-suc-le-zero {n = 0} (omega arith))
+with-signal-same (v ∷ vs) (w ∷ ws) [] e = refl
+with-signal-same (v ∷ vs) (w ∷ ws) (f ∷ fs) e = go (eqb f 0) (with-signal-same vs ws fs (omega arith))
   where
-    go : (b : Bool) → length (kept vs fs) ≡ length (kept ws fs) → length (cond b (v ∷ kept vs fs) (kept vs fs)) ≡ length (cond b (w ∷ kept ws fs) (kept ws fs))
+    go : (b : Bool) → length (withSignal vs fs) ≡ length (withSignal ws fs) → length (cond b (v ∷ withSignal vs fs) (withSignal vs fs)) ≡ length (cond b (w ∷ withSignal ws fs) (withSignal ws fs))
     go true h = ap suc h
     go false h = h
 
@@ -238,34 +238,34 @@ kept-same-length (v ∷ vs) (w ∷ ws) (f ∷ fs) e = go (eqb f 0) (kept-same-le
 pub collected-length : (values : List Float) (flags keys : List ℕ) → length values ≤ length keys → length (collected values flags keys) ≡ length keys
 unfolding collected
 collected-length values flags keys l =
-    let k = kept-length values flags in
+    let k = with-signal-length values flags in
     simp (length-append, length-map, length-drop) (omega arith)
 
 module _ {values : List Float} {flags keys₀ keys : List ℕ} {n : ℕ} (c : Collected values flags keys₀ keys n) where
   -- the front of the list lies inside it
   pub collected-count : length values ≤ length keys₀ → n ≤ length keys
   collected-count l =
-      let k = kept-length values flags in
+      let k = with-signal-length values flags in
       let e = c .count in
       let m = ap length (c .list) ∙ collected-length values flags keys₀ l in
       omega arith
 
-  collected-front : take n keys ≡ map keyOf (kept values flags)
+  collected-front : take n keys ≡ map keyOf (withSignal values flags)
   unfolding collected
   collected-front =
       rw (c .list)
-      (take-at (map keyOf (kept values flags)) (drop (length (kept values flags)) keys₀) n (length-map (kept values flags) keyOf ∙ sym (c .count)))
+      (take-at (map keyOf (withSignal values flags)) (drop (length (withSignal values flags)) keys₀) n (length-map (withSignal values flags) keyOf ∙ sym (c .count)))
 
   -- and is no longer than the values
   pub collected-few : length (take n keys) ≤ length values
-  collected-few = rw (collected-front, length-map) (kept-length values flags)
+  collected-few = rw (collected-front, length-map) (with-signal-length values flags)
 
   module _ (f : allOf (fits binary32) values ≡ true) where
     -- it holds keys of finite values
     pub collected-keys : allOf isFinite values ≡ true → allOf isKey (take n keys) ≡ true
     collected-keys h =
-        rw collected-front (keys-all (kept values flags) (kept-all (fits binary32) values flags f) (kept-all isFinite values flags h))
+        rw collected-front (keys-all (withSignal values flags) (with-signal-all (fits binary32) values flags f) (with-signal-all isFinite values flags h))
 
-    -- and its values are the kept ones
-    pub collected-values : map valueOf (take n keys) ≡ kept values flags
-    collected-values = rw collected-front (values-back (kept values flags) (kept-all (fits binary32) values flags f))
+    -- and its values are those with signal
+    pub collected-values : map valueOf (take n keys) ≡ withSignal values flags
+    collected-values = rw collected-front (values-back (withSignal values flags) (with-signal-all (fits binary32) values flags f))

@@ -6,7 +6,7 @@ use Rattle.grid.specs.declared.validate.Domain.{Domain}
 use Rattle.silence_levels.specs.declared.threshold.Threshold.{Threshold}
 use Rattle.silence_levels.specs.declared.threshold.Levels.{Levels}
 use Rattle.silence_levels.specs.declared.threshold.Thresholds.{Thresholds}
-use Rattle.silence_levels.specs.Keys.{kept}
+use Rattle.silence_levels.specs.Keys.{withSignal}
 use Rattle.silence_levels.specs.Percentile.{percentileOf}
 use Rattle.silence_levels.specs.Threshold.{noSignal, resolveOf}
 
@@ -17,7 +17,7 @@ levelsOver domain threshold (v ∷ vs) = resolveOf domain threshold (percentileO
 
 -- the levels of a recording's values and flags
 unfoldable pub levelsOf : Domain → Threshold → List Float → List ℕ → Levels
-levelsOf domain threshold values flags = levelsOver domain threshold (kept values flags)
+levelsOf domain threshold values flags = levelsOver domain threshold (withSignal values flags)
 
 -- its thresholds alone
 unfoldable pub thresholdsOf : Domain → Threshold → List Float → List ℕ → Thresholds

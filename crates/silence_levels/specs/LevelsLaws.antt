@@ -17,8 +17,8 @@ use Rattle.grid.specs.declared.validate.Domain.{Domain}
 use Rattle.silence_levels.specs.declared.threshold.Threshold.{Threshold}
 use Rattle.silence_levels.specs.declared.threshold.Levels.{Levels}
 use Rattle.silence_levels.specs.declared.threshold.Thresholds.{Thresholds}
-use Rattle.silence_levels.specs.Keys.{kept, anySignal}
-use Rattle.silence_levels.specs.KeysLaws.{kept-all, kept-same-length, signal-none, signal-some}
+use Rattle.silence_levels.specs.Keys.{withSignal, anySignal}
+use Rattle.silence_levels.specs.KeysLaws.{with-signal-all, with-signal-same, signal-none, signal-some}
 use Rattle.silence_levels.specs.Percentile.{percentileOf}
 use Rattle.silence_levels.specs.PercentileLaws.{percentile-passes}
 use Rattle.silence_levels.specs.Threshold.{noSignal, resolveOf, thresholdOk, isFixed}
@@ -56,11 +56,11 @@ module _ (domain : Domain) (threshold : Threshold) where
         → (test (levelsOf domain threshold values flags .floor) ≡ true) × (test (levelsOf domain threshold values flags .reference) ≡ true)
     unfolding levelsOf noSignal
     levels-pass test z h =
-        let k = kept-all test values flags h in
-        by-count (kept values flags) (λ (l : Levels). (test (l .floor) ≡ true) × (test (l .reference) ≡ true)) (λ e. (z, z))
+        let k = with-signal-all test values flags h in
+        by-count (withSignal values flags) (λ (l : Levels). (test (l .floor) ≡ true) × (test (l .reference) ≡ true)) (λ e. (z, z))
         (λ l. (
-          rw resolve-floor (percentile-passes test (kept values flags) 10 l (omega arith) k),
-          rw resolve-reference (percentile-passes test (kept values flags) 99 l (omega arith) k),
+          rw resolve-floor (percentile-passes test (withSignal values flags) 10 l (omega arith) k),
+          rw resolve-reference (percentile-passes test (withSignal values flags) 99 l (omega arith) k),
         ))
 
     -- neither threshold is NaN
@@ -68,18 +68,18 @@ module _ (domain : Domain) (threshold : Threshold) where
         → T (not (isNan (levelsOf domain threshold values flags .on))) × T (not (isNan (levelsOf domain threshold values flags .off)))
     unfolding levelsOf noSignal isNan
     levels-numbers t h =
-        let k = kept-all isFinite values flags h in
-        by-count (kept values flags) (λ (l : Levels). T (not (isNan (l .on))) × T (not (isNan (l .off)))) (λ e. (tt, tt))
-        (λ l. resolve-numbers domain threshold (percentileOf (kept values flags) 10) (percentileOf (kept values flags) 99) t
-        (percentile-passes isFinite (kept values flags) 10 l (omega arith) k) (percentile-passes isFinite (kept values flags) 99 l (omega arith) k))
+        let k = with-signal-all isFinite values flags h in
+        by-count (withSignal values flags) (λ (l : Levels). T (not (isNan (l .on))) × T (not (isNan (l .off)))) (λ e. (tt, tt))
+        (λ l. resolve-numbers domain threshold (percentileOf (withSignal values flags) 10) (percentileOf (withSignal values flags) 99) t
+        (percentile-passes isFinite (withSignal values flags) 10 l (omega arith) k) (percentile-passes isFinite (withSignal values flags) 99 l (omega arith) k))
 
     -- fixed thresholds: sound ends no higher than it starts
     pub levels-order : isFixed domain threshold ≡ true → thresholdOk threshold ≡ true
         → T (le (levelsOf domain threshold values flags .off) (levelsOf domain threshold values flags .on))
     unfolding levelsOf noSignal le lt eq
     levels-order e t =
-        by-count (kept values flags) (λ (l : Levels). T (le (l .off) (l .on))) (λ n. tt)
-        (λ l. fixed-order domain threshold (percentileOf (kept values flags) 10) (percentileOf (kept values flags) 99) e t)
+        by-count (withSignal values flags) (λ (l : Levels). T (le (l .off) (l .on))) (λ n. tt)
+        (λ l. fixed-order domain threshold (percentileOf (withSignal values flags) 10) (percentileOf (withSignal values flags) 99) e t)
 
     -- and they are the same for other values of as many frames
     pub levels-same : (others : List Float) → length values ≡ length others → isFixed domain threshold ≡ true
@@ -87,13 +87,13 @@ module _ (domain : Domain) (threshold : Threshold) where
         × (levelsOf domain threshold values flags .off ≡ levelsOf domain threshold others flags .off)
     unfolding levelsOf
     levels-same others s e =
-        let same = kept-same-length values others flags s in
-        by-count (kept values flags)
-        (λ (l : Levels). (l .on ≡ levelsOver domain threshold (kept others flags) .on) × (l .off ≡ levelsOver domain threshold (kept others flags) .off))
-        (λ n. let o = over-none domain threshold (kept others flags) (omega arith) in (ap (λ (l : Levels). l .on) o, ap (λ (l : Levels). l .off) o))
-        (λ l. let o = over-some domain threshold (kept others flags) (omega arith) in
-        let f = fixed-same domain threshold (percentileOf (kept values flags) 10) (percentileOf (kept values flags) 99)
-        (percentileOf (kept others flags) 10) (percentileOf (kept others flags) 99) e in
+        let same = with-signal-same values others flags s in
+        by-count (withSignal values flags)
+        (λ (l : Levels). (l .on ≡ levelsOver domain threshold (withSignal others flags) .on) × (l .off ≡ levelsOver domain threshold (withSignal others flags) .off))
+        (λ n. let o = over-none domain threshold (withSignal others flags) (omega arith) in (ap (λ (l : Levels). l .on) o, ap (λ (l : Levels). l .off) o))
+        (λ l. let o = over-some domain threshold (withSignal others flags) (omega arith) in
+        let f = fixed-same domain threshold (percentileOf (withSignal values flags) 10) (percentileOf (withSignal values flags) 99)
+        (percentileOf (withSignal others flags) 10) (percentileOf (withSignal others flags) 99) e in
         (f .0 ∙ ap (λ (l : Levels). l .on) o, f .1 ∙ ap (λ (l : Levels). l .off) o))
 
 -- ---- the thresholds alone
@@ -110,13 +110,13 @@ module _ (domain : Domain) (threshold : Threshold) (values : List Float) (flags 
   -- no frame has signal
   pub thresholds-none : (l : Levels) → l ≡ noSignal → anySignal flags ≡ false → thresholdsIn l ≡ thresholdsOf domain threshold values flags
   unfolding levelsOf
-  thresholds-none l e h = thresholds-levels l (e ∙ over-none domain threshold (kept values flags) (signal-none values flags h))
+  thresholds-none l e h = thresholds-levels l (e ∙ over-none domain threshold (withSignal values flags) (signal-none values flags h))
 
   -- fixed ones: any floor and any reference give them
   pub thresholds-fixed : (l : Levels) (floor reference : Float) → l ≡ resolveOf domain threshold floor reference → length flags ≡ length values → isFixed domain threshold ≡ true
       → anySignal flags ≡ true → thresholdsIn l ≡ thresholdsOf domain threshold values flags
   unfolding thresholdsOf levelsOf
   thresholds-fixed l floor reference e s f h =
-      let o = over-some domain threshold (kept values flags) (signal-some values flags s h) in
-      let t = fixed-same domain threshold floor reference (percentileOf (kept values flags) 10) (percentileOf (kept values flags) 99) f in
+      let o = over-some domain threshold (withSignal values flags) (signal-some values flags s h) in
+      let t = fixed-same domain threshold floor reference (percentileOf (withSignal values flags) 10) (percentileOf (withSignal values flags) 99) f in
       rw (e, ← o, t .0, t .1)

@@ -27,7 +27,7 @@ total [] = 0
 total (c ∷ cs) = c + total cs
 
 -- the rank falls on the digit: the counts before it, and the rank left among its own
-pub record Walked (counts : List ℕ) (rank : ℕ) (r : Place) : Type 0 where
+pub record DigitFound (counts : List ℕ) (rank : ℕ) (r : Place) : Type 0 where
   pub digit : r .digit < 2048
   pub passed : total (take (r .digit) counts) + r .rank ≡ rank
   pub within : r .rank < getD counts (r .digit) 0

@@ -17,7 +17,7 @@ use Rattle.silence_levels.specs.declared.select.Place.{Place}
 use Rattle.silence_levels.specs.declared.select.Block.{Block}
 use Rattle.silence_levels.specs.Sorted.{sorted, countOf, belows}
 use Rattle.silence_levels.specs.SortedLaws.{ranked-sorted}
-use Rattle.silence_levels.specs.Select.{hits, hitsFrom, countsOf, total, Walked, Narrowed}
+use Rattle.silence_levels.specs.Select.{hits, hitsFrom, countsOf, total, DigitFound, Narrowed}
 
 -- ---- walking over a table of counts
 
@@ -41,23 +41,23 @@ in-table cs d left h =
     elim (lt-or-le d (length cs)) [ inl l ↦ l | inr l ↦ absurd (not-suc-le-zero (rw (drop-of-length-le cs {i = d} l) at h)) ]
 
 -- the counts before the digit are passed, and what is left of the rank lies among the others
-abbrev pub Walking : List ℕ → ℕ → ℕ → ℕ → Type 0
-Walking counts rank digit left = (left < total (drop digit counts)) × (total (take digit counts) + left ≡ rank) × (digit < length counts)
+abbrev pub DigitSought : List ℕ → ℕ → ℕ → ℕ → Type 0
+DigitSought counts rank digit left = (left < total (drop digit counts)) × (total (take digit counts) + left ≡ rank) × (digit < length counts)
 
 module _ (counts : List ℕ) (rank : ℕ) where
-  pub walking-starts : rank < total counts → Walking counts rank 0 rank
+  pub seeking-starts : rank < total counts → DigitSought counts rank 0 rank
   unfolding total
-  walking-starts h = (h, omega arith, in-table counts 0 rank h)
+  seeking-starts h = (h, omega arith, in-table counts 0 rank h)
 
-  pub walking-next : (digit left : ℕ) → getD counts digit 0 ≤ left → Walking counts rank digit left → Walking counts rank (digit + 1) (left - getD counts digit 0)
-  walking-next digit left l (a, b, c) =
+  pub seeking-next : (digit left : ℕ) → getD counts digit 0 ≤ left → DigitSought counts rank digit left → DigitSought counts rank (digit + 1) (left - getD counts digit 0)
+  seeking-next digit left l (a, b, c) =
       let d = total-drop counts digit in
       let t = total-take counts digit in
       let more : left - getD counts digit 0 < total (drop (suc digit) counts) = omega arith in
       rw add-one (more, omega arith, in-table counts (suc digit) (left - getD counts digit 0) more)
 
-  pub walking-done : (digit left : ℕ) → length counts ≡ 2048 → left < getD counts digit 0 → Walking counts rank digit left → Walked counts rank (record { digit = digit; rank = left })
-  walking-done digit left e l (a, b, c) = record { digit = omega arith; passed = b; within = l }
+  pub seeking-done : (digit left : ℕ) → length counts ≡ 2048 → left < getD counts digit 0 → DigitSought counts rank digit left → DigitFound counts rank (record { digit = digit; rank = left })
+  seeking-done digit left e l (a, b, c) = record { digit = omega arith; passed = b; within = l }
 
 -- ---- counting one key more
 
@@ -261,7 +261,7 @@ module _ (keys : List ℕ) (shift : ℕ) where
       omega arith
 
   -- the digit's block is the next one
-  pub narrowed : (block : Block) (place : Place) → Walked (countsOf keys shift (block .prefix)) (block .rank) place
+  pub narrowed : (block : Block) (place : Place) → DigitFound (countsOf keys shift (block .prefix)) (block .rank) place
       → Narrowed keys shift block (record { prefix = block .prefix * 2048 + place .digit; rank = place .rank })
   narrowed block place w =
       let e : getD (countsOf keys shift (block .prefix)) (place .digit) 0 ≡ hits keys shift (block .prefix * 2048 + place .digit) =
@@ -273,7 +273,7 @@ module _ (keys : List ℕ) (shift : ℕ) where
       record { rank = omega arith; within = omega arith }
 
   -- its number is no higher than a key can be
-  pub narrowed-small : (most : ℕ) (p : ℕ) (rank : ℕ) (place : Place) → ((i : ℕ) → getD keys i 0 < most) → Walked (countsOf keys shift p) rank place → p * 2048 + place .digit < most
+  pub narrowed-small : (most : ℕ) (p : ℕ) (rank : ℕ) (place : Place) → ((i : ℕ) → getD keys i 0 < most) → DigitFound (countsOf keys shift p) rank place → p * 2048 + place .digit < most
   narrowed-small most p rank place h w =
       let e = counts-at keys shift p (place .digit) (w .digit) in
       let i = w .within in
@@ -304,13 +304,13 @@ pub first-total : (keys : List ℕ) → ((i : ℕ) → getD keys i 0 < 429496729
 first-total keys h = counts-total keys 22 0 ∙ whole-block keys h
 
 -- the next passes find the rank in the first digit's block
-pub first-within : (keys : List ℕ) (rank : ℕ) (first : Place) → Walked (countsOf keys 22 0) rank first → first .rank < hits keys (11 + 11) (first .digit)
+pub first-within : (keys : List ℕ) (rank : ℕ) (first : Place) → DigitFound (countsOf keys 22 0) rank first → first .rank < hits keys (11 + 11) (first .digit)
 first-within keys rank first w =
     let o : 0 * 2048 + first .digit ≡ first .digit = omega arith in
     rw o at (narrowed keys 22 (record { prefix = 0; rank = rank }) first w .within)
 
 -- a block of single numbers is the key at the rank
-pub selected : (keys : List ℕ) (rank : ℕ) (first : Place) (second last : Block) → Walked (countsOf keys 22 0) rank first
+pub selected : (keys : List ℕ) (rank : ℕ) (first : Place) (second last : Block) → DigitFound (countsOf keys 22 0) rank first
     → Narrowed keys 11 (record { prefix = first .digit; rank = first .rank }) second → Narrowed keys 0 second last → last .prefix ≡ getD (sorted keys) rank 0
 selected keys rank first second last w b d =
     let a = narrowed keys 22 (record { prefix = 0; rank = rank }) first w in

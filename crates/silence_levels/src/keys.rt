@@ -8,7 +8,7 @@ ghost use lib.ListN.{length, drop};
 ghost use Prim.Native.Nat.{_≤_};
 ghost use Rattle.base_terms.specs.Lists.{allOf};
 ghost use Rattle.grid.specs.Values.{isFinite};
-ghost use Rattle.silence_levels.specs.Keys.{keyOf, valueOf, patternOf, kept, Collected};
+ghost use Rattle.silence_levels.specs.Keys.{keyOf, valueOf, patternOf, withSignal, Collected};
 
 // The key of x. Patterns with the sign clear come after all others; among those with it set the larger pattern comes first.
 fn key_of(x: f32) -> u32

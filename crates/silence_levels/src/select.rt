@@ -3,7 +3,7 @@ ghost use mathlib.Core.Path.{_≡_};
 ghost use mathlib.Core.Bool.{cond};
 ghost use Prim.Native.Nat.{_≤_, _<_, _+_};
 ghost use lib.ListN.{length, getD};
-ghost use Rattle.silence_levels.specs.Select.{countsOf, hits, total, Walked, Narrowed};
+ghost use Rattle.silence_levels.specs.Select.{countsOf, hits, total, DigitFound, Narrowed};
 ghost use Rattle.silence_levels.specs.Sorted.{sorted};
 
 // Where a rank falls in a table of counts: the digit, and the rank among the keys with that digit.
@@ -70,7 +70,7 @@ fn histogram(keys: &[u32], shift: u32, prefix: u32) -> [usize; 2048]
 // The digit at which the counts passed rise above the rank.
 fn walk(counts: [usize; 2048], rank: usize) -> Place
     requires { ⌜ rank < total counts ⌝ }
-    ensures { λ r. ⌜ Walked counts rank r ⌝ }
+    ensures { λ r. ⌜ DigitFound counts rank r ⌝ }
 {
     let mut digit = 0;
     let mut left = rank;

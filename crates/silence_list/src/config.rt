@@ -1,7 +1,8 @@
 // How frame values become silence and sound, and the tests of these settings.
+use grid::durations;
 use silence_levels::threshold::Threshold;
 ghost use mathlib.Core.Path.{_≡_};
-ghost use Rattle.silence_list.specs.Silences.{durationsOk};
+ghost use Rattle.silence_list.specs.Refusal.{durationsOk};
 ghost use Rattle.silence_levels.specs.Threshold.{thresholdOk};
 
 // Durations are in nanoseconds.
@@ -20,16 +21,16 @@ pub struct SegmentConfig {
 pub fn durations_ok(c: SegmentConfig) -> bool
     ensures { λ r. ⌜ r ≡ durationsOk c ⌝ }
 {
-    if grid::durations::MAX_DURATION < c.min_silence {
+    if !durations::duration_ok(c.min_silence) {
         return false;
     }
-    if grid::durations::MAX_DURATION < c.min_sound {
+    if !durations::duration_ok(c.min_sound) {
         return false;
     }
-    if grid::durations::MAX_DURATION < c.pre {
+    if !durations::duration_ok(c.pre) {
         return false;
     }
-    c.tail <= grid::durations::MAX_DURATION
+    durations::duration_ok(c.tail)
 }
 
 // Test 11.

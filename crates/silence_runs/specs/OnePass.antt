@@ -22,19 +22,19 @@ unfoldable pub lasts : ℕ → ℕ → Bool
 lasts min n = leb min n && ltb 0 n
 
 -- the silence between two frames, where it lasts
-unfoldable pub gapOf : ℕ → ℕ → ℕ → List ℕ
-gapOf min first end = cond (lasts min (end - first)) (first ∷ (end ∷ [])) []
+unfoldable pub silenceBetween : ℕ → ℕ → ℕ → List ℕ
+silenceBetween min first end = cond (lasts min (end - first)) (first ∷ (end ∷ [])) []
 
 -- the silence after the last sound. Where there was no sound, which is last = 0, it stays however short it is
-unfoldable pub lastGap : ℕ → ℕ → ℕ → List ℕ
-lastGap min last end = gapOf (cond (eqb last 0) 0 min) last end
+unfoldable pub lastSilence : ℕ → ℕ → ℕ → List ℕ
+lastSilence min last end = silenceBetween (cond (eqb last 0) 0 min) last end
 
 -- the silences from the end of the last long sound on, as seen at frame k after `held` frames of sound
 unfoldable pub silencesFrom : ℕ → ℕ → ℕ → ℕ → ℕ → List ℕ → List ℕ
-silencesFrom minSound minSilence k last held [] = cond (lasts minSound held) (gapOf minSilence last (k - held) ++ lastGap minSilence k k) (lastGap minSilence last k)
+silencesFrom minSound minSilence k last held [] = cond (lasts minSound held) (silenceBetween minSilence last (k - held) ++ lastSilence minSilence k k) (lastSilence minSilence last k)
 silencesFrom minSound minSilence k last held (x ∷ xs) =
     cond (eqb x 1) (silencesFrom minSound minSilence (suc k) last (suc held) xs)
-    (cond (lasts minSound held) (gapOf minSilence last (k - held) ++ silencesFrom minSound minSilence (suc k) k 0 xs) (silencesFrom minSound minSilence (suc k) last 0 xs))
+    (cond (lasts minSound held) (silenceBetween minSilence last (k - held) ++ silencesFrom minSound minSilence (suc k) k 0 xs) (silencesFrom minSound minSilence (suc k) last 0 xs))
 
 -- the frame after frame i, of so many
 abbrev pub nextFrame : ℕ → ℕ → ℕ

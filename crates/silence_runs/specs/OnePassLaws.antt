@@ -18,9 +18,9 @@ use Rattle.silence_runs.specs.FillExact.{fill-flags}
 use Rattle.silence_runs.specs.Fill.{filledAs, fillShort}
 use Rattle.silence_runs.specs.FillLaws.{fill-none, fill-other, fill-run}
 use Rattle.silence_runs.specs.Sounds.{isSilent, anySound, fillSilence, soundsOf}
-use Rattle.silence_runs.specs.Silences.{silencesOf, isEdge, edges}
-use Rattle.silence_runs.specs.SilencesLaws.{silences-edges}
-use Rattle.silence_runs.specs.OnePass.{soundBy, lasts, gapOf, lastGap, silencesFrom}
+use Rattle.silence_runs.specs.Silences.{silencesOf}
+use Rattle.silence_runs.specs.SilencesLaws.{isEdge, edges, silences-edges}
+use Rattle.silence_runs.specs.OnePass.{soundBy, lasts, silenceBetween, lastSilence, silencesFrom}
 
 -- ---- numbers
 
@@ -61,21 +61,21 @@ lasts-long : (min n : ℕ) → min ≤ suc n → lasts min (suc n) ≡ true
 unfolding lasts
 lasts-long min n l = rw (le-leb min (suc n) l, lt-ltb 0 (suc n) (omega arith))
 
-gap-at : (min first n : ℕ) (b : Bool) → lasts min n ≡ b → gapOf min first (first + n) ≡ cond b (first ∷ ((first + n) ∷ [])) []
-unfolding gapOf
-gap-at min first n b e = rw (rest-again first n, e)
+between-at : (min first n : ℕ) (b : Bool) → lasts min n ≡ b → silenceBetween min first (first + n) ≡ cond b (first ∷ ((first + n) ∷ [])) []
+unfolding silenceBetween
+between-at min first n b e = rw (rest-again first n, e)
 
-gap-none : (min first : ℕ) → gapOf min first first ≡ []
-gap-none min first = ap (gapOf min first) (sym (none-on first)) ∙ gap-at min first 0 false (lasts-none min)
+between-none : (min first : ℕ) → silenceBetween min first first ≡ []
+between-none min first = ap (silenceBetween min first) (sym (none-on first)) ∙ between-at min first 0 false (lasts-none min)
 
 -- a silence by whether it lasts
-pub gap-is : (min first end : ℕ) → lasts min (end - first) ≡ true → gapOf min first end ≡ first ∷ (end ∷ [])
-unfolding gapOf
-gap-is min first end e = rw e
+pub between-is : (min first end : ℕ) → lasts min (end - first) ≡ true → silenceBetween min first end ≡ first ∷ (end ∷ [])
+unfolding silenceBetween
+between-is min first end e = rw e
 
-pub gap-not : (min first end : ℕ) → lasts min (end - first) ≡ false → gapOf min first end ≡ []
-unfolding gapOf
-gap-not min first end e = rw e
+pub between-not : (min first end : ℕ) → lasts min (end - first) ≡ false → silenceBetween min first end ≡ []
+unfolding silenceBetween
+between-not min first end e = rw e
 
 -- below the threshold no frame sounds
 pub sound-below : (threshold value : Float) (flag : ℕ) → le threshold value ≡ false → 0 ≡ soundBy threshold value flag
@@ -108,12 +108,12 @@ module _ (minSound minSilence : ℕ) where
   unfolding silencesFrom
   from-silent k last y ys h = rw (ne-eqb y 1 h, lasts-none minSound)
 
-  pub from-end : (k last : ℕ) → from k last 0 [] ≡ lastGap minSilence last k
+  pub from-end : (k last : ℕ) → from k last 0 [] ≡ lastSilence minSilence last k
   unfolding silencesFrom
   from-end k last = rw (lasts-none minSound)
 
   -- a run of sound, perhaps empty
-  pub from-run : (n k last : ℕ) (t : List ℕ) → NotFirst 1 t → from k last 0 (replicate n 1 ++ t) ≡ cond (lasts minSound n) (gapOf minSilence last k ++ from (k + n) (k + n) 0 t) (from (k + n) last 0 t)
+  pub from-run : (n k last : ℕ) (t : List ℕ) → NotFirst 1 t → from k last 0 (replicate n 1 ++ t) ≡ cond (lasts minSound n) (silenceBetween minSilence last k ++ from (k + n) (k + n) 0 t) (from (k + n) last 0 t)
   unfolding silencesFrom
   from-run n k last [] h = from-ones n k last 0 [] ∙ rw (on-none n, less-again k n, lasts-none minSound)
   from-run n k last (y ∷ t) h = from-ones n k last 0 (y ∷ t) ∙ rw (on-none n, less-again k n, lasts-none minSound, ne-eqb y 1 h)
@@ -121,57 +121,57 @@ module _ (minSound minSilence : ℕ) where
 -- ---- the same over frames whose short sound is filled
 
 module _ (minSilence : ℕ) where
-  gaps : ℕ → ℕ → List ℕ → List ℕ
-  gaps last k [] = lastGap minSilence last k
-  gaps last k (x ∷ xs) = cond (eqb x 1) (gapOf minSilence last k ++ gaps (suc k) (suc k) xs) (gaps last (suc k) xs)
+  silencesLeft : ℕ → ℕ → List ℕ → List ℕ
+  silencesLeft last k [] = lastSilence minSilence last k
+  silencesLeft last k (x ∷ xs) = cond (eqb x 1) (silenceBetween minSilence last k ++ silencesLeft (suc k) (suc k) xs) (silencesLeft last (suc k) xs)
 
-  gaps-zeros : (n last k : ℕ) (t : List ℕ) → gaps last k (replicate n 0 ++ t) ≡ gaps last (k + n) t
-  unfolding gaps
-  gaps-zeros zero last k t = rw (none-on k)
-  gaps-zeros (suc n) last k t = gaps-zeros n last (suc k) t ∙ rw (one-on k n)
+  left-zeros : (n last k : ℕ) (t : List ℕ) → silencesLeft last k (replicate n 0 ++ t) ≡ silencesLeft last (k + n) t
+  unfolding silencesLeft
+  left-zeros zero last k t = rw (none-on k)
+  left-zeros (suc n) last k t = left-zeros n last (suc k) t ∙ rw (one-on k n)
 
-  gaps-ones : (n k : ℕ) (t : List ℕ) → gaps k k (replicate n 1 ++ t) ≡ gaps (k + n) (k + n) t
-  unfolding gaps
-  gaps-ones zero k t = rw (none-on k)
-  gaps-ones (suc n) k t = rw (gap-none minSilence k) (gaps-ones n (suc k) t ∙ rw (one-on k n))
+  left-ones : (n k : ℕ) (t : List ℕ) → silencesLeft k k (replicate n 1 ++ t) ≡ silencesLeft (k + n) (k + n) t
+  unfolding silencesLeft
+  left-ones zero k t = rw (none-on k)
+  left-ones (suc n) k t = rw (between-none minSilence k) (left-ones n (suc k) t ∙ rw (one-on k n))
 
-  gaps-run : (minSound n last k : ℕ) (t : List ℕ)
-      → gaps last k (replicate n (filledAs 1 minSound n) ++ t) ≡ cond (lasts minSound n) (gapOf minSilence last k ++ gaps (k + n) (k + n) t) (gaps last (k + n) t)
-  unfolding filledAs gaps
-  gaps-run minSound n last k t =
+  left-run : (minSound n last k : ℕ) (t : List ℕ)
+      → silencesLeft last k (replicate n (filledAs 1 minSound n) ++ t) ≡ cond (lasts minSound n) (silenceBetween minSilence last k ++ silencesLeft (k + n) (k + n) t) (silencesLeft last (k + n) t)
+  unfolding filledAs silencesLeft
+  left-run minSound n last k t =
       elim (lt-or-le n minSound) [
-        | inl l ↦ rw (lt-ltb n minSound l, lasts-short minSound n l) (gaps-zeros n last k t)
+        | inl l ↦ rw (lt-ltb n minSound l, lasts-short minSound n l) (left-zeros n last k t)
         | inr l ↦ rw (le-ltb n minSound l) (long n l)
       ]
     where
-      long : (m : ℕ) → minSound ≤ m → gaps last k (replicate m 1 ++ t) ≡ cond (lasts minSound m) (gapOf minSilence last k ++ gaps (k + m) (k + m) t) (gaps last (k + m) t)
+      long : (m : ℕ) → minSound ≤ m → silencesLeft last k (replicate m 1 ++ t) ≡ cond (lasts minSound m) (silenceBetween minSilence last k ++ silencesLeft (k + m) (k + m) t) (silencesLeft last (k + m) t)
       long zero l = rw (lasts-none minSound, none-on k)
       long (suc m) l = rw (lasts-long minSound m l) (one m)
         where
-          one : (m : ℕ) → gaps last k (1 ∷ (replicate m 1 ++ t)) ≡ gapOf minSilence last k ++ gaps (k + suc m) (k + suc m) t
-          one m = ap (λ (l : List ℕ). gapOf minSilence last k ++ l) (gaps-ones m (suc k) t ∙ rw (one-on k m))
+          one : (m : ℕ) → silencesLeft last k (1 ∷ (replicate m 1 ++ t)) ≡ silenceBetween minSilence last k ++ silencesLeft (k + suc m) (k + suc m) t
+          one m = ap (λ (l : List ℕ). silenceBetween minSilence last k ++ l) (left-ones m (suc k) t ∙ rw (one-on k m))
 
 -- ---- filling short sound
 
 module _ (minSound minSilence : ℕ) where
-  filled-gaps : (xs : List ℕ) (k last : ℕ) → silencesFrom minSound minSilence k last 0 xs ≡ gaps minSilence last k (fillShort 1 minSound xs)
-  unfolding gaps
-  filled-gaps =
-      by-runs 1 (λ (xs : List ℕ). (k last : ℕ) → silencesFrom minSound minSilence k last 0 xs ≡ gaps minSilence last k (fillShort 1 minSound xs)) base step
+  filled-left : (xs : List ℕ) (k last : ℕ) → silencesFrom minSound minSilence k last 0 xs ≡ silencesLeft minSilence last k (fillShort 1 minSound xs)
+  unfolding silencesLeft
+  filled-left =
+      by-runs 1 (λ (xs : List ℕ). (k last : ℕ) → silencesFrom minSound minSilence k last 0 xs ≡ silencesLeft minSilence last k (fillShort 1 minSound xs)) base step
     where
-      base : (n k last : ℕ) → silencesFrom minSound minSilence k last 0 (replicate n 1 ++ []) ≡ gaps minSilence last k (fillShort 1 minSound (replicate n 1 ++ []))
+      base : (n k last : ℕ) → silencesFrom minSound minSilence k last 0 (replicate n 1 ++ []) ≡ silencesLeft minSilence last k (fillShort 1 minSound (replicate n 1 ++ []))
       base n k last =
           from-run minSound minSilence n k last [] tt ∙ rw (from-end minSound minSilence (k + n) (k + n), from-end minSound minSilence (k + n) last) refl
-          ∙ sym (ap (gaps minSilence last k) (fill-run 1 minSound n [] tt ∙ ap (λ (l : List ℕ). replicate n (filledAs 1 minSound n) ++ l) (fill-none 1 minSound)) ∙ gaps-run minSilence minSound n last k [])
+          ∙ sym (ap (silencesLeft minSilence last k) (fill-run 1 minSound n [] tt ∙ ap (λ (l : List ℕ). replicate n (filledAs 1 minSound n) ++ l) (fill-none 1 minSound)) ∙ left-run minSilence minSound n last k [])
 
-      step : (n y : ℕ) (ys : List ℕ) → (y ≡ 1 → ⊥) → ((k last : ℕ) → silencesFrom minSound minSilence k last 0 ys ≡ gaps minSilence last k (fillShort 1 minSound ys))
-          → (k last : ℕ) → silencesFrom minSound minSilence k last 0 (replicate n 1 ++ (y ∷ ys)) ≡ gaps minSilence last k (fillShort 1 minSound (replicate n 1 ++ (y ∷ ys)))
+      step : (n y : ℕ) (ys : List ℕ) → (y ≡ 1 → ⊥) → ((k last : ℕ) → silencesFrom minSound minSilence k last 0 ys ≡ silencesLeft minSilence last k (fillShort 1 minSound ys))
+          → (k last : ℕ) → silencesFrom minSound minSilence k last 0 (replicate n 1 ++ (y ∷ ys)) ≡ silencesLeft minSilence last k (fillShort 1 minSound (replicate n 1 ++ (y ∷ ys)))
       step n y ys h p k last =
           from-run minSound minSilence n k last (y ∷ ys) h
           ∙ rw (one (k + n), one last) refl
-          ∙ sym (ap (gaps minSilence last k) (fill-run 1 minSound n (y ∷ ys) h ∙ ap (λ (l : List ℕ). replicate n (filledAs 1 minSound n) ++ l) (fill-other 1 minSound y ys h)) ∙ gaps-run minSilence minSound n last k (y ∷ fillShort 1 minSound ys))
+          ∙ sym (ap (silencesLeft minSilence last k) (fill-run 1 minSound n (y ∷ ys) h ∙ ap (λ (l : List ℕ). replicate n (filledAs 1 minSound n) ++ l) (fill-other 1 minSound y ys h)) ∙ left-run minSilence minSound n last k (y ∷ fillShort 1 minSound ys))
         where
-          one : (l : ℕ) → silencesFrom minSound minSilence (k + n) l 0 (y ∷ ys) ≡ gaps minSilence l (k + n) (y ∷ fillShort 1 minSound ys)
+          one : (l : ℕ) → silencesFrom minSound minSilence (k + n) l 0 (y ∷ ys) ≡ silencesLeft minSilence l (k + n) (y ∷ fillShort 1 minSound ys)
           one l = from-silent minSound minSilence (k + n) l y ys h ∙ p (suc (k + n)) l ∙ rw (ne-eqb y 1 h)
 
 -- ---- filling short silence
@@ -192,17 +192,17 @@ unfolding edges isEdge
 edges-close k [] h = refl
 edges-close k (x ∷ t) h = rw (ne-eqb x 0 h)
 
-edges-run : (min z last : ℕ) (t : List ℕ) → NotFirst 0 t → edges last 1 (replicate z (filledAs 0 min z) ++ t) ≡ gapOf min last (last + z) ++ edges (last + z) 1 t
+edges-run : (min z last : ℕ) (t : List ℕ) → NotFirst 0 t → edges last 1 (replicate z (filledAs 0 min z) ++ t) ≡ silenceBetween min last (last + z) ++ edges (last + z) 1 t
 unfolding filledAs edges isEdge
 edges-run min z last t h =
     elim (lt-or-le z min) [
-      | inl l ↦ rw (lt-ltb z min l, gap-at min last z false (lasts-short min z l)) (edges-ones z last t)
+      | inl l ↦ rw (lt-ltb z min l, between-at min last z false (lasts-short min z l)) (edges-ones z last t)
       | inr l ↦ rw (le-ltb z min l) (long z l)
     ]
   where
-    long : (m : ℕ) → min ≤ m → edges last 1 (replicate m 0 ++ t) ≡ gapOf min last (last + m) ++ edges (last + m) 1 t
-    long zero l = rw (gap-at min last 0 false (lasts-none min), none-on last)
-    long (suc m) l = rw (gap-at min last (suc m) true (lasts-long min m l)) (ap (λ (e : List ℕ). last ∷ e) (edges-zeros m (suc last) t ∙ rw (← one-on last m) (edges-close (last + suc m) t h)))
+    long : (m : ℕ) → min ≤ m → edges last 1 (replicate m 0 ++ t) ≡ silenceBetween min last (last + m) ++ edges (last + m) 1 t
+    long zero l = rw (between-at min last 0 false (lasts-none min), none-on last)
+    long (suc m) l = rw (between-at min last (suc m) true (lasts-long min m l)) (ap (λ (e : List ℕ). last ∷ e) (edges-zeros m (suc last) t ∙ rw (← one-on last m) (edges-close (last + suc m) t h)))
 
 -- frames that are all 0 or 1
 abbrev Flags : List ℕ → Type 0
@@ -216,39 +216,39 @@ one-not e = omega arith
 
 module _ (min : ℕ) where
   -- after z silent frames, before which a sound ended
-  closed-some : (ys : List ℕ) (z l : ℕ) → Flags ys → edges (suc l) 1 (fillShort 0 min (replicate z 0 ++ ys)) ≡ gaps min (suc l) (suc l + z) ys
-  unfolding gaps lastGap edges isEdge
+  closed-some : (ys : List ℕ) (z l : ℕ) → Flags ys → edges (suc l) 1 (fillShort 0 min (replicate z 0 ++ ys)) ≡ silencesLeft min (suc l) (suc l + z) ys
+  unfolding silencesLeft lastSilence edges isEdge
   closed-some [] z l f =
-      rw (fill-run 0 min z [] tt, fill-none 0 min, eqb·suc-zero l) (edges-run min z (suc l) [] tt ∙ append-nil (gapOf min (suc l) (suc l + z)))
+      rw (fill-run 0 min z [] tt, fill-none 0 min, eqb·suc-zero l) (edges-run min z (suc l) [] tt ∙ append-nil (silenceBetween min (suc l) (suc l + z)))
   closed-some (zero ∷ ys) z l f =
       rw (longer 0 z ys) (closed-some ys (suc z) l (λ i. f (suc i)) ∙ rw (one-up (suc l) z))
   closed-some (suc zero ∷ ys) z l f =
       rw (fill-run 0 min z (1 ∷ ys) one-not, fill-other 0 min 1 ys one-not)
-      (edges-run min z (suc l) (1 ∷ fillShort 0 min ys) one-not ∙ ap (λ (t : List ℕ). gapOf min (suc l) (suc l + z) ++ t) (closed-some ys 0 (suc l + z) (λ i. f (suc i)) ∙ rw (none-on (suc (suc l + z)))))
+      (edges-run min z (suc l) (1 ∷ fillShort 0 min ys) one-not ∙ ap (λ (t : List ℕ). silenceBetween min (suc l) (suc l + z) ++ t) (closed-some ys 0 (suc l + z) (λ i. f (suc i)) ∙ rw (none-on (suc (suc l + z)))))
   closed-some (suc (suc x) ∷ ys) z l f = absurd (two-not x (f 0))
 
   -- from the start, with some sound to come
-  closed-first : (ys : List ℕ) (z : ℕ) → Flags ys → allOf isSilent ys ≡ false → edges 0 1 (fillShort 0 min (replicate z 0 ++ ys)) ≡ gaps min 0 z ys
-  unfolding gaps edges isEdge allOf isSilent
+  closed-first : (ys : List ℕ) (z : ℕ) → Flags ys → allOf isSilent ys ≡ false → edges 0 1 (fillShort 0 min (replicate z 0 ++ ys)) ≡ silencesLeft min 0 z ys
+  unfolding silencesLeft edges isEdge allOf isSilent
   closed-first [] z f a = absurd (holds (sym a))
   closed-first (zero ∷ ys) z f a = rw (longer 0 z ys) (closed-first ys (suc z) (λ i. f (suc i)) a)
   closed-first (suc zero ∷ ys) z f a =
       rw (fill-run 0 min z (1 ∷ ys) one-not, fill-other 0 min 1 ys one-not)
-      (edges-run min z 0 (1 ∷ fillShort 0 min ys) one-not ∙ rw (on-none z) (ap (λ (t : List ℕ). gapOf min 0 z ++ t) (closed-some ys 0 z (λ i. f (suc i)) ∙ rw (none-on (suc z)))))
+      (edges-run min z 0 (1 ∷ fillShort 0 min ys) one-not ∙ rw (on-none z) (ap (λ (t : List ℕ). silenceBetween min 0 z ++ t) (closed-some ys 0 z (λ i. f (suc i)) ∙ rw (none-on (suc z)))))
   closed-first (suc (suc x) ∷ ys) z f a = absurd (two-not x (f 0))
 
   -- from the start, with no sound
-  closed-none : (ys : List ℕ) (z : ℕ) → allOf isSilent ys ≡ true → edges 0 1 (replicate z 0 ++ ys) ≡ gaps min 0 z ys
-  unfolding gaps lastGap edges allOf isSilent filledAs
-  closed-none [] z a = subst (λ (b : Bool). edges 0 1 (replicate z (cond b 1 0) ++ []) ≡ gapOf 0 0 z) (le-ltb z 0 (omega arith)) (edges-run 0 z 0 [] tt ∙ rw (on-none z) (append-nil (gapOf 0 0 z)))
+  closed-none : (ys : List ℕ) (z : ℕ) → allOf isSilent ys ≡ true → edges 0 1 (replicate z 0 ++ ys) ≡ silencesLeft min 0 z ys
+  unfolding silencesLeft lastSilence edges allOf isSilent filledAs
+  closed-none [] z a = subst (λ (b : Bool). edges 0 1 (replicate z (cond b 1 0) ++ []) ≡ silenceBetween 0 0 z) (le-ltb z 0 (omega arith)) (edges-run 0 z 0 [] tt ∙ rw (on-none z) (append-nil (silenceBetween 0 0 z)))
   closed-none (zero ∷ ys) z a = rw (longer 0 z ys) (closed-none ys (suc z) a)
   closed-none (suc x ∷ ys) z a = absurd (holds (rw (eqb·suc-zero x) at a))
 
-  closed-gaps : (ys : List ℕ) → Flags ys → silencesOf (fillSilence min ys) ≡ gaps min 0 0 ys
+  closed-left : (ys : List ℕ) → Flags ys → silencesOf (fillSilence min ys) ≡ silencesLeft min 0 0 ys
   unfolding fillSilence anySound
-  closed-gaps ys f = silences-edges (fillSilence min ys) ∙ go (allOf isSilent ys) refl
+  closed-left ys f = silences-edges (fillSilence min ys) ∙ go (allOf isSilent ys) refl
     where
-      go : (b : Bool) → allOf isSilent ys ≡ b → edges 0 1 (cond (not b) (fillShort 0 min ys) ys) ≡ gaps min 0 0 ys
+      go : (b : Bool) → allOf isSilent ys ≡ b → edges 0 1 (cond (not b) (fillShort 0 min ys) ys) ≡ silencesLeft min 0 0 ys
       go true e = closed-none ys 0 e
       go false e = closed-first ys 0 f e
 
@@ -260,12 +260,12 @@ pub one-pass : (on off : Float) (minSound minSilence : ℕ) (values : List Float
 unfolding soundsOf
 one-pass on off minSound minSilence values flags =
     let xs = hysteresis on off values flags in
-    filled-gaps minSound minSilence xs 0 0 ∙ sym (closed-gaps minSilence (fillShort 1 minSound xs) (fill-flags 1 minSound (omega arith) xs (hysteresis-flags on off values flags)))
+    filled-left minSound minSilence xs 0 0 ∙ sym (closed-left minSilence (fillShort 1 minSound xs) (fill-flags 1 minSound (omega arith) xs (hysteresis-flags on off values flags)))
 
 -- a silence takes two numbers, or none; there is a frame in it
-pub gap-small : (min first end : ℕ) → first ≤ end → (length (gapOf min first end) ≤ 2) × (first + length (gapOf min first end) ≤ end + 1)
-unfolding gapOf lasts
-gap-small min first end l = elim (lt-or-le first end) [
+pub between-small : (min first end : ℕ) → first ≤ end → (length (silenceBetween min first end) ≤ 2) × (first + length (silenceBetween min first end) ≤ end + 1)
+unfolding silenceBetween lasts
+between-small min first end l = elim (lt-or-le first end) [
   | inl m ↦ go (lasts min (end - first)) m
   | inr m ↦ (let e : end - first ≡ 0 = omega arith in rw (e, lasts-none min) (omega arith, omega arith))
 ]

@@ -12,13 +12,14 @@ use lib.ListN.{length, getD, take, drop, replicate, length-append, length-drop, 
 use lib.Seq.{sets, sets-eq, length-sets, drop-cons, drop-drop, take-at, drop-at, length-take-le}
 use borrow.Author.Tests.{lt-ltb, le-ltb, eq-eqb, ne-eqb, eqb-true, eqb-false}
 use Rattle.base_laws.specs.Tests.{lt-or-le}
+use Rattle.base_terms.specs.Lists.{onto}
 use Rattle.silence_runs.specs.RunsLaws.{NotFirst}
 use Rattle.silence_runs.specs.Hysteresis.{reached, soundAt, soundsAfter, hysteresis}
 use Rattle.silence_runs.specs.HysteresisLaws.{sound-small, after-cons}
 use Rattle.silence_runs.specs.Sounds.{soundsOf}
 use Rattle.silence_runs.specs.Silences.{silencesOf}
-use Rattle.silence_runs.specs.OnePass.{soundBy, stay, lasts, gapOf, lastGap, silencesFrom, nextFrame}
-use Rattle.silence_runs.specs.OnePassLaws.{from-zeros, from-run, from-silent, from-end, one-pass, gap-small, lasts-some}
+use Rattle.silence_runs.specs.OnePass.{soundBy, stay, lasts, silenceBetween, lastSilence, silencesFrom, nextFrame}
+use Rattle.silence_runs.specs.OnePassLaws.{from-zeros, from-run, from-silent, from-end, one-pass, between-small, lasts-some}
 
 -- ---- the next change
 
@@ -162,14 +163,14 @@ module _ (on off : Float) (values : List Float) (flags : List ℕ) (flagged : le
     pub stops : end ≡ nextFrame start (length values) + stay off 1 (drop (nextFrame start (length values)) values) (drop (nextFrame start (length values)) flags)
 
   -- the run of sound, and that none follows it
-  pub record Run (start end : ℕ) : Type 0 where
+  pub record SoundRun (start end : ℕ) : Type 0 where
     pub order : start ≤ end
     pub stop : end ≤ length values
     pub frames : ahead start 0 ≡ replicate (end - start) 1 ++ ahead end 1
     pub ended : NotFirst 1 (ahead end 1)
 
   module _ (from start end : ℕ) (t : Turn from start end) where
-    run-some : start < length values → Run start end
+    run-some : start < length values → SoundRun start end
     unfolding by
     run-some l =
         let n : ℕ = stay off 1 (drop (suc start) values) (drop (suc start) flags) in
@@ -184,7 +185,7 @@ module _ (on off : Float) (values : List Float) (flags : List ℕ) (flagged : le
           ended = rw e (ahead-next (suc start) 1 n refl);
         }
 
-    run-none : length values ≤ start → Run start end
+    run-none : length values ≤ start → SoundRun start end
     unfolding by stay
     run-none l =
         let d : drop (length values) values ≡ [] = drop-of-length-le values {i = length values} (omega arith) in
@@ -198,7 +199,7 @@ module _ (on off : Float) (values : List Float) (flags : List ℕ) (flagged : le
           ended = rw (ahead-none end 1 (omega arith)) tt;
         }
 
-    pub turn-run : Run start end
+    pub turn-run : SoundRun start end
     turn-run = elim (lt-or-le start (length values)) [ inl l ↦ run-some l | inr l ↦ run-none l ]
 
     pub turn-order : from ≤ start
@@ -217,7 +218,7 @@ module _ (on off : Float) (values : List Float) (flags : List ℕ) (flagged : le
           zero-not e = omega arith
 
       turned : silencesFrom minSound minSilence from last 0 (ahead from 0)
-          ≡ cond (lasts minSound (end - start)) (gapOf minSilence last start ++ silencesFrom minSound minSilence end end 0 (ahead end 1)) (silencesFrom minSound minSilence end last 0 (ahead end 1))
+          ≡ cond (lasts minSound (end - start)) (silenceBetween minSilence last start ++ silencesFrom minSound minSilence end end 0 (ahead end 1)) (silencesFrom minSound minSilence end last 0 (ahead end 1))
       unfolding by
       turned =
           let n : ℕ = stay on 0 (drop from values) (drop from flags) in
@@ -232,8 +233,8 @@ module _ (on off : Float) (values : List Float) (flags : List ℕ) (flagged : le
           ∙ rw e refl
 
       pub turn-long : lasts minSound (end - start) ≡ true → silencesFrom minSound minSilence from last 0 (ahead from 0)
-          ≡ gapOf minSilence last start ++ silencesFrom minSound minSilence (nextFrame end (length values)) end 0 (ahead (nextFrame end (length values)) 0)
-      turn-long b = turned ∙ rw b (ap (λ (l : List ℕ). gapOf minSilence last start ++ l) (passed end))
+          ≡ silenceBetween minSilence last start ++ silencesFrom minSound minSilence (nextFrame end (length values)) end 0 (ahead (nextFrame end (length values)) 0)
+      turn-long b = turned ∙ rw b (ap (λ (l : List ℕ). silenceBetween minSilence last start ++ l) (passed end))
 
       pub turn-short : lasts minSound (end - start) ≡ false → silencesFrom minSound minSilence from last 0 (ahead from 0)
           ≡ silencesFrom minSound minSilence (nextFrame end (length values)) last 0 (ahead (nextFrame end (length values)) 0)
@@ -338,27 +339,27 @@ module _ (on off : Float) (minSound minSilence : ℕ) (values : List Float) (fla
       pub passing-room : at + 2 ≤ length out
       passing-room = omega (arith, w .front, w .order, w .within, w .same, w .room)
 
-      pub passing-gap : last ≤ start
-      passing-gap = omega (arith, w .order, turn-order on off values flags (w .flagged) from start end t)
+      pub passing-between : last ≤ start
+      passing-between = omega (arith, w .order, turn-order on off values flags (w .flagged) from start end t)
 
       -- the sound lasts: the silence before it is written, where that lasts
-      pub passing-long : (out′ : List ℕ) (at′ : ℕ) → lasts minSound (end - start) ≡ true → out′ ≡ sets out at (gapOf minSilence last start) → at′ ≡ at + length (gapOf minSilence last start)
+      pub passing-long : (out′ : List ℕ) (at′ : ℕ) → lasts minSound (end - start) ≡ true → out′ ≡ sets out at (silenceBetween minSilence last start) → at′ ≡ at + length (silenceBetween minSilence last start)
           → Passing on off minSound minSilence values flags out₀ out′ (nextFrame end (length values)) end at′
       passing-long out′ at′ b e f =
           let r = turn-run on off values flags (w .flagged) from start end t in
           let n = next-within end (r .stop) in
-          let g = gap-small minSilence last start passing-gap in
-          let l : at + length (gapOf minSilence last start) ≤ length out = omega (arith, passing-room, g .0) in
+          let g = between-small minSilence last start passing-between in
+          let l : at + length (silenceBetween minSilence last start) ≤ length out = omega (arith, passing-room, g .0) in
           let some = lasts-some minSound (end - start) b in
           record {
             flagged = w .flagged;
             room = w .room;
-            same = rw e (length-sets out at (gapOf minSilence last start)) ∙ w .same;
+            same = rw e (length-sets out at (silenceBetween minSilence last start)) ∙ w .same;
             within = n .1;
             order = n .0;
             front = omega (arith, f, w .front, g .1, some);
-            kept = rw (e, f) (put-kept out out₀ (gapOf minSilence last start) at l (w .kept));
-            left = rw (e, f) (put-left out (gapOf minSilence last start) (silencesFrom minSound minSilence (nextFrame end (length values)) end 0 (soundsAfter on off 0 (drop (nextFrame end (length values)) values) (drop (nextFrame end (length values)) flags))) (silencesOf (soundsOf on off minSound minSilence values flags)) at l
+            kept = rw (e, f) (put-kept out out₀ (silenceBetween minSilence last start) at l (w .kept));
+            left = rw (e, f) (put-left out (silenceBetween minSilence last start) (silencesFrom minSound minSilence (nextFrame end (length values)) end 0 (soundsAfter on off 0 (drop (nextFrame end (length values)) values) (drop (nextFrame end (length values)) flags))) (silencesOf (soundsOf on off minSound minSilence values flags)) at l
                 (ap (λ (s : List ℕ). take at out ++ s) (sym (turn-long on off values flags (w .flagged) from start end t minSound minSilence last b)) ∙ w .left));
           }
 
@@ -367,22 +368,22 @@ module _ (on off : Float) (minSound minSilence : ℕ) (values : List Float) (fla
     passing-last-room = omega (arith, w .front, w .order, w .within, w .same, w .room)
 
     -- and with it all are written
-    pub passing-done : (out′ : List ℕ) (at′ : ℕ) → length values ≤ from → out′ ≡ sets out at (lastGap minSilence last (length values)) → at′ ≡ at + length (lastGap minSilence last (length values))
+    pub passing-done : (out′ : List ℕ) (at′ : ℕ) → length values ≤ from → out′ ≡ sets out at (lastSilence minSilence last (length values)) → at′ ≡ at + length (lastSilence minSilence last (length values))
         → (at′ ≡ length (silencesOf (soundsOf on off minSound minSilence values flags)))
-        × (out′ ≡ silencesOf (soundsOf on off minSound minSilence values flags) ++ drop (length (silencesOf (soundsOf on off minSound minSilence values flags))) out₀)
-    unfolding lastGap
+        × (out′ ≡ onto (silencesOf (soundsOf on off minSound minSilence values flags)) out₀)
+    unfolding lastSilence onto
     passing-done out′ at′ l e f =
-        let gap : List ℕ = lastGap minSilence last (length values) in
+        let rest : List ℕ = lastSilence minSilence last (length values) in
         let q : from ≡ length values = omega (arith, w .within) in
-        let g = gap-small (cond (eqb last 0) 0 minSilence) last (length values) (omega (arith, w .order)) in
-        let m : at + length gap ≤ length out = omega (arith, passing-last-room, g .0) in
-        let z : silencesFrom minSound minSilence from last 0 (soundsAfter on off 0 (drop from values) (drop from flags)) ≡ gap =
-        rw (ahead-none on off values flags (w .flagged) from 0 l) (from-end minSound minSilence from last ∙ ap (lastGap minSilence last) q) in
-        let v : take at out ++ (gap ++ []) ≡ silencesOf (soundsOf on off minSound minSilence values flags) =
-        ap (λ (s : List ℕ). take at out ++ s) (append-nil gap ∙ sym z) ∙ w .left in
+        let g = between-small (cond (eqb last 0) 0 minSilence) last (length values) (omega (arith, w .order)) in
+        let m : at + length rest ≤ length out = omega (arith, passing-last-room, g .0) in
+        let z : silencesFrom minSound minSilence from last 0 (soundsAfter on off 0 (drop from values) (drop from flags)) ≡ rest =
+        rw (ahead-none on off values flags (w .flagged) from 0 l) (from-end minSound minSilence from last ∙ ap (lastSilence minSilence last) q) in
+        let v : take at out ++ (rest ++ []) ≡ silencesOf (soundsOf on off minSound minSilence values flags) =
+        ap (λ (s : List ℕ). take at out ++ s) (append-nil rest ∙ sym z) ∙ w .left in
         let u : take at′ out′ ≡ silencesOf (soundsOf on off minSound minSilence values flags) =
-        sym (append-nil (take at′ out′)) ∙ rw (e, f) (put-left out gap [] (silencesOf (soundsOf on off minSound minSilence values flags)) at m v) in
-        let k : drop at′ out′ ≡ drop at′ out₀ = rw (e, f) (put-kept out out₀ gap at m (w .kept)) in
+        sym (append-nil (take at′ out′)) ∙ rw (e, f) (put-left out rest [] (silencesOf (soundsOf on off minSound minSilence values flags)) at m v) in
+        let k : drop at′ out′ ≡ drop at′ out₀ = rw (e, f) (put-kept out out₀ rest at m (w .kept)) in
         let n : at′ ≡ length (silencesOf (soundsOf on off minSound minSilence values flags)) =
-        sym (length-take-le at′ out′ (rw e (omega (arith, f, m, length-sets out at gap)))) ∙ ap length u in
+        sym (length-take-le at′ out′ (rw e (omega (arith, f, m, length-sets out at rest)))) ∙ ap length u in
         (n, sym (take-append-drop at′ out′) ∙ rw (u, k, n) refl)

@@ -1,20 +1,47 @@
 -- A silence starts and ends where a silent and a sounding frame meet: the silent runs are the places where a walk sees an edge, in order.
 -- So they rise, are not empty and do not touch, and a frame is silent exactly where it is in one of them.
 use mathlib.Core.Path.{_≡_, refl, ap, subst, _∙_}
+use mathlib.Core.Logic.{inl, inr}
 use mathlib.Core.Bool.{Bool, true, false, not, cond, _&&_, _||_}
 use mathlib.Core.List.{List, [], _∷_, _++_}
-use Prim.Native.Nat.{ℕ, zero, suc, _+_, _*_, _/_, _≤_, _<_}
+use Prim.Native.Nat.{ℕ, zero, suc, _+_, _-_, _*_, _/_, _≤_, _<_}
 use native.Mathlib.Nat.{le-refl}
 use native.Mathlib.Numerals.{add-one}
 use native.Mathlib.Omega.{arith}
-use lib.Dec.{eqb, ltb, leb, eqb·suc-zero}
+use lib.Dec.{eqb, ltb, leb, ltb→lt, leb→le, eqb·suc-zero}
+use lib.Ieee.Bits.{is-true}
+use lib.Ieee.Fits.{and-l, and-r}
 use lib.ListN.{length, getD, replicate}
 use borrow.Author.Tests.{ne-eqb, eqb-true, lt-ltb, le-ltb, le-leb, lt-leb}
+use Rattle.base_laws.specs.Tests.{holds, or-r, or-split}
 use Rattle.silence_runs.specs.Runs.{Run, run, joined, runs}
 use Rattle.silence_runs.specs.RunsLaws.{runs-run, longer}
-use Rattle.silence_runs.specs.Silences.{silentRuns, silencesOf, isEdge, edges, startsAt, startsAfter, silenceCount}
+use Rattle.silence_runs.specs.Silences.{silentRuns, silencesOf, startAt, endAt}
 
--- ---- the walk
+-- ---- the silences as a walk over the frames sees them
+
+-- a silence starts or ends between two frames
+unfoldable pub isEdge : ℕ → ℕ → Bool
+isEdge before here = cond (eqb before 0) (not (eqb here 0)) (eqb here 0)
+
+-- where silences start and end in frames from k on, after a frame with the flag `before`
+unfoldable pub edges : ℕ → ℕ → List ℕ → List ℕ
+edges k before [] = cond (eqb before 0) (k ∷ []) []
+edges k before (x ∷ xs) = cond (isEdge before x) (k ∷ edges (suc k) x xs) (edges (suc k) x xs)
+
+-- one where a silence starts at a frame
+unfoldable pub startsAt : ℕ → ℕ → ℕ
+startsAt before here = cond (eqb before 0) 0 (cond (eqb here 0) 1 0)
+
+unfoldable pub startsAfter : ℕ → List ℕ → ℕ
+startsAfter before [] = 0
+startsAfter before (x ∷ xs) = startsAt before x + startsAfter x xs
+
+-- how many silences there are: as many as start
+unfoldable pub silenceCount : List ℕ → ℕ
+silenceCount xs = startsAfter 1 xs
+
+-- ---- both are the same
 
 suc-not-zero : (n : ℕ) → suc n ≡ 0 → ⊥
 suc-not-zero n e = omega arith
@@ -82,6 +109,24 @@ edges-rise (x ∷ xs) k p hi l = go (isEdge p x) (edges-rise xs (suc k) x hi (om
 -- the silences are in order, none is empty, at least one frame lies between two, and all are within the frame count: the numbers rise strictly
 pub silences-rise : (xs : List ℕ) → Rising 0 (length xs) (silencesOf xs)
 silences-rise xs = rw (silences-edges xs) (edges-rise xs 0 1 (length xs) (omega arith))
+
+-- ---- numbers that rise strictly
+
+pub rising-least : (lo hi : ℕ) (ys : List ℕ) (i : ℕ) → Rising lo hi ys → i < length ys → lo ≤ getD ys i 0
+rising-least lo hi [] i r h = absurd (omega arith)
+rising-least lo hi (y ∷ ys) zero r h = r .0
+rising-least lo hi (y ∷ ys) (suc i) r h = omega (arith, r .0, rising-least (suc y) hi ys i (r .2) (omega arith))
+
+pub rising-most : (lo hi : ℕ) (ys : List ℕ) (i : ℕ) → Rising lo hi ys → i < length ys → getD ys i 0 ≤ hi
+rising-most lo hi [] i r h = absurd (omega arith)
+rising-most lo hi (y ∷ ys) zero r h = r .1
+rising-most lo hi (y ∷ ys) (suc i) r h = rising-most (suc y) hi ys i (r .2) (omega arith)
+
+pub rising-apart : (lo hi : ℕ) (ys : List ℕ) (i j : ℕ) → Rising lo hi ys → i < j → j < length ys → getD ys i 0 < getD ys j 0
+rising-apart lo hi [] i j r h l = absurd (omega arith)
+rising-apart lo hi (y ∷ ys) i zero r h l = absurd (omega arith)
+rising-apart lo hi (y ∷ ys) zero (suc j) r h l = rising-least (suc y) hi ys j (r .2) (omega arith)
+rising-apart lo hi (y ∷ ys) (suc i) (suc j) r h l = rising-apart (suc y) hi ys i j (r .2) (omega arith) (omega arith)
 
 -- ---- number
 
@@ -183,3 +228,52 @@ silences-exact xs f = rw (silences-edges xs) (subst (λ (g : ℕ). inSilence g (
   where
     from : (g : ℕ) → 0 + g ≡ g
     from g = omega arith
+
+-- ---- membership by number
+
+-- the silences after the first
+pub start-after : (s e : ℕ) (ss : List ℕ) (i : ℕ) → startAt (s ∷ (e ∷ ss)) (suc i) ≡ startAt ss i
+start-after s e ss i = rw (more i)
+  where
+    more : (j : ℕ) → 2 * suc j ≡ suc (suc (2 * j))
+    more j = omega arith
+
+pub end-after : (s e : ℕ) (ss : List ℕ) (i : ℕ) → endAt (s ∷ (e ∷ ss)) (suc i) ≡ endAt ss i
+end-after s e ss i = rw (more i)
+  where
+    more : (j : ℕ) → 2 * suc j + 1 ≡ suc (suc (2 * j + 1))
+    more j = omega arith
+
+-- frame f is in one of the first n silences of a list
+pub record InOne (n : ℕ) (ss : List ℕ) (f : ℕ) : Type 0 where
+  pub which : ℕ
+  pub listed : which < n
+  pub from : startAt ss which ≤ f
+  pub to : f < endAt ss which
+
+in-later : (n s e : ℕ) (ss : List ℕ) (f : ℕ) → InOne n ss f → InOne (suc n) (s ∷ (e ∷ ss)) f
+in-later n s e ss f w = record {
+  which = suc (w .which);
+  listed = omega (arith, w .listed);
+  from = rw (start-after s e ss (w .which)) (w .from);
+  to = rw (end-after s e ss (w .which)) (w .to);
+}
+
+pub in-some : (n : ℕ) (ss : List ℕ) (f : ℕ) → length ss ≡ 2 * n → inSilence f ss ≡ true → InOne n ss f
+unfolding inSilence
+in-some n [] f l t = absurd (holds t)
+in-some n (a ∷ []) f l t = absurd (holds t)
+in-some zero (a ∷ (b ∷ ss)) f l t = absurd (omega arith)
+in-some (suc n) (a ∷ (b ∷ ss)) f l t = elim (or-split (leb a f && ltb f b) (inSilence f ss) (holds t)) [
+  | inl h ↦ record { which = 0; listed = omega arith; from = leb→le a f (and-l (leb a f) (ltb f b) h); to = ltb→lt f b (and-r (leb a f) (ltb f b) h) }
+  | inr h ↦ in-later n a b ss f (in-some n ss f (omega arith) (is-true (inSilence f ss) h))
+]
+
+pub some-in : (n : ℕ) (ss : List ℕ) (f : ℕ) → length ss ≡ 2 * n → (i : ℕ) → i < n → startAt ss i ≤ f → f < endAt ss i → inSilence f ss ≡ true
+unfolding inSilence
+some-in n [] f l i h s e = absurd (omega arith)
+some-in n (a ∷ []) f l i h s e = absurd (omega arith)
+some-in n (a ∷ (b ∷ ss)) f l zero h s e = rw (le-leb a f s, lt-ltb f b e)
+some-in n (a ∷ (b ∷ ss)) f l (suc i) h s e =
+    let t = some-in (n - 1) ss f (omega arith) i (omega arith) (rw (start-after a b ss i) at s) (rw (end-after a b ss i) at e) in
+    is-true ((leb a f && ltb f b) || inSilence f ss) (or-r (leb a f && ltb f b) (inSilence f ss) (holds t))

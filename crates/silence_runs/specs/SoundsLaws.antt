@@ -1,11 +1,10 @@
 -- There is a sound flag for each frame.
-use mathlib.Core.Path.{_≡_, refl, _∙_}
+use mathlib.Core.Path.{_≡_, refl}
 use mathlib.Core.Bool.{Bool, true, false, cond}
 use mathlib.Core.List.{List}
 use Prim.Native.Nat.{ℕ}
 use lib.Ieee.{Float}
 use lib.ListN.{length}
-use Rattle.silence_runs.specs.Hysteresis.{hysteresis}
 use Rattle.silence_runs.specs.HysteresisLaws.{hysteresis-length}
 use Rattle.silence_runs.specs.Fill.{fillShort}
 use Rattle.silence_runs.specs.FillLaws.{fill-length}
@@ -24,5 +23,4 @@ module _ (on off : Float) (minSound minSilence : ℕ) (values : List Float) (fla
   -- there is a flag for each frame
   pub sounds-length : length flags ≡ length values → length (soundsOf on off minSound minSilence values flags) ≡ length values
   unfolding soundsOf
-  sounds-length e =
-      silence-length minSilence (fillShort 1 minSound (hysteresis on off values flags)) ∙ fill-length 1 minSound (hysteresis on off values flags) ∙ hysteresis-length on off values flags e
+  sounds-length e = simp (silence-length, fill-length) (hysteresis-length on off values flags e)

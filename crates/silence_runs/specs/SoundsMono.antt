@@ -1,4 +1,5 @@
--- Louder frames never make a sounding frame silent, filling included: each step from values to sound flags is monotone where off is not above on.
+-- The law behind S-13, under the same two thresholds, minimum lengths and flags: louder frames never make a sounding frame silent, filling included.
+-- It takes off ≤ on: each step from values to sound flags is then monotone. Where thresholds follow from the values, both sides must have the same.
 use mathlib.Core.Path.{_≡_, refl, sym, ap, subst, _∙_}
 use mathlib.Core.Logic.{inl, inr}
 use mathlib.Core.Bool.{Bool, true, false, cond}
@@ -144,7 +145,7 @@ silence-mono min xs ys u i = go (anySound xs) (anySound ys) refl refl
     go false true e f = rw (none-sounds xs e i) (omega arith)
     go false false e f = rw (none-sounds xs e i) (omega arith)
 
--- a frame that sounds still sounds where frames are louder
+-- a frame that sounds still sounds where frames are louder, by the same thresholds with off not above on, and with the same flags
 pub sounds-mono : (on off : Float) → T (le off on) → (minSound minSilence : ℕ) (vs ws : List Float) (flags : List ℕ) → length flags ≡ length vs → Louder vs ws
     → (i : ℕ) → getD (soundsOf on off minSound minSilence vs flags) i 0 ≤ getD (soundsOf on off minSound minSilence ws flags) i 0
 unfolding soundsOf

@@ -1,12 +1,12 @@
 // The list of silences in one pass over the frames, with no list of sound flags in between.
 ghost use mathlib.Core.Path.{_≡_};
-ghost use mathlib.Core.List.{_++_};
 ghost use Prim.Native.Nat.{_+_, _≤_};
 ghost use lib.ListN.{length, drop};
 ghost use lib.Seq.{sets};
+ghost use Rattle.base_terms.specs.Lists.{onto};
 ghost use Rattle.silence_runs.specs.Sounds.{soundsOf};
 ghost use Rattle.silence_runs.specs.Silences.{silencesOf};
-ghost use Rattle.silence_runs.specs.OnePass.{soundBy, stay, lasts, gapOf, lastGap, nextFrame};
+ghost use Rattle.silence_runs.specs.OnePass.{soundBy, stay, lasts, silenceBetween, lastSilence, nextFrame};
 
 // Whether a frame sounds by one threshold. Most frames that do not are told by their value alone.
 fn sound_by(threshold: f32, value: f32, flag: u8) -> u32
@@ -55,11 +55,11 @@ fn lasting(min: usize, n: usize) -> bool
 }
 
 // Writes the silence between two frames to place `at`, where it lasts. Returns the place after it.
-fn put_gap(out: &mut [u32], at: usize, min: usize, first: usize, end: usize) -> usize
+fn put_silence(out: &mut [u32], at: usize, min: usize, first: usize, end: usize) -> usize
     requires { ⌜ at + 2 ≤ length (now out) ⌝ }
     requires { ⌜ (first ≤ end) × (end ≤ 4294967295) ⌝ }
-    ensures { λ r. ⌜ r ≡ at + length (gapOf min first end) ⌝ }
-    ensures { λ _. ⌜ now (out .exit) ≡ sets (now (out .entry)) at (gapOf min first end) ⌝ }
+    ensures { λ r. ⌜ r ≡ at + length (silenceBetween min first end) ⌝ }
+    ensures { λ _. ⌜ now (out .exit) ≡ sets (now (out .entry)) at (silenceBetween min first end) ⌝ }
 {
     if !lasting(min, end - first) {
         return at;
@@ -73,13 +73,13 @@ fn put_gap(out: &mut [u32], at: usize, min: usize, first: usize, end: usize) -> 
 fn put_last(out: &mut [u32], at: usize, min_silence: usize, last: usize, frames: usize) -> usize
     requires { ⌜ at + 2 ≤ length (now out) ⌝ }
     requires { ⌜ (last ≤ frames) × (frames ≤ 4294967295) ⌝ }
-    ensures { λ r. ⌜ r ≡ at + length (lastGap «min_silence» last frames) ⌝ }
-    ensures { λ _. ⌜ now (out .exit) ≡ sets (now (out .entry)) at (lastGap «min_silence» last frames) ⌝ }
+    ensures { λ r. ⌜ r ≡ at + length (lastSilence «min_silence» last frames) ⌝ }
+    ensures { λ _. ⌜ now (out .exit) ≡ sets (now (out .entry)) at (lastSilence «min_silence» last frames) ⌝ }
 {
     if last == 0 {
-        return put_gap(out, at, 0, last, frames);
+        return put_silence(out, at, 0, last, frames);
     }
-    put_gap(out, at, min_silence, last, frames)
+    put_silence(out, at, min_silence, last, frames)
 }
 
 // Writes the silences to the front of a list. Returns how many numbers they take.
@@ -93,8 +93,10 @@ pub fn list_silences(
     out: &mut [u32],
 ) -> usize
     requires { ⌜ (length (now flags) ≡ length (now values)) × (length (now values) + 2 ≤ length (now out)) × (length (now values) ≤ 4294967295) ⌝ }
-    ensures { λ r. ⌜ r ≡ length (silencesOf (soundsOf on off «min_sound» «min_silence» (now (values .entry)) (now (flags .entry)))) ⌝ }
-    ensures { λ _. ⌜ now (out .exit) ≡ silencesOf (soundsOf on off «min_sound» «min_silence» (now (values .entry)) (now (flags .entry))) ++ drop (length (silencesOf (soundsOf on off «min_sound» «min_silence» (now (values .entry)) (now (flags .entry))))) (now (out .entry)) ⌝ }
+    ensures { λ r. ⌜ r ≡ length (silencesOf
+        (soundsOf on off «min_sound» «min_silence» (now (values .entry)) (now (flags .entry)))) ⌝ }
+    ensures { λ _. ⌜ now (out .exit) ≡ onto (silencesOf
+        (soundsOf on off «min_sound» «min_silence» (now (values .entry)) (now (flags .entry)))) (now (out .entry)) ⌝ }
 {
     let mut from: usize = 0;
     // The frame after the last sound that was long enough, and the place of the next number.
@@ -104,7 +106,7 @@ pub fn list_silences(
         let start = next_change(on, 0, values, flags, from);
         let end = next_change(off, 1, values, flags, next_frame(start, values.len()));
         if lasting(min_sound, end - start) {
-            at = put_gap(out, at, min_silence, last, start);
+            at = put_silence(out, at, min_silence, last, start);
             last = end;
         }
         from = next_frame(end, values.len());

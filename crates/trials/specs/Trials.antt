@@ -1,33 +1,52 @@
 -- Document 01's ten starred trials in one table, each worked out by computation from the definitions: eight of the path, with the score of each, and two of the silences.
+-- Beyond them it shows that no test refuses L or R, so that the domain of every theorem has a member, and what a whole call of either operation leaves.
 use mathlib.Core.Path.{_≡_, refl}
 use mathlib.Core.Bool.{false}
 use mathlib.Core.List.{List, [], _∷_}
 use Prim.Native.Nat.{ℕ}
 use lib.IntN.{pos, negsuc}
-use lib.Ieee.{Float, fin, binary32, ofBits, span, climb, size, odd, units, round, sum, add, neg, sub, mul, div, lt, eq, le, ofInt}
-use lib.ListN.{replicate}
+use lib.Ieee.{Float, fin, binary32, binary64, ofBits, span, climb, size, odd, units, round, sum, add, neg, sub, mul, div, lt, eq, le, ofInt}
+use lib.ListN.{length, replicate}
 use Rattle.base_terms.specs.Lengths.{square, offOf, short, lengthCost}
-use Rattle.base_terms.specs.Lists.{allOf}
+use Rattle.base_terms.specs.Lists.{allOf, filled, onto}
+use Rattle.base_terms.specs.Work.{workOf, workOk}
 use Rattle.grid.specs.Durations.{framesIn}
+use Rattle.grid.specs.Boundary.{startOf, covers}
+use Rattle.grid.specs.Values.{isScore, isUnflagged}
+use Rattle.grid.specs.Validate.{framesOk, valuesOk, lengthOk, validityOf}
+use Rattle.grid.specs.Validate as grid
+use Rattle.grid.specs.declared.validate.Validity.the-variants.{Valid}
 use Rattle.grid.specs.declared.validate.Recording.{Recording}
 use Rattle.grid.specs.declared.validate.Domain.the-variants.{Scores}
 use Rattle.silence_levels.specs.declared.threshold.Threshold.the-variants.{Auto}
-use Rattle.silence_levels.specs.Keys.{kept}
-use Rattle.silence_levels.specs.Threshold.{autoOf, resolveOf}
+use Rattle.silence_levels.specs.Keys.{withSignal}
+use Rattle.silence_levels.specs.Threshold.{autoOf, resolveOf, thresholdOk}
 use Rattle.silence_levels.specs.Levels.{levelsOver, levelsOf}
 use Rattle.silence_runs.specs.Hysteresis.{reached, soundAt, soundsAfter, hysteresis}
 use Rattle.silence_runs.specs.Runs.{joined, runs, rewritten, rewrittenAll, eachRun}
 use Rattle.silence_runs.specs.Fill.{filledAs, fillShort}
 use Rattle.silence_runs.specs.Sounds.{isSilent, anySound, fillSilence, soundsOf}
 use Rattle.silence_runs.specs.Silences.{silentRuns, silencesOf}
-use Rattle.silence_list.specs.Silences.{soundsIn, silencesIn}
+use Rattle.silence_list.specs.Refusal.{durationsOk}
+use Rattle.silence_list.specs.Refusal as silenceTests
+use Rattle.silence_list.specs.Silences.{soundsIn, silencesIn, silencesHandedOut, silenceListOf}
+use Rattle.silence_list.specs.Silences as silenceList
+use Rattle.silence_list.specs.declared.list.Answer.the-variants as silences
 use Rattle.silence_list.specs.declared.config.SegmentConfig.{SegmentConfig}
 use Rattle.path_pieces.specs.declared.lengths.Lengths.{Lengths}
-use Rattle.path_pieces.specs.Pieces.{pieceLength, overOf, lengthCostOf, withPiece, withCut, isWithin, withCutAt}
-use Rattle.path_by_length.specs.Least.{lowestLeast}
-use Rattle.path_by_length.specs.Paths.{mayStart, lastOf}
-use Rattle.path_by_length.specs.Table.{predecessorOf, nextScore, tableOf, bestScore, parentOf, wayBack, bestPath}
+use Rattle.path_pieces.specs.declared.mode.Mode.{Mode}
+use Rattle.path_pieces.specs.declared.mode.Mode.the-variants as mode
+use Rattle.path_pieces.specs.Pieces.{lengthWeights, pieceLength, overOf, lengthCostOf, withPiece, withCut, isWithin, withCutAt, mayStart}
+use Rattle.path_pieces.specs.Least.{lowestLeast, predecessorOf}
+use Rattle.path_by_length.specs.Paths.{lastOf}
+use Rattle.path_by_length.specs.Table.{nextScore, tableOf, bestScore, parentOf, wayBack, bestPath}
 use Rattle.path_by_length.specs.ByCount.{bestWith, parentWith, wayWith, bestPathByCount, bestScoreByCount}
+use Rattle.path_tests.specs.Ends.{listsOk, endOk, endsFrom, endsOk}
+use Rattle.path_tests.specs.Costs.{isCost, isTarget, isMin, lengthsOk}
+use Rattle.path_tests.specs.Refusal.{isCount, countOk, firstRefusalOf}
+use Rattle.path_tests.specs.declared.refusal.Verdict.the-variants.{Fine}
+use Rattle.path_list.specs.Operation.{handedOf, soughtOf, endOf, pathOf}
+use Rattle.path_list.specs.declared.seek.Answer.the-variants.{Found}
 
 -- ---- the path
 
@@ -41,7 +60,7 @@ halves n = fin false n (negsuc 0)
 
 -- "min 0, target 100, target weight 1, short 0", and a limit
 abbrev within : ℕ → Lengths
-within limit = record { min = whole 0; target = whole 100; limit = limit; «target_weight» = whole 1; «short_weight» = whole 0 }
+within limit = record { min = whole 0; target = whole 100; limit = limit; weights = lengthWeights (whole 1) (whole 0) }
 
 -- "lists L: left = right = 0, 100, 200, 300"
 abbrev ends : List ℕ
@@ -55,6 +74,18 @@ ByLength limit at cut path over cost =
 abbrev ByCount : ℕ → ℕ → List ℕ → List Float → List ℕ → ℕ → Float → Type 0
 ByCount count limit at cut path over cost =
     (bestPathByCount (within limit) at at cut count ≡ path) × (bestScoreByCount (within limit) at at cut count ≡ record { over = over; cost = cost })
+
+-- the inner cuts cost 0.5, those at the ends nothing
+abbrev cuts : List Float
+cuts = whole 0 ∷ halves 1 ∷ halves 1 ∷ whole 0 ∷ []
+
+-- the operation on L by length or by count, with room for five candidates and work lists as long as 13 asks, whatever they held: the path found and its score,
+-- the output beyond it untouched, and every other list zeroed
+abbrev PathCall : Mode → List ℕ → List ℕ → ℕ → Float → Type 0
+PathCall mode parent path over cost = (p a b : ℕ) (x : Float)
+    → pathOf (within 200) ends ends cuts mode (replicate 5 p) (workOf (replicate 64 a) (replicate 64 b) (replicate 64 x)) parent
+    ≡ endOf (Found (record { score = record { over = over; cost = cost }; len = length path })) (onto path (replicate 5 p))
+    (workOf (replicate 64 0) (replicate 64 0) (replicate 64 (ofBits binary64 0))) (filled 0 parent)
 
 -- ---- the silences
 
@@ -77,6 +108,10 @@ none = ofBits binary32 0
 abbrev SilencesAre : ℕ → List Float → ℕ → List ℕ → Type 0
 SilencesAre len scores frames answer = silencesIn (recording len) defaults scores (replicate frames 0) ≡ answer
 
+-- the scores of R
+abbrev scores : List Float
+scores = one ∷ one ∷ none ∷ none ∷ none ∷ one ∷ one ∷ []
+
 -- ---- the table
 
 -- whatever the cuts at the two ends cost: document 01 names the inner ones alone
@@ -98,12 +133,21 @@ pub record Trials (first last : Float) : Type 0 where
   -- "One candidate: path 0, score (0, 0)", by length and by count
   pub one-candidate : ByLength 200 (0 ∷ []) (first ∷ []) (0 ∷ []) 0 (whole 0) × ByCount 1 200 (0 ∷ []) (first ∷ []) (0 ∷ []) 0 (whole 0)
   -- "R's silence: frames 2, 3 and 4"
-  pub one-silence : SilencesAre 700 (one ∷ one ∷ none ∷ none ∷ none ∷ one ∷ one ∷ []) 7 (2 ∷ 5 ∷ [])
+  pub one-silence : SilencesAre 700 scores 7 (2 ∷ 5 ∷ [])
   -- "1 1 0 0 1 1: none"
   pub no-silence : SilencesAre 600 (one ∷ one ∷ none ∷ none ∷ one ∷ one ∷ []) 6 []
+  -- L passes the tests of its operation, 15 to 17 and the others; R passes 1 to 6
+  pub lists-pass : firstRefusalOf ends ends cuts (within 200) mode.ByLength 64 64 64 ≡ Fine
+  pub recording-passes : validityOf (recording 700) scores (replicate 7 0) [] ≡ Valid
+  -- whole calls: L by length and by count 2, and R's silence list
+  pub call-by-length : PathCall mode.ByLength [] (0 ∷ 1 ∷ 2 ∷ 3 ∷ []) 0 (whole 1)
+  pub call-by-count : (q : ℕ) → PathCall (mode.ByCount 2) (replicate 9 q) (0 ∷ 1 ∷ 3 ∷ []) 0 (halves 3)
+  pub call-silences : (p a b : ℕ) (x : Float)
+      → silenceListOf (recording 700) defaults scores (replicate 7 0) [] (replicate 3 p) (workOf (replicate 128 a) (replicate 128 b) (replicate 128 x))
+      ≡ silenceList.endOf (silences.Found 1) (2 ∷ 5 ∷ p ∷ []) (workOf (replicate 128 0) (replicate 128 0) (replicate 128 (ofBits binary64 0)))
 
 pub trials : (first last : Float) → Trials first last
-unfolding bestPath wayBack parentOf bestScore tableOf nextScore bestWith parentWith wayWith bestPathByCount bestScoreByCount predecessorOf withCutAt isWithin mayStart lowestLeast withPiece withCut overOf pieceLength lengthCostOf lengthCost square offOf short span climb size odd units round sum add neg sub mul div lt eq le ofInt ofBits silencesIn soundsIn framesIn levelsOf levelsOver kept resolveOf autoOf silencesOf silentRuns soundsOf fillSilence anySound isSilent allOf hysteresis soundsAfter soundAt reached fillShort filledAs eachRun rewrittenAll rewritten runs joined
+unfolding bestPath wayBack parentOf bestScore tableOf nextScore bestWith parentWith wayWith bestPathByCount bestScoreByCount predecessorOf withCutAt isWithin mayStart lowestLeast withPiece withCut overOf pieceLength lengthCostOf lengthCost square offOf short span climb size odd units round sum add neg sub mul div lt eq le ofInt ofBits silencesIn soundsIn framesIn levelsOf levelsOver withSignal resolveOf autoOf silencesOf silentRuns soundsOf fillSilence anySound isSilent allOf hysteresis soundsAfter soundAt reached fillShort filledAs eachRun rewrittenAll rewritten runs joined firstRefusalOf listsOk endsOk endsFrom endOk isCost lengthsOk isTarget isMin countOk isCount workOk pathOf soughtOf handedOf onto filled validityOf grid.isWithin framesOk grid.listsOk valuesOk lengthOk grid.frameStepOk covers startOf isScore isUnflagged silenceListOf silencesHandedOut silenceTests.firstRefusalOf durationsOk thresholdOk
 trials first last = record {
   by-length = (refl, refl);
   dear-cuts = (refl, refl);
@@ -115,6 +159,11 @@ trials first last = record {
   one-candidate = ((refl, refl), (refl, refl));
   one-silence = refl;
   no-silence = refl;
+  lists-pass = refl;
+  recording-passes = refl;
+  call-by-length = λ p a b x. refl;
+  call-by-count = λ q p a b x. refl;
+  call-silences = λ p a b x. refl;
 }
 
 -- beyond the table, "compared before the cut at the piece's end is added": at candidate 2 the way through 1 is cheaper by 0.5, which a cut of 2 ^ 60 swallows

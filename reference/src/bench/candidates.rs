@@ -14,12 +14,13 @@ use silence_split::plan::hook_candidates;
 use super::cleared::{GROWN_FROM, Times, both, calls, grow};
 use super::recordings::{self, Make};
 use super::{RUNS, line, time};
+use crate::case::Case;
 use crate::domain::MOST_FRAMES;
 use crate::ours::{self, candidates::Answer};
 use crate::plan_job::{Job, Settings};
 use crate::silence_job;
 
-const KINDS: [(&str, Make); 2] = [
+pub const KINDS: [(&str, Make); 2] = [
     ("speech", recordings::speech),
     ("decibels", recordings::decibels),
 ];
@@ -36,7 +37,8 @@ pub fn run() {
     }
 }
 
-fn job(frames: u64, make: Make, drop_gaps: bool) -> Job {
+/// A job with the Rust's own settings.
+pub fn job(frames: u64, make: Make, drop_gaps: bool) -> Job {
     let recording = silence_job::Job {
         case: recordings::case(frames, make),
         settings: silence_job::Settings::usual(),
@@ -73,16 +75,17 @@ fn times(name: &str, job: &Job) -> Times {
     );
     let expected = hook_candidates(&analysis, &segment, &plan) as u64;
     assert_eq!(count, expected, "{name}: as many candidates");
-    if case.decibels {
-        let rust = times.rust.saturating_sub(smoothing(&analysis));
-        let rust = rust.max(Duration::from_nanos(1));
-        line(
-            &format!("{name} without clearing and smoothing"),
-            times.ours,
-            rust,
-        );
-    }
+    without_smoothing(name, case, &analysis, &times);
     times
+}
+
+/// For decibels, prints the line with the Rust's smoothing taken off its time.
+pub fn without_smoothing(name: &str, case: &Case, analysis: &Analysis, times: &Times) {
+    if case.decibels {
+        let rust = times.rust.saturating_sub(smoothing(analysis));
+        let name = format!("{name} without clearing and smoothing");
+        line(&name, times.ours, rust.max(Duration::from_nanos(1)));
+    }
 }
 
 /// The Rust's best time for the smoothing of as many calls as a case has.

@@ -1,5 +1,5 @@
-//! Operations that clear work lists of 16 × (frames + 1) entries at their end, whatever they used of
-//! them; the Rust does not.
+//! Operations that clear work lists of 16 × (frames + 1) entries and a parent list at their end,
+//! whatever they used of them; the Rust does not.
 //!
 //! The line `clearing` has the port's own clearing of the same lists, called by itself, beside the
 //! machine's fill of them. The line `without clearing` has the best time of that clearing taken off
@@ -13,7 +13,8 @@ use super::{ENOUGH, RUNS, line, time};
 use crate::domain::MOST_FRAMES;
 use crate::ours::{self, Work};
 
-/// Frames asked for in a case at least, by as many calls as that takes.
+/// Frames, or entries of the parent list if those are more, asked for in a case at least, by as
+/// many calls as that takes.
 const ASKED: u64 = 131_072;
 
 /// The smaller size of the growth.
@@ -55,18 +56,33 @@ pub fn both(
     name: &str,
     frames: u64,
     mut ours: impl FnMut(Work<'_>) -> u32,
+    rust: impl FnMut(),
+) -> Times {
+    both_with_parent(name, frames, 0, |work, _| ours(work), rust)
+}
+
+/// The same with a parent list of so many entries, which is cleared with the others.
+pub fn both_with_parent(
+    name: &str,
+    frames: u64,
+    parent: usize,
+    mut ours: impl FnMut(Work<'_>, &mut [u32]) -> u32,
     mut rust: impl FnMut(),
 ) -> Times {
-    let mut lists = Lists::new(frames as usize);
+    let mut lists = Lists::new(frames as usize, parent);
+    let mut ours = |lists: &mut Lists| {
+        let (work, parent) = lists.lend();
+        ours(work, parent)
+    };
     // A refusal would be quick and would say nothing.
-    assert_eq!(ours(lists.lend()), 0, "{name}: accepted by the Rust");
+    assert_eq!(ours(&mut lists), 0, "{name}: accepted by the Rust");
     let [mut best, mut best_rust, mut clearing, mut fill] = [Duration::MAX; 4];
     let start = Instant::now();
     // In turn, so that all meet the same disturbances.
     for _ in 0..RUNS {
-        let each = || 0..calls(frames);
+        let each = || 0..calls(frames.max(parent as u64));
         best = best.min(time(&mut || {
-            each().for_each(|_| _ = black_box(ours(lists.lend())))
+            each().for_each(|_| _ = black_box(ours(&mut lists)))
         }));
         clearing = clearing.min(time(&mut || each().for_each(|_| lists.clear())));
         fill = fill.min(time(&mut || each().for_each(|_| lists.fill())));
@@ -91,29 +107,39 @@ struct Lists {
     u32s: Vec<u32>,
     u64s: Vec<u64>,
     f64s: Vec<f64>,
+    parent: Vec<u32>,
 }
 
 impl Lists {
-    fn new(frames: usize) -> Self {
+    fn new(frames: usize, parent: usize) -> Self {
         let entries = 16 * (frames + 1);
         // Not zeros, which the system hands out without touching them.
         Self {
             u32s: vec![1; entries],
             u64s: vec![1; entries],
             f64s: vec![1.0; entries],
+            parent: vec![1; parent],
         }
     }
 
-    fn lend(&mut self) -> Work<'_> {
-        Work {
+    fn lend(&mut self) -> (Work<'_>, &mut [u32]) {
+        let work = Work {
             u32s: &mut self.u32s,
             u64s: &mut self.u64s,
             f64s: &mut self.f64s,
-        }
+        };
+        (work, &mut self.parent)
     }
 
     fn clear(&mut self) {
-        ours::silences::clear(self.lend());
+        let (work, parent) = self.lend();
+        ours::silences::clear(work);
+        // Only the first list has entries.
+        ours::silences::clear(Work {
+            u32s: parent,
+            u64s: &mut [],
+            f64s: &mut [],
+        });
         black_box(&mut *self);
     }
 
@@ -121,6 +147,7 @@ impl Lists {
         self.u32s.fill(0);
         self.u64s.fill(0);
         self.f64s.fill(0.0);
+        self.parent.fill(0);
         black_box(&mut *self);
     }
 }

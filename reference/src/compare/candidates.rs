@@ -1,9 +1,9 @@
 //! The candidates: the Rust's span, silences and candidates, costs by their bits, and every lent
 //! list as document 01 leaves it.
 
-mod refusals;
+pub(super) mod refusals;
 
-use super::lists::{Entry, List, enough};
+use super::lists::{List, enough, first_fault};
 use super::silences::{self, WORK, vary};
 use super::{Amount, Subject};
 use crate::domain::MOST_FRAMES;
@@ -174,10 +174,12 @@ impl Caller {
             Some(format!("at {given}: count {count}, expected {counted}"))
         } else if !self.ends.holds(ends) {
             let fault = first_fault(self.ends.lend(), ends, 3);
-            Some(format!("at {given}: boundaries and reason {fault}"))
+            Some(format!(
+                "at {given}: boundaries and reason of candidate {fault}"
+            ))
         } else if !self.costs.holds(costs) {
             let fault = first_fault(self.costs.lend(), costs, 1);
-            Some(format!("at {given}: cost {fault}"))
+            Some(format!("at {given}: cost of candidate {fault}"))
         } else if !work {
             Some(format!("at {given}: work lists"))
         } else {
@@ -194,15 +196,5 @@ impl Caller {
         let (case, settings) = (&job.recording.case, &job.recording.settings);
         let work = self.silences.work.lend();
         ours::candidates::candidates(&case.lent(), settings, &job.plan, work, answer)
-    }
-}
-
-/// The first candidate whose entries, `width` each, differ by their bits.
-fn first_fault<T: Entry>(given: &[T], expected: &[T], width: usize) -> String {
-    let words = |row: &[T]| row.iter().map(|e| e.word()).collect::<Vec<_>>();
-    let mut rows = given.chunks(width).zip(expected.chunks(width)).enumerate();
-    match rows.find(|(_, (a, b))| words(a) != words(b)) {
-        Some((i, (a, b))) => format!("of candidate {i}: {a:?}, expected {b:?}"),
-        None => "written beyond the answer".to_string(),
     }
 }

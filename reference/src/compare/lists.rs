@@ -149,3 +149,14 @@ pub fn enough(rng: &mut Rng, least: usize) -> [usize; 3] {
             }
     })
 }
+
+/// The first row of `width` entries that differs by its bits.
+#[cfg(feature = "candidates")]
+pub fn first_fault<T: Entry>(given: &[T], expected: &[T], width: usize) -> String {
+    let words = |row: &[T]| row.iter().map(|e| e.word()).collect::<Vec<_>>();
+    let mut rows = given.chunks(width).zip(expected.chunks(width)).enumerate();
+    match rows.find(|(_, (a, b))| words(a) != words(b)) {
+        Some((i, (a, b))) => format!("{i}: {a:?}, expected {b:?}"),
+        None => "written beyond the answer".to_string(),
+    }
+}

@@ -47,29 +47,40 @@ impl Job {
             (s.pre, s.tail) = (padding(rng, &recording.case), padding(rng, &recording.case));
         }
         let mut job = Self::with_settings(rng, recording);
-        job.lend_levels();
-        // The Rust smooths what it likes; a level that is not finite is refused here.
-        let case = &mut job.recording.case;
+        job.lend_finite_levels();
+        job
+    }
+
+    /// Lends the Rust's levels. It smooths what it likes; a level that is not finite is refused
+    /// here.
+    pub(super) fn lend_finite_levels(&mut self) {
+        self.lend_levels();
+        let case = &mut self.recording.case;
         if case.levels.iter().any(|level| !level.is_finite()) {
             for value in &mut case.values {
                 *value = value.min(MOST_DECIBELS);
             }
-            job.lend_levels();
+            self.lend_levels();
         }
-        job
     }
 }
 
-/// Long stretches of sound and silence, of one value or a few, and settings that leave them.
+/// Stretches of sound and silence that are as likely to be short as long.
 fn stretches(rng: &mut Rng, job: &mut silence_job::Job) {
+    let most = 1 + rng.magnitude(job.case.values.len() as u64 + 8);
+    alternate(rng, job, most, most);
+}
+
+/// Stretches of sound and silence up to so many frames each, of one value or a few, and settings
+/// that leave them.
+pub(super) fn alternate(rng: &mut Rng, job: &mut silence_job::Job, sound: u64, silence: u64) {
     let (case, settings) = (&mut job.case, &mut job.settings);
-    let frames = case.values.len() as u64;
-    let most = 1 + rng.magnitude(frames + 8);
     let values = 1 + rng.below(3);
     let (mut loud, mut left) = (rng.one_in(2), 0);
     for value in &mut case.values {
         if left == 0 {
-            (loud, left) = (!loud, 1 + rng.below(most));
+            loud = !loud;
+            left = 1 + rng.below(if loud { sound } else { silence });
         }
         left -= 1;
         let step = 0.0625 * rng.below(values) as f32;
@@ -149,7 +160,7 @@ fn maximum(rng: &mut Rng, case: &Case) -> u64 {
 }
 
 /// Often so close to the maximum that blocks are small beside it and padding is kept.
-fn minimum(rng: &mut Rng, case: &Case, max: u64) -> u64 {
+pub(super) fn minimum(rng: &mut Rng, case: &Case, max: u64) -> u64 {
     match rng.below(8) {
         0 | 1 => 0,
         2 | 3 => max,

@@ -1,5 +1,6 @@
 //! The trial cuts of document 01 that a plan of recording R has.
 
+use super::planned::Planned;
 use super::{Job, Settings};
 use crate::case::Case;
 use crate::silence_job;
@@ -14,6 +15,35 @@ pub fn trials() -> [Trial; 3] {
         (trial(300, Some(2)), 3),
         (trial(400, Some(8)), 4),
     ]
+}
+
+/// The same with their plans, as document 01 gives them.
+pub fn planned() -> [(Job, Planned); 3] {
+    let jobs = trials().map(|(job, _)| job);
+    let plans = [
+        planned_of(&[0, 400, 700], &[0, 0], &[0]),
+        planned_of(&[0, 300, 700], &[0, 2], &[0]),
+        planned_of(
+            &[0, 100, 200, 300, 400, 500, 600, 700],
+            &[0; 7],
+            &[2, 1, 1, 0, 2, 2],
+        ),
+    ];
+    let mut plans = plans.into_iter();
+    jobs.map(|job| (job, plans.next().expect("one for each job")))
+}
+
+/// Pieces between these ends, with these flags, and cuts between them for these reasons.
+fn planned_of(ends: &[u64], flags: &[u64], reasons: &[u64]) -> Planned {
+    let pieces = ends.windows(2).zip(flags);
+    let inner = &ends[1..ends.len() - 1];
+    let cuts = inner.iter().zip(reasons);
+    Planned {
+        pieces: pieces
+            .flat_map(|(ends, f)| [ends[0], ends[1], *f])
+            .collect(),
+        cuts: cuts.flat_map(|(at, reason)| [*at, *at, *reason]).collect(),
+    }
 }
 
 fn trial(max_millis: u64, count: Option<u32>) -> Job {

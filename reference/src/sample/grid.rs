@@ -1,6 +1,8 @@
 //! The frame grid. A record is eight little-endian words: the subject, six arguments, the answer.
 //! Subject 0 is `boundary`, 1 to 7 are the conversions in their order, 8 is coverage (0 accepted,
 //! else 6).
+//!
+//! Spoiled are one answer of each subject, and a subject that there is not.
 
 use silence_split::analyze::Analysis;
 use silence_split::errors::ConfigError;
@@ -22,11 +24,28 @@ const LONG: u64 = 16;
 /// Writes record `i`, the subjects in turn.
 pub fn record(bytes: &mut Bytes, rng: &mut Rng, i: u64) {
     let subject = i % SUBJECTS;
-    let (words, answer) = match subject {
+    let (words, answer) = ask(subject, rng);
+    put(bytes, subject, &words, answer);
+}
+
+pub fn spoiled(bytes: &mut Bytes) {
+    let mut rng = Rng::new(0);
+    for subject in 0..SUBJECTS {
+        let (words, answer) = ask(subject, &mut rng);
+        put(bytes, subject, &words, answer ^ 1);
+    }
+    put(bytes, SUBJECTS, &[0; 6], 0);
+}
+
+fn ask(subject: u64, rng: &mut Rng) -> (Words, u64) {
+    match subject {
         BOUNDARY => boundary(rng),
         COVERAGE => coverage(rng),
         _ => conversion(&CONVERSIONS[subject as usize - 1], rng),
-    };
+    }
+}
+
+fn put(bytes: &mut Bytes, subject: u64, words: &Words, answer: u64) {
     for word in [&[subject], &words[..], &[answer]].concat() {
         bytes.u64(word);
     }

@@ -17,11 +17,12 @@
 //! | the path | p × u32 |
 //!
 //! The path is the Rust's, the score that path's, added up as document 01 says. The first eight
-//! are its trial cuts. Every record is accepted.
+//! are its trial cuts. Every record is accepted. Spoiled are the path, its length, the pieces over
+//! the limit and the last bit of the cost, all of the second.
 
 use super::Bytes;
-use crate::path_job::Job;
 use crate::path_job::trials::trials;
+use crate::path_job::{Job, Score};
 use crate::rng::Rng;
 
 const MOST_CANDIDATES: u64 = 12;
@@ -33,7 +34,21 @@ pub fn record(bytes: &mut Bytes, rng: &mut Rng, i: u64) {
         Job::random(rng, candidates as usize)
     });
     let path = job.path();
-    let score = job.score(&path);
+    put(bytes, &job, &path, job.score(&path));
+}
+
+pub fn spoiled(bytes: &mut Bytes) {
+    let (job, path, score) = trials().swap_remove(1);
+    for other in [&[0, 2, 3][..], &[0, 3], &[0, 1, 2, 3]] {
+        put(bytes, &job, other, score);
+    }
+    let over = score.over + 1;
+    put(bytes, &job, &path, Score { over, ..score });
+    let cost = score.cost.next_up();
+    put(bytes, &job, &path, Score { cost, ..score });
+}
+
+fn put(bytes: &mut Bytes, job: &Job, path: &[u32], score: Score) {
     let p = &job.preferences;
     bytes.u32(job.left.len() as u32);
     bytes.u32(job.by_count.into());

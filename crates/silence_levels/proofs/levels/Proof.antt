@@ -1,4 +1,4 @@
--- `levels`: the front of the list holds the keys of the kept values, which give those values back.
+-- `levels`: the front of the list holds the keys of the values with signal, which give those values back.
 use lib.Seq.{length-take-le}
 use Rattle.silence_levels.specs.Levels.{levelsOf}
 use Rattle.silence_levels.specs.KeysLaws.{fits-all, collected-count, collected-few, collected-keys, collected-values}

@@ -1,7 +1,5 @@
 //! The refusals of the candidates: inputs on both sides of every limit, alone and two at once.
 
-use silence_split::errors::ConfigError;
-
 use super::{Caller, Sizes, take};
 use crate::compare::Amount;
 use crate::compare::aims::aims;
@@ -60,13 +58,13 @@ fn any_job(rng: &mut Rng) -> Job {
 }
 
 /// A job whose levels are not the Rust's, which would take long and which no refusal needs.
-fn any_levels(rng: &mut Rng, frames: u64) -> Job {
+pub fn any_levels(rng: &mut Rng, frames: u64) -> Job {
     let recording = silence_job::Job::random(rng, frames);
     Job::with_settings(rng, recording)
 }
 
 /// Brings a number of `job` to the limit of this refusal; the lent lists have their own sizes.
-fn change(job: &mut Job, rng: &mut Rng, number: u32) {
+pub fn change(job: &mut Job, rng: &mut Rng, number: u32) {
     let plan = &mut job.plan;
     match number {
         7 if !rng.one_in(3) => lengths(plan, rng),
@@ -135,11 +133,11 @@ fn weights(plan: &mut Settings, rng: &mut Rng) {
 
 /// The first refusal for what the recording and the settings are, or 0. Document 01's order is up
 /// to here the order of its numbers.
-fn before_lists(job: &Job) -> u32 {
+pub fn before_lists(job: &Job) -> u32 {
     let found = [
         silences::before_lists(&job.recording),
         only_document_01(&job.plan),
-        rust(&job.plan),
+        job.plan.refusal(),
     ];
     found.into_iter().filter(|n| *n != 0).min().unwrap_or(0)
 }
@@ -155,17 +153,6 @@ fn only_document_01(plan: &Settings) -> u32 {
         10
     } else {
         0
-    }
-}
-
-/// The first error of the Rust's builders as document 01 numbers it.
-fn rust(plan: &Settings) -> u32 {
-    match plan.config() {
-        Ok(_) => 0,
-        Err(ConfigError::InvalidLengths) => 7,
-        Err(ConfigError::InvalidRatio) => 9,
-        Err(ConfigError::InvalidWeights) => 10,
-        Err(other) => panic!("{other:?} is no answer of these builders"),
     }
 }
 

@@ -1,14 +1,12 @@
 //! The refusal that document 01 gives a recording.
 
-use silence_split::errors::ConfigError;
-
 use crate::case::Case;
 use crate::domain::{HOPS, MOST_FRAMES, MOST_SAMPLES, RATES};
 
 /// Document 01's number, or 0. Its order is the order of its numbers, and the Rust tests in that
 /// order too, so the least number that either finds is the first that applies.
 pub fn expected(case: &Case) -> u32 {
-    let found = [only_document_01(case), rust(case)];
+    let found = [only_document_01(case), case.refusal()];
     found.into_iter().filter(|n| *n != 0).min().unwrap_or(0)
 }
 
@@ -32,18 +30,5 @@ fn only_document_01(case: &Case) -> u32 {
         6
     } else {
         0
-    }
-}
-
-/// The Rust's error as document 01 numbers it.
-fn rust(case: &Case) -> u32 {
-    match case.analysis() {
-        Ok(_) => 0,
-        Err(ConfigError::ZeroSampleRate) => 1,
-        Err(ConfigError::ZeroChannels) => 2,
-        Err(ConfigError::InvalidScoreFrames) => 3,
-        Err(ConfigError::InvalidValue) => 5,
-        Err(ConfigError::FrameCountMismatch) => 6,
-        Err(other) => panic!("{other:?} is no answer of `validate`"),
     }
 }

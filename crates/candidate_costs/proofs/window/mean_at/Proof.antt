@@ -4,7 +4,7 @@ use Prim.Native.Nat.{_-_, _^_}
 use native.Mathlib.Omega.{arith}
 use lib.Dec.{le→leb}
 use lib.Ieee.{inFloat}
-use Rattle.candidate_costs.specs.WindowLaws.{window-sums, window-mean}
+use Rattle.candidate_costs.specs.WindowLaws.{part-sums, window-mean}
 use Rattle.candidate_costs.proofs.window.mean_at.Statement.{statement}
 use Rattle.candidate_costs.proofs.window.mean_at.Tie as tie
 
@@ -38,8 +38,10 @@ part-sum-end c = search needs
 sum-requires : tie.Need-sum-requires
 sum-requires c κs =
     let start = c .before .before .before .before in
-    window-sums (start .args .width) (start .args .values .now) (start .args .i) (c .before .before .less .result) (c .before .lesser .result)
-    (start .pre .0) (start .pre .1) (c .before .before .less .ensures) (c .before .lesser .ensures)
+    let from = c .before .before .less in
+    let to = c .before .lesser in
+    part-sums (start .args .width) (start .args .values .now) (from .result) (to .result) (start .pre .0)
+    (omega (arith, from .ensures, to .ensures, start .pre .0 .some, start .pre .1)) (omega (arith, to .ensures))
 
 sub-result : tie.Need-sub-result
 sub-result c = search needs
@@ -54,7 +56,7 @@ returns : tie.Need-returns
 returns c =
     let start = c .before .before .before .before .before .before in
     window-mean (start .args .width) (start .args .values .now) (start .args .i) (c .before .before .before .before .less .result) (c .before .before .before .lesser .result)
-    (start .pre .0) (start .pre .1) (c .before .before .before .before .less .ensures) (c .before .before .before .lesser .ensures) (c .before .sum .result) (c .before .sum .ensures)
+    (c .before .before .before .before .less .ensures) (c .before .before .before .lesser .ensures) (c .before .sum .result) (c .before .sum .ensures)
 
 pub mean-at-spec : {M : Type 1} → statement M
 mean-at-spec =

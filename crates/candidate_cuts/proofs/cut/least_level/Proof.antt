@@ -2,16 +2,15 @@
 use borrow.Author.Needs.{needs}
 use native.Mathlib.Omega.{arith}
 use mathlib.Core.Path.{refl}
-use Prim.Native.Nat.{_+_, _-_}
-use mathlib.Core.Bool.{false}
-use lib.Ieee.{inf, ofBits, div}
-use Rattle.candidate_cuts.specs.Walk.{Walking, walking-next, walking-done}
-use Rattle.candidate_cuts.specs.Cut.{quieterLevel, leastLevel}
+use Prim.Native.Nat.{_-_}
+use lib.Ieee.{ofBits, div}
+use Rattle.candidate_cuts.specs.Cut.{leastLevel}
+use Rattle.candidate_cuts.specs.LeastLaws.{Lowering, lowering-next, lowering-done}
 use Rattle.candidate_cuts.proofs.cut.least_level.Statement.{statement}
 use Rattle.candidate_cuts.proofs.cut.least_level.Tie as tie
 
 abbrev Inv-loop : tie.InvT-loop
-Inv-loop levels start end least₀ k₀ k-end least k = Walking (quieterLevel levels) (inf false) start (end + 1) least k
+Inv-loop levels start end least₀ k₀ k-end least k = Lowering levels start end least k
 
 abbrev μ-loop : tie.MeasureT-loop
 μ-loop levels start end least₀ k₀ k-end least k = k-end - k
@@ -20,7 +19,7 @@ add-k-end : tie.Need-add-k-end Inv-loop μ-loop
 add-k-end c = omega (arith, c .before .pre .few)
 
 loop-holds : tie.Need-loop-holds Inv-loop μ-loop
-unfolding ofBits div
+unfolding ofBits div leastLevel
 loop-holds c = (omega arith, omega (arith, c .before .pre .order), refl)
 
 mul-min-f64 : tie.Need-mul-min-f64 Inv-loop μ-loop
@@ -39,18 +38,16 @@ loop-less : tie.Need-loop-less Inv-loop μ-loop
 loop-less c = search needs
 
 loop-again : tie.Need-loop-again Inv-loop μ-loop
-unfolding quieterLevel
 loop-again c =
     let s = c .before .before .before .before .before in
     let at = c .before .before .before .loop in
     rw (c .min-f64 .ensures)
-    (walking-next (quieterLevel (s .args .levels .now)) (inf false) (s .args .start) (s .args .end + 1) (at .least) (at .k) (c .before .before .loop-test .taken) (at .inv))
+    (lowering-next (s .args .levels .now) (s .args .start) (s .args .end) (at .least) (at .k) (c .before .before .loop-test .taken) (at .inv))
 
 returns : tie.Need-returns Inv-loop μ-loop
-unfolding leastLevel
 returns c =
     let s = c .before .before .before in
-    walking-done (quieterLevel (s .args .levels .now)) (inf false) (s .args .start) (s .args .end + 1) (c .before .loop .least) (c .before .loop .k) (omega (arith, c .loop-test .left)) (c .before .loop .inv)
+    lowering-done (s .args .levels .now) (s .args .start) (s .args .end) (c .before .loop .least) (c .before .loop .k) (omega (arith, c .loop-test .left)) (c .before .loop .inv)
 
 pub least-level-spec : {M : Type 1} → statement M
 least-level-spec =

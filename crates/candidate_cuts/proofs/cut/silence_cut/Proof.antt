@@ -4,7 +4,7 @@ use native.Mathlib.Omega.{arith}
 use mathlib.Core.Path.{_≡_}
 use Rattle.candidate_settings.specs.declared.config.Gap.{Gap}
 use Rattle.candidate_settings.specs.declared.config.Gap.the-variants.{Keep, Drop}
-use Rattle.candidate_cuts.specs.PlaceLaws.{placed-within}
+use Rattle.candidate_cuts.specs.PlaceLaws.{chosen-within}
 use Rattle.candidate_cuts.specs.CutWalk.{split-within, whole-bounded, bounds-placeable, silence-overlaps, silence-keeps, silence-drops}
 use Rattle.candidate_cuts.proofs.cut.silence_cut.Statement.{statement}
 use Rattle.candidate_cuts.proofs.cut.silence_cut.Tie as tie
@@ -41,7 +41,7 @@ point-cut-requires-2 c κs =
     let s = c .before .before .before .before .before .before .before in
     let b = c .before .before .before .before .before .silence-bounds in
     let q = bounds-placeable (s .args .gap) (s .args .placement) (s .args .n) (s .args .pre) (s .args .tail) (s .args .levels .now) (s .args .start) (s .args .end) (b .result) (b .ensures) (c .before .before .before .if1 .left) (s .pre) in
-    omega (arith, c .place .ensures, placed-within (s .args .placement) (s .args .levels .now) (b .result .lo) (b .result .hi) q .1, q .bounded .held)
+    omega (arith, c .place .ensures, chosen-within (s .args .placement) (s .args .levels .now) (b .result .lo) (b .result .hi) q .1, q .bounded .held)
 
 enum-told-2 : tie.Need-enum-told-2
 enum-told-2 c = search needs

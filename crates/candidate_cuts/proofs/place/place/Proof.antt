@@ -5,7 +5,7 @@ use mathlib.Core.Path.{_≡_}
 use Prim.Native.Nat.{_-_}
 use Rattle.candidate_settings.specs.declared.config.Placement.{Placement}
 use Rattle.candidate_settings.specs.declared.config.Placement.the-variants.{Quietest, Center, Ratio}
-use Rattle.candidate_cuts.specs.Place.{placed}
+use Rattle.candidate_cuts.specs.Place.{chosenBy}
 use Rattle.candidate_cuts.specs.ShareLaws.{share-within}
 use Rattle.candidate_cuts.specs.PlaceLaws.{ratio-passes}
 use Rattle.candidate_cuts.proofs.place.place.Statement.{statement}
@@ -13,6 +13,9 @@ use Rattle.candidate_cuts.proofs.place.place.Tie as tie
 
 enum-told : tie.Need-enum-told
 enum-told c = search needs
+
+add-quietest : tie.Need-add-quietest
+add-quietest c = omega (arith, c .before .before .before .pre .bounded .few)
 
 quietest-requires : tie.Need-quietest-requires
 quietest-requires c κs = search needs
@@ -45,19 +48,19 @@ add-result-2 c =
     omega (arith, w, c .share .ensures, s .pre .bounded .few, s .pre .bounded .order)
 
 returns : tie.Need-returns
-unfolding placed
+unfolding chosenBy
 returns c =
     let t : _≡_ {A = Placement} (c .before .before .before .before .args .placement) Quietest = cc in
     rw t (c .quietest .ensures)
 
 returns-2 : tie.Need-returns-2
-unfolding placed
+unfolding chosenBy
 returns-2 c =
     let t : _≡_ {A = Placement} (c .before .before .before .args .placement) Center = cc in
     rw t
 
 returns-3 : tie.Need-returns-3
-unfolding placed
+unfolding chosenBy
 returns-3 c =
     let t : _≡_ {A = Placement} (c .before .before .before .before .before .args .placement) (Ratio (c .before .before .placement .given .0 .0)) = cc in
     rw (t, c .share .ensures)
@@ -67,6 +70,7 @@ place-spec =
     tie.close
     (tie.spec
     enum-told
+    add-quietest
     quietest-requires
     enum-told-2
     add-result

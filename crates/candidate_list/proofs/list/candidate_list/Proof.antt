@@ -4,10 +4,12 @@ use native.Mathlib.Omega.{arith}
 use mathlib.Core.Path.{_≡_, sym, _∙_}
 use lib.ListN.{length}
 use borrow.Author.Tests.{not-true, not-false}
-use Rattle.plan_tests.specs.Ready.{fine-ready}
-use Rattle.candidate_finder.specs.Measure.{candidatesIn}
-use Rattle.candidate_finder.specs.Ready.{ready-plannable}
-use Rattle.candidate_list.specs.CandidateListLaws.{stands, ends-refused, ends-listed}
+use Rattle.plan_tests.specs.PlanReady.{fine-ready}
+use Rattle.base_terms.specs.Work.{workOf}
+use Rattle.candidate_finder.specs.CandidatesIn.{candidatesIn}
+use Rattle.candidate_finder.specs.Accepted.{ready-plannable}
+use Rattle.candidate_list.specs.CandidateList.{outputOf}
+use Rattle.candidate_list.specs.CandidateListLaws.{stands-copyable, ends-refused, ends-listed}
 use Rattle.candidate_list.proofs.list.candidate_list.Statement.{statement}
 use Rattle.candidate_list.proofs.list.candidate_list.Tie as tie
 
@@ -19,18 +21,21 @@ is-fine-requires c κs = search needs
 
 returns : tie.Need-returns
 returns c =
-    let s = c .before .before .before .before .before .before .before .before .before .before .before in
-    ends-refused (s .args .r) (s .args .segment) (s .args .plan) (s .args .values .now) (s .args .flags .now) (s .args .levels .now) (s .args .ends .now) (s .args .costs .now) (s .args .work-u32 .now) (s .args .work-u64 .now) (s .args .work-f64 .now) (c .before .before .first-refusal .result) (c .before .before .first-refusal .ensures .0) (sym (c .before .is-fine .ensures) ∙ not-true (c .before .is-fine .result) (c .if1 .taken))
+    let known = c .before .before .before .before .before .before .before .before in
+    let s = known .before .before .before in (
+      ends-refused (s .args .r) (s .args .segment) (s .args .plan) (s .args .values .now) (s .args .flags .now) (s .args .levels .now) (outputOf (s .args .ends .now) (s .args .costs .now)) (workOf (s .args .work-u32 .now) (s .args .work-u64 .now) (s .args .work-f64 .now)) (c .before .before .first-refusal .result) (c .before .before .first-refusal .ensures) (sym (c .before .is-fine .ensures) ∙ not-true (c .before .is-fine .result) (c .if1 .taken)),
+      record { values-fit = known .before .before .shared-slice-known .given; levels-fit = known .shared-slice-known3 .given },
+    )
 
-plan-candidates-requires : tie.Need-plan-candidates-requires
-plan-candidates-requires c κs =
+find-candidates-requires : tie.Need-find-candidates-requires
+find-candidates-requires c κs =
     let s = c .before .before .before .before .before .before .before .before .before .before .before .before .before in
     let n32 = length (s .args .work-u32 .now) in
     let n64 = length (s .args .work-u64 .now) in
     let nf = length (s .args .work-f64 .now) in
     let e = c .before .before .before .before .first-refusal .ensures in
     ready-plannable (s .args .r) (s .args .segment) (s .args .plan) (s .args .values .now) (s .args .flags .now) (s .args .levels .now) n32 n64 nf
-    (fine-ready (s .args .r) (s .args .segment) (s .args .plan) (s .args .values .now) (s .args .flags .now) (s .args .levels .now) n32 n64 nf (c .before .before .before .before .first-refusal .result) (e .0) (e .1) (sym (c .before .before .before .is-fine .ensures) ∙ not-false (c .before .before .before .is-fine .result) (c .before .before .if1 .left)))
+    (fine-ready (s .args .r) (s .args .segment) (s .args .plan) (s .args .values .now) (s .args .flags .now) (s .args .levels .now) n32 n64 nf (c .before .before .before .before .first-refusal .result) e (sym (c .before .before .before .is-fine .ensures) ∙ not-false (c .before .before .before .is-fine .result) (c .before .before .if1 .left)))
 
 hand-out-requires : tie.Need-hand-out-requires
 hand-out-requires c κs =
@@ -39,12 +44,12 @@ hand-out-requires c κs =
     let n64 = length (s .args .work-u64 .now) in
     let nf = length (s .args .work-f64 .now) in
     let e = c .before .before .before .before .before .before .before .before .before .before .before .before .before .before .first-refusal .ensures in
-    let p = c .before .before .before .before .before .before .before .before .before .plan-candidates .ensures in
-    let ready = fine-ready (s .args .r) (s .args .segment) (s .args .plan) (s .args .values .now) (s .args .flags .now) (s .args .levels .now) n32 n64 nf (c .before .before .before .before .before .before .before .before .before .before .before .before .before .before .first-refusal .result) (e .0) (e .1) (sym (c .before .before .before .before .before .before .before .before .before .before .before .before .before .is-fine .ensures) ∙ not-false (c .before .before .before .before .before .before .before .before .before .before .before .before .before .is-fine .result) (c .before .before .before .before .before .before .before .before .before .before .before .before .if1 .left)) in
-    let same : length (c .before .before .before .before .before .before .before .before .before .plan-candidates .last .1 .1 .1 .1 .1 .1 .0) ≡ length (s .args .work-u32 .now) = omega (arith, c .before .before .before .before .before .before .before .before .work-u32 .given) in
-    let samef : length (c .before .before .before .before .before .before .before .before .before .plan-candidates .last .1 .1 .1 .1 .1 .1 .1 .0) ≡ length (s .args .work-f64 .now) = omega (arith, c .before .before .before .before .before .before .work-f64 .given) in
-    stands (length (s .args .values .now)) (c .before .before .before .before .before .before .before .before .before .plan-candidates .result) (candidatesIn (s .args .r) (s .args .segment) (s .args .plan) (s .args .values .now) (s .args .flags .now) (s .args .levels .now)) (c .before .before .before .before .before .before .before .before .before .plan-candidates .last .1 .1 .1 .1 .1 .1 .0) (c .before .before .before .before .before .before .before .before .before .plan-candidates .last .1 .1 .1 .1 .1 .1 .1 .0)
-    (omega (arith, same, ready .work .enough32)) (omega (arith, samef, ready .work .enoughf)) (p .0) (p .1 .0) (p .1 .1)
+    let p = c .before .before .before .before .before .before .before .before .before .find-candidates .ensures in
+    let ready = fine-ready (s .args .r) (s .args .segment) (s .args .plan) (s .args .values .now) (s .args .flags .now) (s .args .levels .now) n32 n64 nf (c .before .before .before .before .before .before .before .before .before .before .before .before .before .before .first-refusal .result) e (sym (c .before .before .before .before .before .before .before .before .before .before .before .before .before .is-fine .ensures) ∙ not-false (c .before .before .before .before .before .before .before .before .before .before .before .before .before .is-fine .result) (c .before .before .before .before .before .before .before .before .before .before .before .before .if1 .left)) in
+    let same : length (c .before .before .before .before .before .before .before .before .before .find-candidates .last .1 .1 .1 .1 .1 .1 .0) ≡ length (s .args .work-u32 .now) = omega (arith, c .before .before .before .before .before .before .before .before .work-u32 .given) in
+    let samef : length (c .before .before .before .before .before .before .before .before .before .find-candidates .last .1 .1 .1 .1 .1 .1 .1 .0) ≡ length (s .args .work-f64 .now) = omega (arith, c .before .before .before .before .before .before .work-f64 .given) in
+    stands-copyable (length (s .args .values .now)) (c .before .before .before .before .before .before .before .before .before .find-candidates .result) (candidatesIn (s .args .r) (s .args .segment) (s .args .plan) (s .args .values .now) (s .args .flags .now) (s .args .levels .now)) (c .before .before .before .before .before .before .before .before .before .find-candidates .last .1 .1 .1 .1 .1 .1 .0) (c .before .before .before .before .before .before .before .before .before .find-candidates .last .1 .1 .1 .1 .1 .1 .1 .0)
+    (omega (arith, same, ready .work .enough32)) (omega (arith, samef, ready .work .enoughf)) p
 
 same-length : tie.Need-same-length
 same-length c = search needs
@@ -63,12 +68,15 @@ same-length-5 c = search needs
 
 returns-2 : tie.Need-returns-2
 returns-2 c =
-    let s = c .before .before .before .before .before .before .before .before .before .before .before .before .before .before .before .before .before .before .before .before .before .before .before .before .before .before .before .before .before .before .before .before .before .before in
-    let p = c .before .before .before .before .before .before .before .before .before .before .before .before .before .before .before .before .before .before .before .before .plan-candidates .ensures in
-    let same : length (c .before .before .before .before .before .before .before .before .before .before .before .before .before .before .before .before .before .before .before .before .plan-candidates .last .1 .1 .1 .1 .1 .1 .0) ≡ length (s .args .work-u32 .now) = omega (arith, c .before .before .before .before .before .before .before .before .before .before .before .before .before .before .before .before .before .before .before .work-u32 .given) in
-    let samef : length (c .before .before .before .before .before .before .before .before .before .before .before .before .before .before .before .before .before .before .before .before .plan-candidates .last .1 .1 .1 .1 .1 .1 .1 .0) ≡ length (s .args .work-f64 .now) = omega (arith, c .before .before .before .before .before .before .before .before .before .before .before .before .before .before .before .before .before .work-f64 .given) in
-    c .before .before .before .before .before .before .before .before .before .before .hand-out .ensures
-    ∙ ends-listed (s .args .r) (s .args .segment) (s .args .plan) (s .args .values .now) (s .args .flags .now) (s .args .levels .now) (s .args .ends .now) (s .args .costs .now) (s .args .work-u32 .now) (s .args .work-u64 .now) (s .args .work-f64 .now) (c .before .before .before .before .before .before .before .before .before .before .before .before .before .before .before .before .before .before .before .before .before .before .before .before .before .first-refusal .result) (c .before .before .before .before .before .before .before .before .before .before .before .before .before .before .before .before .before .before .before .before .plan-candidates .result) _ _ _ _ (c .before .before .before .before .before .before .before .before .before .before .before .before .before .before .before .before .before .before .before .before .before .before .before .before .before .first-refusal .ensures .0) (sym (c .before .before .before .before .before .before .before .before .before .before .before .before .before .before .before .before .before .before .before .before .before .before .before .before .is-fine .ensures) ∙ not-false (c .before .before .before .before .before .before .before .before .before .before .before .before .before .before .before .before .before .before .before .before .before .before .before .before .is-fine .result) (c .before .before .before .before .before .before .before .before .before .before .before .before .before .before .before .before .before .before .before .before .before .before .before .if1 .left)) (p .0) (p .1 .0) (p .1 .1) same samef
+    let known = c .before .before .before .before .before .before .before .before .before .before .before .before .before .before .before .before .before .before .before .before .before .before .before .before .before .before .before .before .before .before .before in
+    let s = known .before .before .before in
+    let p = c .before .before .before .before .before .before .before .before .before .before .before .before .before .before .before .before .before .before .before .before .find-candidates .ensures in
+    let same : length (c .before .before .before .before .before .before .before .before .before .before .before .before .before .before .before .before .before .before .before .before .find-candidates .last .1 .1 .1 .1 .1 .1 .0) ≡ length (s .args .work-u32 .now) = omega (arith, c .before .before .before .before .before .before .before .before .before .before .before .before .before .before .before .before .before .before .before .work-u32 .given) in
+    let samef : length (c .before .before .before .before .before .before .before .before .before .before .before .before .before .before .before .before .before .before .before .before .find-candidates .last .1 .1 .1 .1 .1 .1 .1 .0) ≡ length (s .args .work-f64 .now) = omega (arith, c .before .before .before .before .before .before .before .before .before .before .before .before .before .before .before .before .before .work-f64 .given) in (
+      c .before .before .before .before .before .before .before .before .before .before .hand-out .ensures
+          ∙ ends-listed (s .args .r) (s .args .segment) (s .args .plan) (s .args .values .now) (s .args .flags .now) (s .args .levels .now) (outputOf (s .args .ends .now) (s .args .costs .now)) (workOf (s .args .work-u32 .now) (s .args .work-u64 .now) (s .args .work-f64 .now)) (c .before .before .before .before .before .before .before .before .before .before .before .before .before .before .before .before .before .before .before .before .before .before .before .before .before .first-refusal .result) (c .before .before .before .before .before .before .before .before .before .before .before .before .before .before .before .before .before .before .before .before .find-candidates .result) _ _ _ _ (c .before .before .before .before .before .before .before .before .before .before .before .before .before .before .before .before .before .before .before .before .before .before .before .before .before .first-refusal .ensures) (sym (c .before .before .before .before .before .before .before .before .before .before .before .before .before .before .before .before .before .before .before .before .before .before .before .before .is-fine .ensures) ∙ not-false (c .before .before .before .before .before .before .before .before .before .before .before .before .before .before .before .before .before .before .before .before .before .before .before .before .is-fine .result) (c .before .before .before .before .before .before .before .before .before .before .before .before .before .before .before .before .before .before .before .before .before .before .before .if1 .left)) (p .number) (p .entries) (p .costs) same samef,
+      record { values-fit = known .before .before .shared-slice-known .given; levels-fit = known .shared-slice-known3 .given },
+    )
 
 pub candidate-list-spec : {M : Type 1} → statement M
 candidate-list-spec =
@@ -77,7 +85,7 @@ candidate-list-spec =
     first-refusal-requires
     is-fine-requires
     returns
-    plan-candidates-requires
+    find-candidates-requires
     hand-out-requires
     same-length
     same-length-2

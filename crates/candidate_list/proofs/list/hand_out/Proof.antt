@@ -1,11 +1,13 @@
 -- `list::hand_out`: either way the three work lists are cleared after the last use.
 use borrow.Author.Needs.{needs}
-use mathlib.Core.Path.{sym, _∙_}
+use mathlib.Core.Path.{sym, ap, _∙_}
 use Prim.Native.Nat.{_*_}
 use lib.ListN.{take, drop}
 use borrow.Author.Tests.{not-true, not-false}
-use Rattle.candidates.specs.Held.{heldAt, costsAt}
-use Rattle.candidate_list.specs.CandidateListLaws.{listed-short, listed-found}
+use Rattle.base_terms.specs.Work.{workOf}
+use Rattle.candidate_walk.specs.Held.{heldAt, costsAt}
+use Rattle.candidate_list.specs.CandidateList.{outputOf}
+use Rattle.candidate_list.specs.CandidateListLaws.{out-short, out-found}
 use Rattle.candidate_list.proofs.list.hand_out.Statement.{statement}
 use Rattle.candidate_list.proofs.list.hand_out.Tie as tie
 
@@ -28,7 +30,7 @@ returns : tie.Need-returns
 returns c =
     let s = c .before .before .before .before .before .before .before .before .before .before .before .before .before .before .before .before .before in
     let e = c .before .before .before .before .before .before .clear-work .ensures in
-    listed-short (s .args .count) (take (3 * s .args .count) (drop (heldAt (s .args .frames)) (s .args .work-u32 .now))) (take (s .args .count) (drop (costsAt (s .args .frames)) (s .args .work-f64 .now))) (s .args .ends .now) (s .args .costs .now) (s .args .work-u32 .now) (s .args .work-u64 .now) (s .args .work-f64 .now) _ _ _ (e .0) (e .1 .0) (e .1 .1)
+    out-short (s .args .count) (take (3 * s .args .count) (drop (heldAt (s .args .frames)) (s .args .work-u32 .now))) (take (s .args .count) (drop (costsAt (s .args .frames)) (s .args .work-f64 .now))) (outputOf (s .args .ends .now) (s .args .costs .now)) (workOf (s .args .work-u32 .now) (s .args .work-u64 .now) (s .args .work-f64 .now)) _ e
     (sym (c .before .before .before .before .before .before .before .before .before .before .before .has-room .ensures) ∙ not-true (c .before .before .before .before .before .before .before .before .before .before .before .has-room .result) (c .before .before .before .before .before .before .before .before .before .before .if1 .taken))
 
 copy-out-requires : tie.Need-copy-out-requires
@@ -56,7 +58,7 @@ returns-2 : tie.Need-returns-2
 returns-2 c =
     let s = c .before .before .before .before .before .before .before .before .before .before .before .before .before .before .before .before .before .before .before .before .before .before .before .before .before .before in
     let e = c .before .before .before .before .before .before .clear-work2 .ensures in
-    listed-found (s .args .count) (take (3 * s .args .count) (drop (heldAt (s .args .frames)) (s .args .work-u32 .now))) (take (s .args .count) (drop (costsAt (s .args .frames)) (s .args .work-f64 .now))) (s .args .ends .now) (s .args .costs .now) (s .args .work-u32 .now) (s .args .work-u64 .now) (s .args .work-f64 .now) _ _ _ (e .0) (e .1 .0) (e .1 .1) _ _
+    out-found (s .args .count) (take (3 * s .args .count) (drop (heldAt (s .args .frames)) (s .args .work-u32 .now))) (take (s .args .count) (drop (costsAt (s .args .frames)) (s .args .work-f64 .now))) (outputOf (s .args .ends .now) (s .args .costs .now)) (workOf (s .args .work-u32 .now) (s .args .work-u64 .now) (s .args .work-f64 .now)) _ e (outputOf _ _)
     (sym (c .before .before .before .before .before .before .before .before .before .before .before .before .before .before .before .before .before .before .before .before .has-room .ensures) ∙ not-false (c .before .before .before .before .before .before .before .before .before .before .before .before .before .before .before .before .before .before .before .before .has-room .result) (c .before .before .before .before .before .before .before .before .before .before .before .before .before .before .before .before .before .before .before .if1 .left)) (c .before .before .before .before .before .before .before .before .before .before .before .before .before .before .copy-out .ensures .0) (c .before .before .before .before .before .before .before .before .before .before .before .before .before .before .copy-out .ensures .1)
 
 pub hand-out-spec : {M : Type 1} → statement M

@@ -2,13 +2,13 @@
 use borrow.Author.Needs.{needs}
 use native.Mathlib.Omega.{arith}
 use Prim.Native.Nat.{_-_}
-use Rattle.candidate_points.specs.PointsWalk.{Walking, walking-start, walking-ready, walking-next, walking-done}
+use Rattle.candidate_points.specs.PointsWalk.{HalfMarked, half-start, half-ready, half-next, half-done}
 use Rattle.candidate_points.specs.BlocksWalk.{step-after}
 use Rattle.candidate_points.proofs.points.mark_blocks.Statement.{statement}
 use Rattle.candidate_points.proofs.points.mark_blocks.Tie as tie
 
 abbrev Inv-loop : tie.InvT-loop
-Inv-loop block first last levels marks₀ k₀ marks k = Walking levels block first last marks₀ marks k
+Inv-loop block first last levels marks₀ k₀ marks k = HalfMarked levels block first last marks₀ marks k
 
 abbrev μ-loop : tie.MeasureT-loop
 μ-loop block first last levels marks₀ k₀ marks k = last - k
@@ -17,26 +17,26 @@ add-k : tie.Need-add-k Inv-loop μ-loop
 add-k c = search needs
 
 loop-holds : tie.Need-loop-holds Inv-loop μ-loop
-loop-holds c = walking-start _ _ _ _ _ (c .before .before .pre)
+loop-holds c = half-start _ _ _ _ _ (c .before .before .pre)
 
 mark-block-requires : tie.Need-mark-block-requires Inv-loop μ-loop
 mark-block-requires c κs =
     let s = c .before .before .before .before .before in
     let run = c .before .before .loop in
-    walking-ready (s .args .levels .now) (s .args .block) (s .args .first) (s .args .last) (s .args .marks .now) (run .marks) (run .k) (c .before .loop-test .taken) (run .inv)
+    half-ready (s .args .levels .now) (s .args .block) (s .args .first) (s .args .last) (s .args .marks .now) (run .marks) (run .k) (c .before .loop-test .taken) (run .inv)
 
 loop-less : tie.Need-loop-less Inv-loop μ-loop
 loop-less c =
     let s = c .before .before .before .before .before .before .before .before in
     let run = c .before .before .before .before .before .loop in
-    let r = walking-ready (s .args .levels .now) (s .args .block) (s .args .first) (s .args .last) (s .args .marks .now) (run .marks) (run .k) (c .before .before .before .before .loop-test .taken) (run .inv) in
+    let r = half-ready (s .args .levels .now) (s .args .block) (s .args .first) (s .args .last) (s .args .marks .now) (run .marks) (run .k) (c .before .before .before .before .loop-test .taken) (run .inv) in
     omega (arith, c .before .before .mark-block .ensures .0, step-after (s .args .block) (s .args .last) (run .k) (s .args .levels .now) (run .marks) r, c .before .before .before .before .loop-test .taken)
 
 loop-again : tie.Need-loop-again Inv-loop μ-loop
 loop-again c =
     let s = c .before .before .before .before .before .before .before .before in
     let run = c .before .before .before .before .before .loop in
-    walking-next (s .args .levels .now) (s .args .block) (s .args .first) (s .args .last) (s .args .marks .now) (run .marks) _ (run .k) _ (c .before .before .before .before .loop-test .taken) (c .before .before .mark-block .ensures .0) (c .before .before .mark-block .ensures .1) (run .inv)
+    half-next (s .args .levels .now) (s .args .block) (s .args .first) (s .args .last) (s .args .marks .now) (run .marks) _ (run .k) _ (c .before .before .before .before .loop-test .taken) (c .before .before .mark-block .ensures .0) (c .before .before .mark-block .ensures .1) (run .inv)
 
 same-length : tie.Need-same-length Inv-loop μ-loop
 same-length c = search needs
@@ -44,7 +44,7 @@ same-length c = search needs
 returns : tie.Need-returns Inv-loop μ-loop
 returns c =
     let s = c .before .before .before .before in
-    walking-done (s .args .levels .now) (s .args .block) (s .args .first) (s .args .last) (s .args .marks .now) (c .before .loop .marks) (c .before .loop .k) (search needs) (c .before .loop .inv)
+    half-done (s .args .levels .now) (s .args .block) (s .args .first) (s .args .last) (s .args .marks .now) (c .before .loop .marks) (c .before .loop .k) (search needs) (c .before .loop .inv)
 
 pub mark-blocks-spec : {M : Type 1} → statement M
 mark-blocks-spec =

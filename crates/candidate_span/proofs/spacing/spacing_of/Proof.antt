@@ -1,6 +1,6 @@
 -- `spacing::spacing_of` puts the parts together.
 use borrow.Author.Needs.{needs}
-use Rattle.candidate_span.specs.Spacing.{spacingOf, paddingOf}
+use Rattle.candidate_span.specs.SpacingLaws.{spacing-is}
 use Rattle.candidate_span.proofs.spacing.spacing_of.Statement.{statement}
 use Rattle.candidate_span.proofs.spacing.spacing_of.Tie as tie
 
@@ -26,8 +26,10 @@ edge-limit-requires : tie.Need-edge-limit-requires
 edge-limit-requires c κs = search needs
 
 returns : tie.Need-returns
-unfolding spacingOf paddingOf
-returns c = cc
+returns c =
+    let block = c .before .before .before .before .before .before in
+    spacing-is _ _ _ _ _ _ _ _ _ _ _ _ (block .block-of .ensures) (c .before .before .before .before .before .padding-cap .ensures) (c .before .before .before .before .frames-in .ensures)
+    (c .before .before .before .lesser .ensures) (c .before .before .frames-in2 .ensures) (c .before .lesser2 .ensures) (c .edge-limit .ensures)
 
 pub spacing-of-spec : {M : Type 1} → statement M
 spacing-of-spec =

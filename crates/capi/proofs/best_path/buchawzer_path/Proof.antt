@@ -4,6 +4,9 @@ use Rattle.capi.specs.Paths.{pathCalledOf}
 use Rattle.capi.proofs.best_path.buchawzer_path.Statement.{statement}
 use Rattle.capi.proofs.best_path.buchawzer_path.Tie as tie
 
+length-weights-requires : tie.Need-length-weights-requires
+length-weights-requires c κs = search needs
+
 mode-of-requires : tie.Need-mode-of-requires
 mode-of-requires c κs = search needs
 
@@ -40,13 +43,14 @@ same-length-5 c = search needs
 returns : tie.Need-returns
 unfolding pathCalledOf
 returns c =
-    rw (← c .before .before .before .before .before .before .before .before .before .before .before .before .before .before .before .before .before .before .before .before .before .before .mode-of .ensures, ← c .before .before .before .before .before .before .before .before .before .before .before .before .before .before .before .before .best-path .ensures)
+    rw (← c .before .before .before .before .before .before .before .before .before .before .before .before .before .before .before .before .before .before .before .before .before .before .before .length-weights .ensures, ← c .before .before .before .before .before .before .before .before .before .before .before .before .before .before .before .before .before .before .before .before .before .before .mode-of .ensures, ← c .before .before .before .before .before .before .before .before .before .before .before .before .before .before .before .before .best-path .ensures)
     (rw (c .number .ensures, c .before .cost-after .ensures, c .before .before .over-after .ensures, c .before .before .before .before .length-after .ensures))
 
 pub buchawzer-path-spec : {M : Type 1} → statement M
 buchawzer-path-spec =
     tie.close
     (tie.spec
+    length-weights-requires
     mode-of-requires
     best-path-requires
     length-after-requires

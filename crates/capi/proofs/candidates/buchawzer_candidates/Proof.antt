@@ -1,5 +1,6 @@
 -- The operation over what C handed over; its answer gives the number and the count.
 use borrow.Author.Needs.{needs}
+use Rattle.base_laws.specs.Tests.{holds}
 use Rattle.capi.specs.Candidates.{listCalledOf}
 use Rattle.capi.proofs.candidates.buchawzer_candidates.Statement.{statement}
 use Rattle.capi.proofs.candidates.buchawzer_candidates.Tie as tie
@@ -43,8 +44,18 @@ same-length-5 c = search needs
 returns : tie.Need-returns
 unfolding listCalledOf
 returns c =
-    rw (← c .before .before .before .before .before .before .before .before .before .before .before .before .before .before .before .before .before .before .before .before .before .before .recording-of .ensures, ← c .before .before .before .before .before .before .before .before .before .before .before .before .before .before .before .before .before .before .before .before .before .segment-of .ensures, ← c .before .before .before .before .before .before .before .before .before .before .before .before .before .before .before .before .before .before .before .before .weights-of .ensures, ← c .before .before .before .before .before .before .before .before .before .before .before .before .before .before .before .before .before .before .before .plan-of .ensures, ← c .before .before .before .before .before .before .before .before .before .before .before .before .before .candidate-list .ensures)
-    (rw (c .number .ensures, c .before .found-after .ensures))
+    let called = c .before .before .before .before .before .before .before .before .before .before .before .before .before in
+    let read = called .before .before .before .before .before .before in
+    let start = read .before .before .before .before .before .before .before .before .before .before .before .before in (
+      rw (
+        ← read .before .before .before .recording-of .ensures,
+        ← read .before .before .segment-of .ensures,
+        ← read .before .weights-of .ensures,
+        ← read .plan-of .ensures,
+        ← called .candidate-list .ensures .0,
+      ) (rw (c .number .ensures, c .before .found-after .ensures)),
+      (called .candidate-list .ensures .1, holds (start .good .1 .1 .1 .1 .1 .1 .1 .1 .1 .1 .1 .1 .1 .1 .1 .1 .1 .1 .1 .1 .1 .1 .1 .0 .1)),
+    )
 
 pub buchawzer-candidates-spec : {M : Type 1} → statement M
 buchawzer-candidates-spec =

@@ -2,7 +2,7 @@
 use borrow.Author.Needs.{needs}
 use borrow.Author.Tests.{not-true, not-false}
 use mathlib.Core.Path.{sym, _∙_}
-use Rattle.capi.specs.Grid.{grid-args}
+use Rattle.capi.specs.GridLaws.{grid-args}
 use Rattle.capi.proofs.convert.buchawzer_boundary.Statement.{statement}
 use Rattle.capi.proofs.convert.buchawzer_boundary.Tie as tie
 

@@ -2,7 +2,7 @@
 use borrow.Author.Needs.{needs}
 use borrow.Author.Tests.{not-true, not-false}
 use mathlib.Core.Path.{sym, _∙_}
-use Rattle.capi.specs.Grid.{frames-args}
+use Rattle.capi.specs.GridLaws.{frames-args}
 use Rattle.capi.proofs.convert.buchawzer_frames_in.Statement.{statement}
 use Rattle.capi.proofs.convert.buchawzer_frames_in.Tie as tie
 

@@ -3,7 +3,7 @@ use borrow.Author.Needs.{needs}
 use borrow.Author.Tests.{not-true, not-false}
 use mathlib.Core.Path.{sym, _∙_}
 use lib.Ieee.{ofBits, neg}
-use Rattle.capi.specs.Grid.{samples-args}
+use Rattle.capi.specs.GridLaws.{samples-args}
 use Rattle.capi.proofs.convert.buchawzer_samples_in.Statement.{statement}
 use Rattle.capi.proofs.convert.buchawzer_samples_in.Tie as tie
 

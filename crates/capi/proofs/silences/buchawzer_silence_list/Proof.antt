@@ -1,6 +1,6 @@
 -- The operation over what C handed over; its answer gives the number and the count.
 use borrow.Author.Needs.{needs}
-use Rattle.capi.specs.Silences.{calledOf}
+use Rattle.capi.specs.Silences.{silencesCalledOf}
 use Rattle.capi.proofs.silences.buchawzer_silence_list.Statement.{statement}
 use Rattle.capi.proofs.silences.buchawzer_silence_list.Tie as tie
 
@@ -32,7 +32,7 @@ same-length-4 : tie.Need-same-length-4
 same-length-4 c = search needs
 
 returns : tie.Need-returns
-unfolding calledOf
+unfolding silencesCalledOf
 returns c =
     rw (← c .before .before .before .before .before .before .before .before .before .before .before .before .before .before .before .before .before .recording-of .ensures, ← c .before .before .before .before .before .before .before .before .before .before .before .before .before .before .before .before .segment-of .ensures, ← c .before .before .before .before .before .before .before .before .before .before .before .silence-list .ensures)
     (rw (c .number .ensures, c .before .count-after .ensures))

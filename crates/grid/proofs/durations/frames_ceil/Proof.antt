@@ -1,40 +1,26 @@
+-- Product and divisor fit in 64 bits together, and the divisor is not 0.
 use native.Mathlib.Nat.{mul-le-mul}
 use Rattle.grid.specs.Durations.{framesCeil}
 use borrow.Author.Needs.{needs}
 use native.Mathlib.Omega.{arith}
-use mathlib.Core.Path.{_≡_, refl, sym, ap, subst, _∙_}
-use mathlib.Core.Logic.{⊎-elim}
-use mathlib.Core.List.{List, [], _∷_, _++_}
-use Prim.Native.Nat.{ℕ, zero, suc, _+_, _-_, _*_, _≤_, _<_, min}
-use native.Mathlib.Numerals.{add-one}
-use lib.ListN.{length, getD, take, drop, set, replicate, length-append, length-take, length-drop, length-set, length-replicate}
 use Rattle.grid.proofs.durations.frames_ceil.Statement.{statement}
 use Rattle.grid.proofs.durations.frames_ceil.Tie as tie
-use Rattle.grid.proofs.durations.frames_ceil.Reads as reads
-use Rattle.grid.proofs.durations.frames_ceil.Lts as lts
-use Rattle.grid.proofs.durations.product.Reads as product-reads
 
--- src/durations.rt:32:15
 mul-den : tie.Need-mul-den
 mul-den c = search needs
 
--- src/durations.rt:33:6
 product-requires : tie.Need-product-requires
 product-requires c κs = search needs
 
--- src/durations.rt:33:36
 sub-result : tie.Need-sub-result
 sub-result c = search needs
 
--- src/durations.rt:33:6
 add-result : tie.Need-add-result
 add-result c = omega (arith, mul-le-mul (c .before .pre .time) (c .before .pre .rate))
 
--- src/durations.rt:33:5
 div-result : tie.Need-div-result
 div-result c = search needs
 
--- src/durations.rt:28:1
 returns : tie.Need-returns
 unfolding framesCeil
 returns c = cc

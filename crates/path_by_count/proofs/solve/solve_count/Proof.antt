@@ -27,7 +27,7 @@ best-score-requires : tie.Need-best-score-requires
 best-score-requires c κs =
     let start = c .before .before .before .before .before .before .before .before .before .before .before in
     let e = c .before .before .before .before .lesser .ensures in
-    (start .pre .0, ((omega (arith, c .before .before .before .if1 .left), omega (arith, e, start .pre .0 .lent .candidates .some)), rw e (start .pre .1 .1 .0)))
+    (start .pre .0, ((omega (arith, c .before .before .before .if1 .left), omega (arith, e, start .pre .0 .domain .candidates .some)), rw e (start .pre .1 .1 .0)))
 
 walk-requires : tie.Need-walk-requires
 walk-requires c κs = search needs

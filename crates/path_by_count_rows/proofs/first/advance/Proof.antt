@@ -1,7 +1,8 @@
 -- `first::advance` goes past each candidate whose piece is over the limit, so the first that passes stays the same.
 use denote.Ref.{now}
 use Rattle.path_by_count_rows.specs.First.{firstPassing}
-use Rattle.path_by_count_rows.specs.FirstLaws.{first-none, first-here, first-after, within-yes, within-no}
+use Rattle.path_by_count_rows.specs.FirstLaws.{first-none, first-here, first-after, within-no}
+use Rattle.path_pieces.specs.PredecessorLaws.{within-yes}
 use Rattle.path_pieces.specs.Pieces.{pieceLength, isWithin}
 use Rattle.path_pieces.specs.DomainLaws.{ends-rise}
 use borrow.Author.Needs.{needs}

@@ -51,7 +51,8 @@ returns c =
     let ready = start .pre in
     let e = ready .laid .firsts (start .args .j) (ready .inside) in
     predecessor-by (start .args .lengths) (now (start .args .left)) (now (start .args .right)) (start .args .leaves) (now (start .args .over)) (now (start .args .cost))
-    (start .args .k) (start .args .j) (c .before .before .larger .result) (c .least-predecessor .result) (rw e at (c .before .before .larger .ensures)) (c .least-predecessor .ensures)
+    (start .args .k) (start .args .j) (c .before .before .larger .result) (c .least-predecessor .result)
+    (ready .laid .domain .candidates) (ready .some) (ready .reached) (ready .inside) (rw e at (c .before .before .larger .ensures)) (c .least-predecessor .ensures)
 
 pub predecessor-spec : {M : Type 1} → statement M
 predecessor-spec =

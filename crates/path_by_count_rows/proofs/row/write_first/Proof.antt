@@ -43,7 +43,7 @@ first-score-requires : tie.Need-first-score-requires Inv-loop μ-loop
 first-score-requires c κs =
     let start = c .before .before .before .before .before .before .before .before .before in
     let at = c .before .before .before .loop in
-    (rw (behind-part (length (now (start .args .left))) (at .cost), first-cuts (start .pre .0) (at .inv .5)) (start .pre .0 .lent), search needs)
+    (rw (behind-part (length (now (start .args .left))) (at .cost), first-cuts (start .pre .0) (at .inv .5)) (start .pre .0 .domain), search needs)
 
 add-over : tie.Need-add-over Inv-loop μ-loop
 add-over c = search needs

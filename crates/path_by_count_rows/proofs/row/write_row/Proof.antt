@@ -57,19 +57,19 @@ add-cut-at-requires c κs =
     (omega (arith, at .inv .1, at .inv .2))
 
 add-over : tie.Need-add-over Inv-loop μ-loop
-add-over c = let laid = c .before .before .before .before .before .before .before .before .before .before .before .before .before .pre .0 .laid in omega (arith, laid .overs, tree-size laid, laid .tree .enough, laid .lent .candidates .few, c .before .before .before .before .before .before .before .loop .inv .2, c .before .before .before .before .before .before .before .loop .inv .1)
+add-over c = let laid = c .before .before .before .before .before .before .before .before .before .before .before .before .before .pre .0 .laid in omega (arith, laid .overs, tree-size laid, laid .tree .enough, laid .domain .candidates .few, c .before .before .before .before .before .before .before .loop .inv .2, c .before .before .before .before .before .before .before .loop .inv .1)
 
 mul-over : tie.Need-mul-over Inv-loop μ-loop
-mul-over c = let laid = c .before .before .before .before .before .before .before .before .before .before .before .before .before .pre .0 .laid in omega (arith, laid .overs, tree-size laid, laid .tree .enough, laid .lent .candidates .few, c .before .before .before .before .before .before .before .loop .inv .2, c .before .before .before .before .before .before .before .loop .inv .1)
+mul-over c = let laid = c .before .before .before .before .before .before .before .before .before .before .before .before .before .pre .0 .laid in omega (arith, laid .overs, tree-size laid, laid .tree .enough, laid .domain .candidates .few, c .before .before .before .before .before .before .before .loop .inv .2, c .before .before .before .before .before .before .before .loop .inv .1)
 
 slice-write-over : tie.Need-slice-write-over Inv-loop μ-loop
 slice-write-over c = let laid = c .before .before .before .before .before .before .before .before .before .before .before .before .before .pre .0 .laid in omega (arith, laid .overs, tree-size laid, laid .tree .enough, c .before .before .before .before .before .before .before .loop .inv .2, c .before .before .before .before .before .before .before .loop .inv .3)
 
 add-cost : tie.Need-add-cost Inv-loop μ-loop
-add-cost c = let laid = c .before .before .before .before .before .before .before .before .before .before .before .before .before .pre .0 .laid in omega (arith, laid .overs, tree-size laid, laid .tree .enough, laid .lent .candidates .few, c .before .before .before .before .before .before .before .loop .inv .2, c .before .before .before .before .before .before .before .loop .inv .1)
+add-cost c = let laid = c .before .before .before .before .before .before .before .before .before .before .before .before .before .pre .0 .laid in omega (arith, laid .overs, tree-size laid, laid .tree .enough, laid .domain .candidates .few, c .before .before .before .before .before .before .before .loop .inv .2, c .before .before .before .before .before .before .before .loop .inv .1)
 
 mul-cost : tie.Need-mul-cost Inv-loop μ-loop
-mul-cost c = let laid = c .before .before .before .before .before .before .before .before .before .before .before .before .before .pre .0 .laid in omega (arith, laid .overs, tree-size laid, laid .tree .enough, laid .lent .candidates .few, c .before .before .before .before .before .before .before .loop .inv .2, c .before .before .before .before .before .before .before .loop .inv .1)
+mul-cost c = let laid = c .before .before .before .before .before .before .before .before .before .before .before .before .before .pre .0 .laid in omega (arith, laid .overs, tree-size laid, laid .tree .enough, laid .domain .candidates .few, c .before .before .before .before .before .before .before .loop .inv .2, c .before .before .before .before .before .before .before .loop .inv .1)
 
 slice-write-cost : tie.Need-slice-write-cost Inv-loop μ-loop
 slice-write-cost c = let laid = c .before .before .before .before .before .before .before .before .before .before .before .before .before .pre .0 .laid in omega (arith, laid .costs, tree-size laid, laid .tree .enough, c .before .before .before .before .before .before .before .loop .inv .2, c .before .before .before .before .before .before .before .loop .inv .4)
@@ -79,7 +79,7 @@ cast-row c =
     let start = c .before .before .before .before .before .before .before .before .before .before .before .before .before .before in
     let at = c .before .before .before .before .before .before .before .before .loop in
     let ready = written-ready (start .pre .0) (start .pre .1 .0 .0) (at .inv .0) (at .inv .6) (at .j - 1) (omega arith) (omega arith) (omega (arith, at .inv .2)) in
-    omega (arith, predecessor-high (c .before .before .before .before .predecessor .result) ready (c .before .before .before .before .predecessor .ensures), start .pre .0 .laid .lent .candidates .few, at .inv .1, at .inv .2)
+    omega (arith, predecessor-high (c .before .before .before .before .predecessor .result) ready (c .before .before .before .before .predecessor .ensures), start .pre .0 .laid .domain .candidates .few, at .inv .1, at .inv .2)
 
 mul-row : tie.Need-mul-row Inv-loop μ-loop
 mul-row c = search needs

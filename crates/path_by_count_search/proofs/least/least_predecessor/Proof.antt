@@ -1,10 +1,11 @@
 -- `least::least_predecessor` meets its contract on both ways: the scan by its own, the search over the tree by the theorem that it gives the plain least.
 use denote.Ref.{now}
 use Rattle.base_terms.specs.Floats.{nonneg}
+use Rattle.path_pieces.specs.Pieces.{withPiece, lengthCostOf}
 use Rattle.path_pieces.specs.declared.score.Score.{Score}
 use lib.Dec.{T}
 use Rattle.path_by_count_search.specs.Starts.{arrivalAt}
-use Rattle.path_by_count_search.specs.StartsLaws.{start-at, arrival-nonneg}
+use Rattle.path_by_count_search.specs.StartsLaws.{start-at, arrival-nonneg, starts-held}
 use Rattle.path_by_count_search.specs.Theorems.{visit-is-least}
 use borrow.Author.Needs.{needs}
 use native.Mathlib.Omega.{arith}
@@ -34,9 +35,10 @@ score-from-requires c κs = let start = c .before .before .before .before in sta
 seek-requires : tie.Need-seek-requires
 seek-requires c κs =
     let start = c .before .before .before .before .before in
-    (start .pre .0, (start .pre .1 .0, (start .pre .1 .1 .1, subst (λ (s : Score). T (nonneg (s .cost))) (sym (c .score-from .ensures)) (arrival-nonneg (start .pre .0) (start .args .to - 1) (omega arith)))))
+    (starts-held (start .pre .0), (start .pre .1 .0, (start .pre .1 .1 .1, subst (λ (s : Score). T (nonneg (s .cost))) (sym (c .score-from .ensures)) (arrival-nonneg (start .pre .0) (start .args .to - 1) (omega arith)))))
 
 returns-2 : tie.Need-returns-2
+unfolding withPiece lengthCostOf
 returns-2 c =
     let start = c .before .before .before .before .before .before in
     visit-is-least (arrivalAt (start .args .lengths) (now (start .args .right)) (now (start .args .over)) (now (start .args .cost)) (start .args .leaves) (start .args .end))

@@ -6,7 +6,7 @@ use Prim.Native.Nat.{_-_, _≤_}
 use native.Mathlib.Nat.{le-refl}
 use Rattle.path_pieces.specs.Pieces.{pieceLength}
 use Rattle.path_pieces.specs.DomainLaws.{ends-rise, piece-bounded}
-use Rattle.path_by_length.specs.PredecessorLaws.{within-yes}
+use Rattle.path_pieces.specs.PredecessorLaws.{within-yes}
 use Rattle.path_by_length.specs.Backward.{Walked, Long}
 use Rattle.path_by_length.specs.BackwardLaws.{score-number, walked-next, walked-stop, walked-done, long-part}
 use Rattle.path_by_length.proofs.backward.long_pieces.Statement.{statement}
@@ -19,7 +19,7 @@ abbrev μ-loop : tie.MeasureT-loop
 μ-loop j from left right lengths over cost limit best₀ i₀ best i = i
 
 loop-holds : tie.Need-loop-holds Inv-loop μ-loop
-loop-holds c = let pre = c .before .before .before .before .before .pre .1 .1 .1 in (pre .0 .walking .0, pre .0, pre .1)
+loop-holds c = let pre = c .before .before .before .before .before .pre .1 .1 .1 in (pre .0 .so-far .0, pre .0, pre .1)
 
 sub-k : tie.Need-sub-k Inv-loop μ-loop
 sub-k c = search needs

@@ -19,7 +19,7 @@ abbrev μ-loop : tie.MeasureT-loop
 μ-loop j from left right lengths over cost limit best₀ i₀ best i = i
 
 loop-holds : tie.Need-loop-holds Inv-loop μ-loop
-loop-holds c = let w = c .before .before .before .before .before .pre .1 .1 in (w .walking .0, w)
+loop-holds c = let w = c .before .before .before .before .before .pre .1 .1 in (w .so-far .0, w)
 
 sub-k : tie.Need-sub-k Inv-loop μ-loop
 sub-k c = search needs

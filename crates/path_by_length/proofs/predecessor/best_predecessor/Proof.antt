@@ -6,7 +6,7 @@ use mathlib.Core.Path.{sym, _∙_}
 use Prim.Native.Nat.{_-_}
 use Rattle.path_pieces.specs.Pieces.{pieceLength, scoreAt}
 use Rattle.path_pieces.specs.DomainLaws.{ends-rise, piece-bounded}
-use Rattle.path_by_length.specs.PredecessorLaws.{predecessor-within, predecessor-nearest, predecessor-nothing}
+use Rattle.path_pieces.specs.PredecessorLaws.{predecessor-within, predecessor-nearest, predecessor-nothing}
 use Rattle.path_by_length.specs.BackwardLaws.{walked-first}
 use Rattle.path_by_length.proofs.predecessor.best_predecessor.Statement.{statement}
 use Rattle.path_by_length.proofs.predecessor.best_predecessor.Tie as tie
@@ -79,7 +79,7 @@ returns-3 : tie.Need-returns-3
 unfolding pieceLength
 returns-3 c =
     let start = c .before .before .before .before .before .before .before .before .before .before .before .before .before .before in
-    c .before .long-parts .ensures .walking .2
+    c .before .long-parts .ensures .so-far .2
     ∙ sym (predecessor-within (start .args .lengths) (start .args .left .now) (start .args .right .now) (scoreAt (start .args .over .now) (start .args .cost .now))
     (start .args .from) (start .args .j) (start .pre .0 .candidates) (start .pre .0 .inside) (c .before .before .before .if2 .left))
 

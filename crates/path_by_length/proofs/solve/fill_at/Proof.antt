@@ -53,7 +53,7 @@ slice-write-over c = search needs
 cast-over : tie.Need-cast-over
 cast-over c =
     let start = c .before .before .before .before .before .before .before .before .before .before .before .before .before in
-    omega (arith, ready-below (start .pre) _ _ (sym (c .before .before .before .before .found .given .1) ∙ c .before .before .before .before .before .before .best-predecessor .ensures), start .pre .inside, start .pre .room .lent .candidates .few)
+    omega (arith, ready-below (start .pre) _ _ (sym (c .before .before .before .before .found .given .1) ∙ c .before .before .before .before .before .before .best-predecessor .ensures), start .pre .inside, start .pre .room .domain .candidates .few)
 
 add-over : tie.Need-add-over
 add-over c = search needs

@@ -26,7 +26,7 @@ mul-over : tie.Need-mul-over Inv-loop μ-loop
 mul-over c = search needs
 
 slice-write-over-2 : tie.Need-slice-write-over-2 Inv-loop μ-loop
-slice-write-over-2 c = let start = c .before .before .before .before in simp length-set (omega (arith, start .pre .lent .candidates .some, start .pre .overs))
+slice-write-over-2 c = let start = c .before .before .before .before in simp length-set (omega (arith, start .pre .domain .candidates .some, start .pre .overs))
 
 slice-write-cost : tie.Need-slice-write-cost Inv-loop μ-loop
 slice-write-cost c = search needs
@@ -34,7 +34,7 @@ slice-write-cost c = search needs
 loop-holds : tie.Need-loop-holds Inv-loop μ-loop
 loop-holds c =
     let start = c .before .before .before .before in
-    (omega arith, start .pre .lent .candidates .some, filled-first (start .pre) (ofBits binary64 0) (nought-is binary64))
+    (omega arith, start .pre .domain .candidates .some, filled-first (start .pre) (ofBits binary64 0) (nought-is binary64))
 
 fill-at-requires : tie.Need-fill-at-requires Inv-loop μ-loop
 fill-at-requires c κs =

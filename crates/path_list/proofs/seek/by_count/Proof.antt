@@ -3,7 +3,7 @@ use denote.Ref.{now}
 use Rattle.path_by_length.specs.ByCount.{bestPathByCount, bestScoreByCount}
 use Rattle.path_by_length.specs.CountTheorems.{count-allowed}
 use Rattle.path_by_count_rows.specs.Rows.{behind}
-use Rattle.path_list.specs.OperationLaws.{handed-short, handed-found}
+use Rattle.path_list.specs.SeekLaws.{handed-short, handed-found}
 use borrow.Author.Needs.{needs}
 use native.Mathlib.Omega.{arith}
 use Prim.Native.Nat.{_-_}
@@ -25,7 +25,7 @@ returns c =
     let right = now (start .args .right) in
     let cut = behind (length left) (now (start .args .cost)) in
     let count = start .args .count in
-    let len = count-allowed (start .pre .0 .lent) count (start .pre .1 .0) .1 in
+    let len = count-allowed (start .pre .0 .domain) count (start .pre .1 .0) .1 in
     handed-short (bestPathByCount l left right cut count) (bestScoreByCount l left right cut count) (now (start .args .path)) (omega (arith, len, c .before .lesser .ensures, c .if1 .taken))
 
 solve-count-requires : tie.Need-solve-count-requires
@@ -53,7 +53,7 @@ returns-2 c =
     let right = now (start .args .right) in
     let cut = behind (length left) (now (start .args .cost)) in
     let count = start .args .count in
-    let len = count-allowed (start .pre .0 .lent) count (start .pre .1 .0) .1 in
+    let len = count-allowed (start .pre .0 .domain) count (start .pre .1 .0) .1 in
     let solved = c .before .before .before .before .before .before .before .before .solve-count .ensures in
     handed-found (bestPathByCount l left right cut count) (bestScoreByCount l left right cut count) (now (start .args .path)) _ (c .before .before .before .before .before .before .before .before .solve-count .result)
     (omega (arith, len, c .before .before .before .before .before .before .before .before .before .before .before .before .before .before .lesser .ensures, c .before .before .before .before .before .before .before .before .before .before .before .before .before .if1 .left)) (solved .score) (solved .count-is) (solved .written)

@@ -2,7 +2,7 @@
 use denote.Ref.{now}
 use Rattle.path_pieces.specs.declared.mode.Mode.{Mode}
 use Rattle.path_pieces.specs.declared.mode.Mode.the-variants.{ByLength}
-use Rattle.path_list.specs.OperationLaws.{size-fits, length-cuts, length-room, count-cuts, count-room, sought-length, sought-short, sought-count}
+use Rattle.path_list.specs.SeekLaws.{size-fits, length-cuts, length-room, count-cuts, count-room, sought-length, sought-short, sought-count}
 use borrow.Author.Needs.{needs}
 use native.Mathlib.Omega.{arith}
 use mathlib.Core.Path.{_≡_, _∙_}
@@ -38,8 +38,8 @@ by-length-requires c κs = rw (c .before .before .before .before .before .copy-f
 enum-known-mode : tie.Need-enum-known-mode
 enum-known-mode c = search needs
 
-cast-lesser : tie.Need-cast-lesser
-cast-lesser c = search needs
+cast-count : tie.Need-cast-count
+cast-count c = search needs
 
 sub-lesser : tie.Need-sub-lesser
 sub-lesser c = search needs
@@ -78,9 +78,6 @@ part-copy-f64-end-2 c = search needs
 copy-f64-requires-2 : tie.Need-copy-f64-requires-2
 copy-f64-requires-2 c κs = search needs
 
-cast-by-count : tie.Need-cast-by-count
-cast-by-count c = search needs
-
 by-count-requires : tie.Need-by-count-requires
 by-count-requires c κs =
     let start = c .before .before .before .before .before .before .before .before .before .before .before .before .before .before .before .before .before .before .before .before in
@@ -98,7 +95,7 @@ same-length-3 c = search needs
 returns-2 : tie.Need-returns-2
 returns-2 c =
     let start = c .before .before .before .before .before .before .before .before .before .before .before .before .before .before .before .before .before .before .before .before .before .before .before in
-    let e : _≡_ {A = Mode} (start .args .mode) ByLength = cc in
+    let e : _≡_ {A = Mode} (start .args .mode) ByLength = c .before .before .before .before .before .before .before .before .before .before .before .before .before .before .enum-told .given .1 in
     rw e ((rw (c .before .before .before .before .before .before .before .before .before .before .before .before .copy-f64 .ensures, length-cuts (start .pre)) at (c .before .before .before .before .before .before .by-length .ensures)) ∙ sought-length (start .args .lengths) (now (start .args .left)) (now (start .args .right)) (now (start .args .cost)) (length (now (start .args .parent))) (now (start .args .path)))
 
 same-length-4 : tie.Need-same-length-4
@@ -134,7 +131,7 @@ seek-spec =
     copy-f64-requires
     by-length-requires
     enum-known-mode
-    cast-lesser
+    cast-count
     sub-lesser
     lesser-requires
     mul-if1
@@ -146,7 +143,6 @@ seek-spec =
     part-copy-f64-start-2
     part-copy-f64-end-2
     copy-f64-requires-2
-    cast-by-count
     by-count-requires
     same-length
     same-length-2

@@ -6,11 +6,11 @@ use Rattle.path_tests.proofs.costs.is_min.Tie as tie
 
 returns : tie.Need-returns
 unfolding isMin ofBits
-returns c = (rw (c .if1 .taken), c .before .good .0 .1)
+returns c = rw (c .if1 .taken)
 
 returns-2 : tie.Need-returns-2
 unfolding isMin ofBits
-returns-2 c = (rw (c .if1 .left), c .before .good .0 .1)
+returns-2 c = rw (c .if1 .left)
 
 pub is-min-spec : {M : Type 1} → statement M
 is-min-spec = tie.close (tie.spec returns returns-2)

@@ -4,7 +4,7 @@ use Rattle.base_code.specs.Elements.{all-at}
 use Rattle.grid.specs.Values.{isFinite}
 use Rattle.grid.specs.ValuesLaws.{value-number}
 use Rattle.silence_levels.specs.KeysLaws.{Collecting, collecting-next, collecting-skip, collecting-done}
-use Rattle.silence_levels.specs.Keys.{kept}
+use Rattle.silence_levels.specs.Keys.{withSignal}
 use borrow.Author.Needs.{needs}
 use mathlib.Core.Logic.{⊎-elim}
 use Prim.Native.Nat.{_-_}
@@ -18,7 +18,7 @@ abbrev μ-loop : tie.MeasureT-loop
 μ-loop values flags keys₀ n₀ i₀ i-end keys n i = i-end - i
 
 loop-holds : tie.Need-loop-holds Inv-loop μ-loop
-unfolding kept
+unfolding withSignal
 loop-holds c = search needs
 
 shared-slice-read-if1 : tie.Need-shared-slice-read-if1 Inv-loop μ-loop

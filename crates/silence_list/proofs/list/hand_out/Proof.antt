@@ -4,7 +4,7 @@ use borrow.Author.Needs.{needs}
 use native.Mathlib.Omega.{arith}
 use mathlib.Core.Path.{sym}
 use lib.ListN.{take}
-use Rattle.silence_list.specs.SilencesLaws.{listed-short, listed-found}
+use Rattle.silence_list.specs.SilencesLaws.{handed-short, handed-found}
 use Rattle.silence_list.proofs.list.hand_out.Statement.{statement}
 use Rattle.silence_list.proofs.list.hand_out.Tie as tie
 
@@ -23,8 +23,7 @@ same-length-3 c = search needs
 returns : tie.Need-returns
 returns c =
     let s = c .before .before .before .before .before .before .before .before .before .before .before .before .before .before .before in
-    let e = c .before .before .before .before .before .before .clear-work .ensures in
-    listed-short (take (s .args .n) (s .args .work-u32 .now)) (s .args .out .now) (s .args .work-u32 .now) (s .args .work-u64 .now) (s .args .work-f64 .now) _ _ _ (e .0) (e .1 .0) (e .1 .1)
+    handed-short _ _ _ _ (c .before .before .before .before .before .before .clear-work .ensures)
     (omega (arith, length-take-le (c .before .before .before .before .before .before .before .before .before .before .before .before .before .before .before .args .n) (c .before .before .before .before .before .before .before .before .before .before .before .before .before .before .before .args .work-u32 .now) (c .before .before .before .before .before .before .before .before .before .before .before .before .before .before .before .pre), c .before .before .before .before .before .before .before .before .before .before .if1 .taken))
 
 slice-reshare-prefix-put-front : tie.Need-slice-reshare-prefix-put-front
@@ -54,9 +53,8 @@ same-length-7 c = search needs
 returns-2 : tie.Need-returns-2
 returns-2 c =
     let s = c .before .before .before .before .before .before .before .before .before .before .before .before .before .before .before .before .before .before .before .before in
-    let e = c .before .before .before .before .before .before .clear-work2 .ensures in
-    listed-found (take (s .args .n) (s .args .work-u32 .now)) (s .args .out .now) (s .args .work-u32 .now) (s .args .work-u64 .now) (s .args .work-f64 .now) _ _ _ (e .0) (e .1 .0) (e .1 .1) (s .args .n) _
-    (length-take-le (c .before .before .before .before .before .before .before .before .before .before .before .before .before .before .before .before .before .before .before .before .args .n) (c .before .before .before .before .before .before .before .before .before .before .before .before .before .before .before .before .before .before .before .before .args .work-u32 .now) (c .before .before .before .before .before .before .before .before .before .before .before .before .before .before .before .before .before .before .before .before .pre)) (c .before .before .before .before .before .before .before .before .before .before .before .before .before .before .before .if1 .left) (c .before .before .before .before .before .before .before .before .before .before .before .before .put-front .ensures)
+    handed-found _ _ _ _ (c .before .before .before .before .before .before .clear-work2 .ensures) (s .args .n) _
+    (length-take-le (s .args .n) (s .args .work-u32 .now) (s .pre)) (c .before .before .before .before .before .before .before .before .before .before .before .before .before .before .before .if1 .left) (c .before .before .before .before .before .before .before .before .before .before .before .before .put-front .ensures)
 
 pub hand-out-spec : {M : Type 1} → statement M
 hand-out-spec =

@@ -1,59 +1,80 @@
 -- A refusal touches nothing; else the silences stand at the front of the first work list, which keeps its length, and are handed out.
-use borrow.Author.Tests.{not-true, not-false}
+use Rattle.silence_list.specs.Refusal.{firstRefusalOf}
+use Rattle.silence_list.specs.RefusalLaws.{fine-ready}
+use Rattle.silence_list.specs.SilencesLaws.{front-fits, list-refused, list-front}
+use Rattle.silence_list.specs.declared.refusal.Verdict.the-variants.{Fine}
 use borrow.Author.Needs.{needs}
-use mathlib.Core.Path.{_≡_, sym, ap, _∙_}
-use lib.ListN.{length}
-use Rattle.silence_list.specs.Silences.{isFound}
-use Rattle.silence_list.specs.SilencesLaws.{found-ready, work-room, front-fits, ends-refused, ends-front}
+use native.Mathlib.Omega.{arith}
+use mathlib.Core.Path.{_≡_, refl, sym, ap, subst, _∙_}
+use mathlib.Core.Logic.{⊎-elim}
+use mathlib.Core.List.{List, [], _∷_, _++_}
+use Prim.Native.Nat.{ℕ, zero, suc, _+_, _-_, _*_, _≤_, _<_, min}
+use native.Mathlib.Numerals.{add-one}
+use lib.ListN.{length, getD, take, drop, set, replicate, length-append, length-take, length-drop, length-set, length-replicate}
 use Rattle.silence_list.proofs.list.silence_list.Statement.{statement}
 use Rattle.silence_list.proofs.list.silence_list.Tie as tie
+use Rattle.silence_list.proofs.list.silence_list.Reads as reads
+use Rattle.silence_list.proofs.list.silence_list.Lts as lts
+use Rattle.silence_list.proofs.list.hand_out.Reads as hand-out-reads
+use Rattle.silence_list.proofs.list.silences_in.Reads as silences-in-reads
+use Rattle.silence_list.proofs.refusal.first_refusal.Reads as first-refusal-reads
 
+-- src/list.rt:107:9
 first-refusal-requires : tie.Need-first-refusal-requires
 first-refusal-requires c κs = search needs
 
-is-found-requires : tie.Need-is-found-requires
-is-found-requires c κs = search needs
+-- src/list.rt:108:27
+enum-known-verdict : tie.Need-enum-known-verdict
+enum-known-verdict c = search needs
 
+-- src/list.rt:109:9
 returns : tie.Need-returns
-returns c =
-    let s = c .before .before .before .before .before .before .before .before .before .before in
-    ends-refused (s .args .r) (s .args .c) (s .args .values .now) (s .args .flags .now) (s .args .levels .now) (s .args .out .now) (s .args .work-u32 .now) (s .args .work-u64 .now) (s .args .work-f64 .now) (c .before .before .first-refusal .result) (c .before .before .first-refusal .ensures) (sym (c .before .is-found .ensures) ∙ not-true (c .before .is-found .result) (c .if1 .taken))
+returns c = list-refused _ _ _ _ _ _ _ _ (cc)
 
+enum-told : tie.Need-enum-told
+enum-told c = search needs
+
+-- src/list.rt:111:9
 silences-in-requires : tie.Need-silences-in-requires
 silences-in-requires c κs =
-    let s = c .before .before .before .before .before .before .before .before .before .before .before in
-    let p = found-ready (s .args .r) (s .args .c) (s .args .values .now) (s .args .flags .now) (s .args .levels .now) (length (s .args .work-u32 .now)) (length (s .args .work-u64 .now)) (length (s .args .work-f64 .now)) (sym (ap isFound (c .before .before .before .first-refusal .ensures)) ∙ sym (c .before .before .is-found .ensures) ∙ not-false (c .before .before .is-found .result) (c .before .if1 .left)) in
-    (p .0, work-room (length (s .args .values .now)) (length (s .args .work-u32 .now)) (length (s .args .work-u64 .now)) (length (s .args .work-f64 .now)) (p .1))
+    let p = fine-ready _ _ _ _ _ _ _ _ (sym (c .before .before .before .first-refusal .ensures) ∙ c .before .enum-told .given .1) in
+    (p .0, omega (arith, p .1 .enough32))
 
 hand-out-requires : tie.Need-hand-out-requires
-hand-out-requires c κs = front-fits (c .before .before .before .before .before .before .silences-in .result) (c .before .before .before .before .before .before .silences-in .last .1 .1 .1 .1 .0) _ (c .before .before .before .before .before .before .silences-in .ensures .0) (c .before .before .before .before .before .before .silences-in .ensures .1)
+hand-out-requires c κs = omega (arith, front-fits _ _ _ (c .before .before .before .before .before .before .silences-in .ensures .0) (c .before .before .before .before .before .before .silences-in .ensures .1))
 
+-- src/list.rt:86:1
 same-length : tie.Need-same-length
 same-length c = search needs
 
+-- src/list.rt:86:1
 same-length-2 : tie.Need-same-length-2
 same-length-2 c = search needs
 
+-- src/list.rt:86:1
 same-length-3 : tie.Need-same-length-3
 same-length-3 c = search needs
 
+-- src/list.rt:86:1
 same-length-4 : tie.Need-same-length-4
 same-length-4 c = search needs
 
+-- src/list.rt:86:1
 returns-2 : tie.Need-returns-2
 returns-2 c =
-    let s = c .before .before .before .before .before .before .before .before .before .before .before .before .before .before .before .before .before .before .before .before .before .before .before .before .before .before .before in
-    let front = c .before .before .before .before .before .before .before .before .before .before .before .before .before .before .before .silences-in .last .1 .1 .1 .1 .0 in
-    let same : length (c .before .before .before .before .before .before .before .before .before .before .before .before .before .before .before .silences-in .last .1 .1 .1 .1 .0) ≡ length (s .args .work-u32 .now) = search needs in
-    c .before .before .before .before .before .before .before .before .hand-out .ensures ∙ ends-front (s .args .r) (s .args .c) (s .args .values .now) (s .args .flags .now) (s .args .levels .now) (s .args .out .now) (s .args .work-u32 .now) (s .args .work-u64 .now) (s .args .work-f64 .now) front (c .before .before .before .before .before .before .before .before .before .before .before .before .before .before .before .silences-in .result) same (c .before .before .before .before .before .before .before .before .before .before .before .before .before .before .before .silences-in .ensures .1) (sym (ap isFound (c .before .before .before .before .before .before .before .before .before .before .before .before .before .before .before .before .before .before .before .first-refusal .ensures)) ∙ sym (c .before .before .before .before .before .before .before .before .before .before .before .before .before .before .before .before .before .before .is-found .ensures) ∙ not-false (c .before .before .before .before .before .before .before .before .before .before .before .before .before .before .before .before .before .before .is-found .result) (c .before .before .before .before .before .before .before .before .before .before .before .before .before .before .before .before .before .if1 .left))
+    let found = c .before .before .before .before .before .before .before .before .before .before .before .before .before .before .before in
+    let same : length (c .before .before .before .before .before .before .before .before .before .before .before .before .before .before .before .silences-in .last .1 .1 .1 .1 .0) ≡ length (c .before .before .before .before .before .before .before .before .before .before .before .before .before .before .before .before .before .before .before .before .before .before .before .before .before .before .before .args .work-u32 .now) = search needs in
+    let fine = sym (found .before .before .enum-told .given .1) ∙ found .before .before .before .before .first-refusal .ensures in
+    c .before .before .before .before .before .before .before .before .hand-out .ensures ∙ list-front _ _ _ _ _ _ _ (found .silences-in .last .1 .1 .1 .1 .0) (found .silences-in .result) same (found .silences-in .ensures .1) fine
 
 pub silence-list-spec : {M : Type 1} → statement M
 silence-list-spec =
     tie.close
     (tie.spec
     first-refusal-requires
-    is-found-requires
+    enum-known-verdict
     returns
+    enum-told
     silences-in-requires
     hand-out-requires
     same-length

@@ -5,7 +5,7 @@ use mathlib.Core.Path.{sym, _∙_}
 use mathlib.Core.Logic.{⊎-elim}
 use Prim.Native.Nat.{_-_}
 use lib.ListN.{length}
-use Rattle.silence_runs.specs.OnePassWalk.{Passing, passing-start, sought-within, turn-of, turn-sound, turn-start, passing-less, passing-short, passing-room, passing-gap, passing-long, passing-last-room, passing-done}
+use Rattle.silence_runs.specs.OnePassWalk.{Passing, passing-start, sought-within, turn-of, turn-sound, turn-start, passing-less, passing-short, passing-room, passing-between, passing-long, passing-last-room, passing-done}
 use Rattle.silence_runs.proofs.one_pass.list_silences.Statement.{statement}
 use Rattle.silence_runs.proofs.one_pass.list_silences.Tie as tie
 
@@ -33,8 +33,8 @@ sub-lasting c = turn-sound _ _ _ _ _ _ _ _ _ _ _ (c .before .before .before .bef
 lasting-requires : tie.Need-lasting-requires Inv-loop μ-loop
 lasting-requires c κs = search needs
 
-put-gap-requires : tie.Need-put-gap-requires Inv-loop μ-loop
-put-gap-requires c κs = (passing-room _ _ _ _ _ _ _ _ _ _ _ (c .before .before .before .before .before .before .before .loop .inv) _ _ (turn-of _ _ _ _ _ _ _ _ _ _ _ (c .before .before .before .before .before .before .before .loop .inv) _ _ _ (c .before .before .before .before .before .next-change .ensures) (c .before .before .before .before .next-frame .ensures) (c .before .before .before .next-change2 .ensures)), (passing-gap _ _ _ _ _ _ _ _ _ _ _ (c .before .before .before .before .before .before .before .loop .inv) _ _ (turn-of _ _ _ _ _ _ _ _ _ _ _ (c .before .before .before .before .before .before .before .loop .inv) _ _ _ (c .before .before .before .before .before .next-change .ensures) (c .before .before .before .before .next-frame .ensures) (c .before .before .before .next-change2 .ensures)), omega (arith, turn-start _ _ _ _ _ _ _ _ _ _ _ (c .before .before .before .before .before .before .before .loop .inv) _ _ (turn-of _ _ _ _ _ _ _ _ _ _ _ (c .before .before .before .before .before .before .before .loop .inv) _ _ _ (c .before .before .before .before .before .next-change .ensures) (c .before .before .before .before .next-frame .ensures) (c .before .before .before .next-change2 .ensures)), c .before .before .before .before .before .before .before .before .before .before .before .pre .2)))
+put-silence-requires : tie.Need-put-silence-requires Inv-loop μ-loop
+put-silence-requires c κs = (passing-room _ _ _ _ _ _ _ _ _ _ _ (c .before .before .before .before .before .before .before .loop .inv) _ _ (turn-of _ _ _ _ _ _ _ _ _ _ _ (c .before .before .before .before .before .before .before .loop .inv) _ _ _ (c .before .before .before .before .before .next-change .ensures) (c .before .before .before .before .next-frame .ensures) (c .before .before .before .next-change2 .ensures)), (passing-between _ _ _ _ _ _ _ _ _ _ _ (c .before .before .before .before .before .before .before .loop .inv) _ _ (turn-of _ _ _ _ _ _ _ _ _ _ _ (c .before .before .before .before .before .before .before .loop .inv) _ _ _ (c .before .before .before .before .before .next-change .ensures) (c .before .before .before .before .next-frame .ensures) (c .before .before .before .next-change2 .ensures)), omega (arith, turn-start _ _ _ _ _ _ _ _ _ _ _ (c .before .before .before .before .before .before .before .loop .inv) _ _ (turn-of _ _ _ _ _ _ _ _ _ _ _ (c .before .before .before .before .before .before .before .loop .inv) _ _ _ (c .before .before .before .before .before .next-change .ensures) (c .before .before .before .before .next-frame .ensures) (c .before .before .before .next-change2 .ensures)), c .before .before .before .before .before .before .before .before .before .before .before .pre .2)))
 
 next-frame-requires-2 : tie.Need-next-frame-requires-2 Inv-loop μ-loop
 next-frame-requires-2 c κs = search needs
@@ -71,7 +71,7 @@ list-silences-spec =
     next-change-requires-2
     sub-lasting
     lasting-requires
-    put-gap-requires
+    put-silence-requires
     next-frame-requires-2
     loop-less
     loop-again

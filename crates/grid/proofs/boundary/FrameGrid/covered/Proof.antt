@@ -1,53 +1,37 @@
+-- Each end is one case of `covers`: no length, no frame, or both comparisons.
 use borrow.Author.Tests.{lt-ltb, le-ltb, eq-eqb, ne-eqb}
 use Rattle.grid.specs.Boundary.{covers}
 use borrow.Author.Needs.{needs}
 use native.Mathlib.Omega.{arith}
-use mathlib.Core.Path.{_≡_, refl, sym, ap, subst, _∙_}
-use mathlib.Core.Logic.{⊎-elim}
-use mathlib.Core.List.{List, [], _∷_, _++_}
-use Prim.Native.Nat.{ℕ, zero, suc, _+_, _-_, _*_, _≤_, _<_, min}
-use native.Mathlib.Numerals.{add-one}
-use lib.ListN.{length, getD, take, drop, set, replicate, length-append, length-take, length-drop, length-set, length-replicate}
 use Rattle.grid.proofs.boundary.FrameGrid.covered.Statement.{statement}
 use Rattle.grid.proofs.boundary.FrameGrid.covered.Tie as tie
-use Rattle.grid.proofs.boundary.FrameGrid.covered.Reads as reads
-use Rattle.grid.proofs.boundary.FrameGrid.covered.Lts as lts
-use Rattle.grid.proofs.boundary.FrameGrid.start.Reads as start-reads
 
--- src/boundary.rt:45:13
 returns : tie.Need-returns
 unfolding covers
 returns c = rw (eq-eqb _ _ (c .if1 .taken))
 
--- src/boundary.rt:48:13
 returns-2 : tie.Need-returns-2
 unfolding covers
 returns-2 c = rw (ne-eqb _ _ (c .before .if1 .left), le-ltb 0 (c .before .before .args .self .frames) (omega arith))
 
--- src/boundary.rt:50:20
 sub-start : tie.Need-sub-start
 sub-start c = search needs
 
--- src/boundary.rt:50:9
 start-requires : tie.Need-start-requires
 start-requires c κs = search needs
 
--- src/boundary.rt:50:53
 add-start : tie.Need-add-start
 add-start c = search needs
 
--- src/boundary.rt:50:42
 start-requires-2 : tie.Need-start-requires-2
 start-requires-2 c κs = search needs
 
--- src/boundary.rt:38:5
 returns-3 : tie.Need-returns-3
 unfolding covers
 returns-3 c =
     rw (ne-eqb _ _ (c .before .before .before .before .if1 .left), lt-ltb 0 (c .before .before .before .before .before .args .self .frames) (omega arith))
     (rw (← c .before .before .start .ensures, lt-ltb _ _ (c .before .if3 .taken), ← c .start2 .ensures))
 
--- src/boundary.rt:38:5
 returns-4 : tie.Need-returns-4
 unfolding covers
 returns-4 c =

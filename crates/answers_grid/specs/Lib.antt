@@ -1,0 +1,2 @@
+-- Record: `agreesWith`, when the port's answer to a record is the stored one
+pub mod Record

@@ -1,0 +1,32 @@
+-- Test 13: a list has 16 entries for each of n exactly where a sixteenth of its length is n or more; and what the test leaves.
+use mathlib.Core.Path.{_≡_}
+use mathlib.Core.Bool.{true, false, _&&_}
+use Prim.Native.Nat.{ℕ, _/_, _≤_, _<_}
+use native.Mathlib.Omega.{arith}
+use borrow.Author.Tests.{leb-true, le-leb, lt-leb}
+use lib.Dec.{leb}
+use Rattle.base_laws.specs.Tests.{both}
+use Rattle.base_terms.specs.Work.{workLength, workOk}
+
+pub long-enough : (n len : ℕ) → n ≤ len / 16 → leb (workLength n) len ≡ true
+long-enough n len h = le-leb (workLength n) len (omega arith)
+
+pub too-short : (n len : ℕ) → len / 16 < n → leb (workLength n) len ≡ false
+too-short n len h = lt-leb (workLength n) len (omega arith)
+
+-- each work list has 16 entries for each of n
+pub record WorkIn (n n32 n64 nf : ℕ) : Type 0 where
+  pub enough32 : workLength n ≤ n32
+  pub enough64 : workLength n ≤ n64
+  pub enoughf : workLength n ≤ nf
+
+pub work-parts : (n n32 n64 nf : ℕ) → workOk n n32 n64 nf ≡ true → WorkIn n n32 n64 nf
+unfolding workOk
+work-parts n n32 n64 nf e =
+    let p = both (leb (workLength n) n32 && leb (workLength n) n64) (leb (workLength n) nf) e in
+    let q = both (leb (workLength n) n32) (leb (workLength n) n64) (p .0) in
+    record {
+      enough32 = leb-true (workLength n) n32 (q .0);
+      enough64 = leb-true (workLength n) n64 (q .1);
+      enoughf = leb-true (workLength n) nf (p .1);
+    }

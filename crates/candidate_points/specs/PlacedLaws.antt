@@ -1,0 +1,53 @@
+-- What stands where after a list was written over the middle of another.
+use mathlib.Core.Path.{_≡_, sym, ap, _∙_}
+use mathlib.Core.List.{List, _++_, append-assoc}
+use Prim.Native.Nat.{ℕ, _+_, _-_, _≤_, _<_}
+use native.Mathlib.Omega.{arith}
+use lib.ListN.{length, take, drop, getD, length-append, length-drop}
+use lib.Seq.{take-at, drop-at, length-take-le, take-take, getD-take, drop-drop}
+use Rattle.candidate_points.specs.Placed.{placed}
+use borrow.Rule.Slice.PartMut.{putMid, post-is, put-same}
+
+module _ {A : Type 0} (base : ℕ) (p xs : List A) (fits : base + length p ≤ length xs) where
+  front : length (take base xs) ≡ base
+  front = length-take-le base xs (omega arith)
+
+  pub placed-length : length (placed base p xs) ≡ length xs
+  unfolding placed
+  placed-length = simp (length-append, length-drop, front) (omega arith)
+
+  -- what stands before is as it was
+  pub placed-take : (m : ℕ) → m ≤ base → take m (placed base p xs) ≡ take m xs
+  unfolding placed
+  placed-take m h =
+      sym (take-take m base (placed base p xs) h) ∙ ap (take m) (take-at (take base xs) (p ++ drop (base + length p) xs) base front) ∙ take-take m base xs h
+
+  pub placed-before : (j : ℕ) (z : A) → j < base → getD (placed base p xs) j z ≡ getD xs j z
+  placed-before j z h =
+      sym (getD-take base (placed base p xs) j z h) ∙ ap (λ (l : List A). getD l j z) (placed-take base (omega arith)) ∙ getD-take base xs j z h
+
+  -- what was written
+  pub placed-part : (k : ℕ) → k ≡ length p → take k (drop base (placed base p xs)) ≡ p
+  unfolding placed
+  placed-part k e = rw (drop-at (take base xs) (p ++ drop (base + length p) xs) base front) (take-at p (drop (base + length p) xs) k (sym e))
+
+  beyond : drop (base + length p) (placed base p xs) ≡ drop (base + length p) xs
+  unfolding placed
+  beyond = rw (← append-assoc) (drop-at (take base xs ++ p) (drop (base + length p) xs) (base + length p) (simp (length-append, front)))
+
+  -- as much is written over it again
+  pub placed-again : (q : List A) → length q ≡ length p → placed base q (placed base p xs) ≡ placed base q xs
+  placed-again q e = unfold placed in (rw (e, beyond, placed-take base (omega arith)))
+
+  -- a part that was lent, and is back
+  pub placed-put : (end : ℕ) → end ≡ base + length p → putMid base (end - base) xs p ≡ placed base p xs
+  unfolding placed
+  placed-put end e = rw (post-is base end xs (omega arith), e)
+
+-- what stands there, written over itself
+pub placed-same : {A : Type 0} (base k : ℕ) (xs : List A) → base + k ≤ length xs → placed base (take k (drop base xs)) xs ≡ xs
+unfolding placed
+placed-same base k xs h = rw (long, ← drop-drop) (put-same base k xs)
+  where
+    long : length (take k (drop base xs)) ≡ k
+    long = length-take-le k (drop base xs) (simp length-drop (omega arith))

@@ -1,0 +1,227 @@
+-- What holds of the walk at each boundary, and that a step keeps it: so far the survivors at the boundaries before are written, and the next silence is the first whose own candidate does not start before.
+use mathlib.Core.Path.{_≡_, sym, ap, subst, _∙_}
+use mathlib.Core.Logic.{inl, inr}
+use mathlib.Core.Bool.{Bool, true, false}
+use mathlib.Core.List.{List, [], _++_}
+use Prim.Native.Nat.{ℕ, suc, _+_, _-_, _*_, _≤_, _<_}
+use native.Mathlib.Nat.{eq-or-lt-of-le}
+use native.Mathlib.Omega.{arith}
+use lib.Ieee.{Float}
+use lib.ListN.{length}
+use lib.Seq.{length-take-le}
+use borrow.Author.Tests.{lt-ltb, eq-eqb}
+use Rattle.base_laws.specs.Tests.{lt-or-le, holds}
+use Rattle.candidate_span.specs.Kept.{boundaries, passing}
+use Rattle.candidate_span.specs.Listed as silences
+use Rattle.candidate_span.specs.ListedLaws.{Listed}
+use Rattle.candidate_span.specs.SpanLaws.{ends-order}
+use Rattle.candidate_points.specs.Placed.{placed}
+use Rattle.candidate_points.specs.PlacedLaws.{placed-length}
+use Rattle.candidate_points.specs.Points.{isIn}
+use Rattle.candidate_cuts.specs.CutsLaws.{InnerAt, inner-cut}
+use Rattle.candidates.specs.declared.candidate.Candidate.{Candidate}
+use Rattle.candidates.specs.declared.context.Context.{Context}
+use Rattle.candidate_walk.specs.declared.collect.Walk.{Walk}
+use Rattle.candidates.specs.Candidates.{ownAt, allListed, withLeft, cheapest, survivors}
+use Rattle.candidates.specs.SurvivorsLaws.{IsOwn, leftAt, survivor-point, survivor-own}
+use Rattle.candidates.specs.Sources.{Planned, own-inside, own-apart}
+use Rattle.candidates.specs.Entries.{entriesOf, costsOf}
+use Rattle.candidate_walk.specs.Held.{silencesHeld, runsHeld, levelsHeld, marked, heldAt, costsAt}
+use Rattle.candidates.specs.EntriesLaws.{entries-length, costs-length}
+use Rattle.candidate_walk.specs.HeldLaws.{silences-stay, marks-stay, runs-stay, levels-stay}
+use Rattle.candidate_walk.specs.Collect.{ownHere, withPoint, pointHeld, nextOwn, hereOf}
+use Rattle.candidate_walk.specs.CollectLaws.{AtSilence, Passing, Collectable}
+use Rattle.candidate_walk.specs.PassLaws.{own-parts}
+use Rattle.candidate_walk.specs.Marked.{marked-in}
+
+-- the silences with sound on both sides are those from `from` up to `stop`
+pub record Ranged (x : Context) (ss : List ℕ) (from stop : ℕ) : Type 0 where
+  pub stops : stop ≤ silences.count ss
+  pub inner : (j : ℕ) → from ≤ j → j < stop → InnerAt (x .frames) ss j
+  pub only : (j : ℕ) → InnerAt (x .frames) ss j → (from ≤ j) × (j < stop)
+
+in-none : (k : ℕ) → isIn [] k ≡ true → ⊥
+unfolding isIn
+in-none k t = holds t
+
+module _ (x : Context) (count stop first last from : ℕ) (work₀ : List ℕ) (workf₀ : List Float) where
+  abbrev ss : List ℕ
+  ss = silencesHeld count work₀
+
+  abbrev levels : List Float
+  levels = levelsHeld (x .frames) workf₀
+
+  abbrev ks : List ℕ
+  ks = passing (marked (x .frames) work₀) (boundaries first (last - suc first))
+
+  abbrev pub listed : List Candidate
+  listed = allListed x ss (runsHeld (x .frames) work₀) levels ks
+
+  -- the survivors between the two ends
+  abbrev pub between : List Candidate
+  between = survivors listed (boundaries first (last - suc first))
+
+  -- what holds at boundary k
+  pub record WalkHolds (k : ℕ) (w : Walk) (work : List ℕ) (workf : List Float) : Type 0 where
+    pub soFar : List Candidate
+    pub after : first < k
+    pub within : k ≤ last
+    pub held : work ≡ placed (heldAt (x .frames) + 3) (entriesOf soFar) work₀
+    pub costs : workf ≡ placed (costsAt (x .frames) + 1) (costsOf soFar) workf₀
+    pub number : w .written ≡ length soFar + 1
+    pub few : length soFar + first < k
+    pub rest : soFar ++ survivors listed (boundaries (k - 1) (last - k)) ≡ between
+    pub begun : from ≤ w .silence
+    pub before : (j : ℕ) → j < w .silence → InnerAt (x .frames) ss j → leftAt x ss levels j < k
+    pub ahead : (j : ℕ) → w .silence ≤ j → InnerAt (x .frames) ss j → k ≤ leftAt x ss levels j
+    pub own : w .own ≡ nextOwn x count stop work₀ workf₀ (w .silence)
+
+  module _ (c : Collectable x count first last work₀ workf₀) (r : Ranged x ss from stop) where
+    planned : Planned x ss levels [] first last
+    planned = record { prepared = c .prepared; starts = c .starts; stops = c .stops; clear = λ (k : ℕ) (t : isIn [] k ≡ true) a b. absurd (in-none k t) }
+
+    pub last-in : last ≤ x .frames
+    last-in = rw (c .stops) (ends-order (x .gap) (x .frames) (x .pre) (x .tail) ss (c .prepared .spanned) .1)
+
+    pub first-below : first < last
+    first-below = rw (c .starts, c .stops) (ends-order (x .gap) (x .frames) (x .pre) (x .tail) ss (c .prepared .spanned) .0)
+
+    -- every own candidate starts after the span's first boundary
+    pub own-after : (j : ℕ) → InnerAt (x .frames) ss j → first < leftAt x ss levels j
+    own-after j a = own-inside x ss [] levels [] first last planned j a .0
+
+    -- the lists are as long as they were
+    pub walk-lengths : (k : ℕ) (w : Walk) (work : List ℕ) (workf : List Float) → WalkHolds k w work workf → (length work ≡ length work₀) × (length workf ≡ length workf₀)
+    walk-lengths k w work workf g = (
+      rw (g .held) (placed-length (heldAt (x .frames) + 3) (entriesOf (g .soFar)) work₀ (omega (arith, entries-length (g .soFar), g .few, g .within, last-in, c .holding .room))),
+      rw (g .costs) (placed-length (costsAt (x .frames) + 1) (costsOf (g .soFar)) workf₀ (omega (arith, costs-length (g .soFar), g .few, g .within, last-in, c .holding .roomf))),
+    )
+
+    module _ (k : ℕ) (w : Walk) (work : List ℕ) (workf : List Float) (g : WalkHolds k w work workf) (more : k < last) where
+      fits : heldAt (x .frames) + 3 + length (entriesOf (g .soFar)) ≤ length work₀
+      fits = omega (arith, entries-length (g .soFar), g .few, last-in, c .holding .room)
+
+      fitsf : costsAt (x .frames) + 1 + length (costsOf (g .soFar)) ≤ length workf₀
+      fitsf = omega (arith, costs-length (g .soFar), g .few, last-in, c .holding .roomf)
+
+      -- ---- what candidates are made from is as it was
+
+      silences-same : silencesHeld count work ≡ ss
+      silences-same = rw (g .held) (silences-stay (x .frames) work₀ (entriesOf (g .soFar)) (heldAt (x .frames) + 3) (omega arith) fits count (c .holding .apart))
+
+      runs-same : runsHeld (x .frames) work ≡ runsHeld (x .frames) work₀
+      runs-same = rw (g .held) (runs-stay (x .frames) work₀ (entriesOf (g .soFar)) (heldAt (x .frames) + 3) (omega arith) fits)
+
+      marks-same : marked (x .frames) work k ≡ marked (x .frames) work₀ k
+      marks-same = rw (g .held) (marks-stay (x .frames) work₀ (entriesOf (g .soFar)) (heldAt (x .frames) + 3) (omega arith) fits k (omega (arith, last-in)))
+
+      levels-same : levelsHeld (x .frames) workf ≡ levels
+      levels-same = rw (g .costs) (levels-stay (x .frames) workf₀ (costsOf (g .soFar)) (costsAt (x .frames) + 1) (omega arith) fitsf)
+
+      -- ---- the next silence
+
+      next-is : w .silence < stop → w .own ≡ ownAt x ss levels (w .silence)
+      next-is h = g .own ∙ unfold nextOwn in rw (lt-ltb (w .silence) stop h)
+
+      pub next-inner : w .silence < stop → InnerAt (x .frames) ss (w .silence)
+      next-inner h = r .inner (w .silence) (g .begun) h
+
+      -- ---- the step may be taken
+
+      pub walk-passing : Passing x count stop k w work workf
+      walk-passing = record {
+        holding = record {
+          listed = subst (Listed (x .frames)) (sym silences-same) (c .holding .listed);
+          apart = c .holding .apart;
+          some = c .holding .some;
+          few = c .holding .few;
+          room = omega (arith, walk-lengths k w work workf g .0, c .holding .room);
+          roomf = omega (arith, walk-lengths k w work workf g .1, c .holding .roomf);
+        };
+        within = omega (arith, last-in);
+        inside = omega (arith, g .number, g .few, last-in);
+        stops = omega (arith, r .stops, length-take-le (2 * count) work₀ (omega (arith, c .holding .apart, c .holding .room)));
+        ahead = silent;
+        left-in = λ (h : w .silence < stop). rw (next-is h) (omega (arith, last-in, own-inside x ss [] levels [] first last planned (w .silence) (next-inner h)));
+        right-in = λ (h : w .silence < stop). rw (next-is h) (omega (arith, last-in, own-inside x ss [] levels [] first last planned (w .silence) (next-inner h)));
+      }
+        where
+          silent : (j : ℕ) → w .silence < j → j < stop → AtSilence x count work workf j
+          silent j a b =
+              let i = r .inner j (omega (arith, g .begun)) b in
+              record { cuttable = rw (silences-same, levels-same) (record { listed = i .listed; inner = inner-cut (x .gap) (x .placement) (x .frames) (x .pre) (x .tail) levels ss (c .prepared) j i }) }
+
+      -- ---- what is written is the survivor
+
+      point-same : pointHeld x count work workf k ≡ pointHeld x count work₀ workf₀ k
+      point-same = rw (silences-same, runs-same, levels-same)
+
+      pub own-same : (i : ℕ) → nextOwn x count stop work workf i ≡ nextOwn x count stop work₀ workf₀ i
+      unfolding nextOwn
+      own-same i = rw (silences-same, levels-same)
+
+      -- k is among the marked boundaries where it is marked
+      mark-is : isIn ks k ≡ marked (x .frames) work₀ k
+      mark-is = marked-in (marked (x .frames) work₀) first (last - suc first) k (g .after) (omega arith)
+
+      pub later : (i j : ℕ) → i < j → InnerAt (x .frames) ss i → InnerAt (x .frames) ss j → leftAt x ss levels i < leftAt x ss levels j
+      later i j h a b =
+          let p = own-apart x ss [] levels [] first last planned i j h a b in
+          let q = own-inside x ss [] levels [] first last planned i a in
+          omega (arith, p, q)
+
+      inner-at : (j : ℕ) → j < silences.count ss → IsOwn x ss levels j → InnerAt (x .frames) ss j
+      inner-at j h t = record { listed = h; inner = t }
+
+      -- the next silence's own candidate stands here
+      module _ (o : ownHere w stop k ≡ true) where
+        abbrev i : ℕ
+        i = w .silence
+
+        below : i < stop
+        below = own-parts w stop k o .0
+
+        pub own-starts : leftAt x ss levels i ≡ k
+        own-starts = ap (λ (d : Candidate). d .left) (sym (next-is below)) ∙ own-parts w stop k o .1
+
+        here-own : hereOf x count stop k w work workf ≡ cheapest (withLeft k listed)
+        unfolding hereOf withPoint
+        here-own =
+            rw (o, point-same, marks-same, next-is below, ← mark-is)
+            (sym (survivor-own x ss (runsHeld (x .frames) work₀) levels ks k i (next-inner below .listed) (next-inner below .inner) own-starts
+            (λ (j : ℕ) (h : j < i) (t : IsOwn x ss levels j) (e : leftAt x ss levels j ≡ k). absurd (omega (arith, e, g .before j h (inner-at j (omega (arith, below, r .stops)) t))))
+            (λ (j : ℕ) (h : i < j) (l : j < silences.count ss) (t : IsOwn x ss levels j) (e : leftAt x ss levels j ≡ k). absurd (omega (arith, e, own-starts, later i j h (next-inner below) (inner-at j l t))))))
+
+      -- it does not
+      module _ (o : ownHere w stop k ≡ false) where
+        not-next : w .silence < stop → leftAt x ss levels (w .silence) ≡ k → ⊥
+        not-next h e = holds (sym o ∙ taken)
+          where
+            left : w .own .left ≡ k
+            left = ap (λ (d : Candidate). d .left) (next-is h) ∙ e
+
+            taken : ownHere w stop k ≡ true
+            taken = unfold ownHere in rw (lt-ltb (w .silence) stop h, eq-eqb (w .own .left) k left)
+
+        -- nor does any other
+        pub none-own : (j : ℕ) → InnerAt (x .frames) ss j → leftAt x ss levels j ≡ k → ⊥
+        none-own j a e = elim (lt-or-le j (w .silence)) [
+          | inl h ↦ absurd (omega (arith, e, g .before j h a))
+          | inr h ↦
+              elim (eq-or-lt-of-le h) [
+                | inl q ↦ not-next (omega (arith, q, r .only j a .1)) (ap (leftAt x ss levels) q ∙ e)
+                | inr q ↦
+                    let b = next-inner (omega (arith, q, r .only j a .1)) in
+                    absurd (omega (arith, e, g .ahead (w .silence) (omega arith) b, later (w .silence) j q b a))
+              ]
+        ]
+
+        here-other : hereOf x count stop k w work workf ≡ cheapest (withLeft k listed)
+        unfolding hereOf
+        here-other =
+            rw (o, point-same, marks-same, ← mark-is)
+            (sym (survivor-point x ss (runsHeld (x .frames) work₀) levels ks k (λ (j : ℕ) (l : j < silences.count ss) (t : IsOwn x ss levels j) (e : leftAt x ss levels j ≡ k). none-own j (inner-at j l t) e)))
+
+      pub here-is : (b : Bool) → ownHere w stop k ≡ b → hereOf x count stop k w work workf ≡ cheapest (withLeft k listed)
+      here-is true o = here-own o
+      here-is false o = here-other o

@@ -1,0 +1,45 @@
+-- The definitions at document 01's recording R, seven frames of 100 samples, with silence kept: for two pieces the reach is 400, which is what the trial "maximum 300 ms and count 2" shows.
+use mathlib.Core.Path.{_≡_, refl}
+use mathlib.Core.Bool.{true, false}
+use mathlib.Core.List.{[], _∷_}
+use Rattle.grid.specs.Boundary.{boundaryOf, startOf}
+use Rattle.grid.specs.declared.boundary.FrameGrid.{FrameGrid}
+use Rattle.division.specs.Division.{Span}
+use Rattle.division.specs.Places.{cutAt}
+use Rattle.completion.specs.Reachable.{reachableIn}
+use Rattle.completion.specs.Place.{placeAt}
+use Rattle.completion.specs.Next.{nextAt}
+use Rattle.completion.specs.Fits.{fitsFrom, fitsOf}
+use Rattle.completion.specs.Cuts.{cutsFrom, cutsOf}
+use Rattle.completion.specs.Bridge.{bridgeFrom, bridgeOf}
+
+grid : FrameGrid
+grid = record { «sample_rate» = 1000; «frame_rate» = 10; hop = 1; len = 700; frames = 7 }
+
+abbrev whole : Span
+whole = record { first = 0; gaps = []; last = 7 }
+
+-- two pieces do not fit in 399 samples each
+too-short : fitsOf grid whole 399 2 ≡ false
+unfolding grid boundaryOf startOf reachableIn placeAt nextAt fitsFrom
+too-short = refl
+
+-- but in 400
+just-enough : fitsOf grid whole 400 2 ≡ true
+unfolding grid boundaryOf startOf reachableIn placeAt nextAt fitsFrom
+just-enough = refl
+
+-- where the first piece goes as far as it can
+far-cut : cutsOf grid whole 400 2 ≡ cutAt 4 ∷ []
+unfolding grid boundaryOf startOf reachableIn placeAt nextAt cutsFrom
+far-cut = refl
+
+-- by length 300 samples are bridged by two points
+bridged : bridgeOf grid 300 0 7 ≡ cutAt 3 ∷ cutAt 6 ∷ []
+unfolding grid boundaryOf startOf reachableIn bridgeFrom
+bridged = refl
+
+-- and frames longer than the limit stay single
+single-frames : bridgeOf grid 50 0 3 ≡ cutAt 1 ∷ cutAt 2 ∷ []
+unfolding grid boundaryOf startOf reachableIn bridgeFrom
+single-frames = refl

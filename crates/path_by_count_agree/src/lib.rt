@@ -1,1 +1,0 @@
-// The rows that the search writes are those of the table by count.

@@ -1,0 +1,105 @@
+//! Document 01's third demand on plans of a few frames, against every division of their span.
+
+use crate::plan_job::Job;
+use crate::plan_job::places::Places;
+use crate::plan_job::planned::{Course, Planned};
+
+/// Frames at most: the places between the ends have 512 choices.
+pub const MOST_FRAMES: usize = 10;
+
+/// What is wrong with a plan of few frames, if anything.
+pub fn fault(job: &Job, planned: &Planned, course: &Course) -> Option<String> {
+    if job.recording.case.values.len() > MOST_FRAMES {
+        return None;
+    }
+    let lengths = match division(planned, &course.places) {
+        Ok(lengths) => lengths,
+        Err(why) => return Some(format!("the plan is no division: {why}")),
+    };
+    let fault = if job.plan.by_count {
+        by_count(job.plan.count as usize, &lengths, course)
+    } else if all_single(planned, course) {
+        None
+    } else {
+        Some("a piece over the maximum is no single frame".to_string())
+    };
+    fault.or_else(|| flags(planned, course))
+}
+
+/// As many pieces as can be given; the longest, if it is over the maximum, no longer than that of
+/// any division into as many or fewer; and the reach, where one was sought, the least limit of all.
+fn by_count(asked: usize, lengths: &[u64], course: &Course) -> Option<String> {
+    let whole = course.places.kept_frames.min(asked);
+    if lengths.len() != whole {
+        return Some(format!("{} pieces, expected {whole}", lengths.len()));
+    }
+    let longest = lengths.iter().copied().max()?;
+    let least = least(&course.places, whole);
+    let reach = course.completed.as_ref().map(|c| c.limit);
+    if longest > course.maximum.max(least) {
+        Some(format!("longest piece {longest}, a division has {least}"))
+    } else if reach.is_some_and(|reach| reach != course.maximum.max(least)) {
+        Some(format!("reach {reach:?}, a division has {least}"))
+    } else {
+        None
+    }
+}
+
+/// The lengths of the plan's pieces, where it is a division.
+fn division(planned: &Planned, places: &Places) -> Result<Vec<u64>, &'static str> {
+    let cuts: Vec<(u64, u64)> = planned.cuts.chunks(3).map(|c| (c[0], c[1])).collect();
+    let ends = match (places.ends.first(), places.ends.last()) {
+        (Some(first), Some(last)) => [&[*first], &cuts[..], &[*last]].concat(),
+        _ => cuts,
+    };
+    // In order, and each of them a place.
+    let mut rest = places.ends.iter();
+    if !ends.iter().all(|end| rest.any(|place| place == end)) {
+        return Err("cuts");
+    }
+    let between = ends.windows(2).map(|w| (w[0].1, w[1].0));
+    let pieces: Vec<(u64, u64)> = planned.pieces.chunks(3).map(|p| (p[0], p[1])).collect();
+    if !between.eq(pieces.iter().copied()) {
+        return Err("pieces");
+    }
+    Ok(pieces.iter().map(|(start, end)| end - start).collect())
+}
+
+/// The least longest piece of all divisions into at most so many pieces.
+fn least(places: &Places, most: usize) -> u64 {
+    let last = places.ends.len() - 1;
+    let choices = 0u32..1 << (last - 1);
+    let few = choices.filter(|chosen| chosen.count_ones() < most as u32);
+    let longest = few.map(|chosen| {
+        let (mut longest, mut start) = (0, places.ends[0].1);
+        for i in (1..=last).filter(|i| *i == last || chosen >> (i - 1) & 1 == 1) {
+            let (left, right) = places.ends[i];
+            longest = longest.max(left - start);
+            start = right;
+        }
+        longest
+    });
+    longest.min().expect("the whole span is one division")
+}
+
+/// Whether every piece over the maximum runs from one boundary to the next.
+fn all_single(planned: &Planned, course: &Course) -> bool {
+    let mut long = planned
+        .pieces
+        .chunks(3)
+        .filter(|p| p[1] - p[0] > course.maximum);
+    long.all(|p| {
+        let mut neighbours = course.places.ends.windows(2);
+        neighbours.any(|w| (w[0].1, w[1].0) == (p[0], p[1]))
+    })
+}
+
+/// A piece whose flags are not those of its own length beside the minimum and the maximum.
+fn flags(planned: &Planned, course: &Course) -> Option<String> {
+    let wrong = planned.pieces.chunks(3).find(|p| {
+        let length = p[1] - p[0];
+        let (short, long) = ((length as f64) < course.minimum, length > course.maximum);
+        p[2] != u64::from(short) + 2 * u64::from(long)
+    });
+    wrong.map(|piece| format!("flags of piece {piece:?}"))
+}

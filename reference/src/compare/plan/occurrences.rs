@@ -1,0 +1,76 @@
+//! What the compared plans went through, so that a run shows which ways it took.
+
+use std::collections::HashSet;
+
+use super::Sizes;
+use crate::plan_job::Job;
+use crate::plan_job::planned::{Completed, Course, Planned};
+use crate::tally::Tally;
+
+/// Dropped gaps of a job that counts as one of many.
+const MANY_GAPS: usize = 3;
+
+pub fn count(
+    tally: &mut Tally,
+    job: &Job,
+    sizes: &Sizes,
+    refusal: u32,
+    planned: &Planned,
+    course: &Course,
+) {
+    inputs(tally, job, planned, course);
+    completion(tally, job, course);
+    let needed = course.parents(job.plan.count);
+    let first = refusal == 14 && sizes.parent < needed[0];
+    tally.occurs("14 for the first path", first);
+    tally.occurs("14 for the second path", refusal == 14 && !first);
+    tally.occurs("12", refusal == 12);
+    if refusal == 0 {
+        answers(tally, planned);
+    }
+}
+
+fn inputs(tally: &mut Tally, job: &Job, planned: &Planned, course: &Course) {
+    let by_count = job.plan.by_count;
+    let gaps = |list: &[(u64, u64)]| list.iter().filter(|(left, right)| left < right).count();
+    tally.occurs("by count", by_count);
+    let many = gaps(&course.places.ends) >= MANY_GAPS;
+    tally.occurs("three dropped gaps or more", many);
+    tally.occurs("empty plan", planned.pieces.is_empty());
+    let kept = course.places.kept_frames;
+    let more = kept > 0 && by_count && job.plan.count as usize > kept;
+    tally.occurs("more pieces asked for than frames kept", more);
+}
+
+fn completion(tally: &mut Tally, job: &Job, course: &Course) {
+    let completed = |so: &dyn Fn(&Completed) -> bool| course.completed.as_ref().is_some_and(so);
+    let added = |c: &Completed| c.candidates.len() > course.found.len();
+    let (by_length, by_count) = (!job.plan.by_count, job.plan.by_count);
+    let so = by_length && completed(&added);
+    tally.occurs("completion by length added a point", so);
+    let so = by_count && completed(&|_| true);
+    tally.occurs("a second path", so);
+    let so = completed(&|c| c.limit > course.maximum);
+    tally.occurs("a reach above the maximum", so);
+    let so = by_count && completed(&|c| shares_added(course, c));
+    tally.occurs("equal shares added a candidate", so);
+}
+
+/// Whether a candidate is neither of the first ones nor a cut of the division that goes as far as
+/// it can.
+fn shares_added(course: &Course, completed: &Completed) -> bool {
+    let farthest = course.places.farthest(completed.limit);
+    let known: HashSet<_> = course.found.iter().chain(&farthest).collect();
+    completed.candidates.iter().any(|c| !known.contains(c))
+}
+
+fn answers(tally: &mut Tally, planned: &Planned) {
+    let flagged = |flag: u64| planned.pieces.chunks(3).any(|piece| piece[2] & flag != 0);
+    tally.occurs("a short piece", flagged(1));
+    tally.occurs("a long piece", flagged(2));
+    let cut = |so: &dyn Fn(&[u64]) -> bool| planned.cuts.chunks(3).any(so);
+    tally.occurs("a cut in silence", cut(&|c| c[2] == 0));
+    tally.occurs("a quiet cut", cut(&|c| c[2] == 1));
+    tally.occurs("a forced cut", cut(&|c| c[2] == 2));
+    tally.occurs("a cut that drops a gap", cut(&|c| c[0] < c[1]));
+}
