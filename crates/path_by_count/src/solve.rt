@@ -14,7 +14,7 @@ ghost use Rattle.path_by_count_rows.specs.Rows.{behind};
 ghost use Rattle.path_by_count.specs.Counted.{TreeRoom, Sought, SolutionByCount};
 
 // The score of the best path of `pieces` pieces to the last candidate, and the parents that lead back.
-fn best_score(
+pub fn best_score(
     left: &[u64],
     right: &[u64],
     lengths: Lengths,

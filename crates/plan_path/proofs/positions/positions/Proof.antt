@@ -1,0 +1,95 @@
+-- `positions::positions` lends the front of the list for the left ends and the part behind it for the right ones.
+use denote.Ref.{now}
+use borrow.Author.Needs.{needs}
+use native.Mathlib.Omega.{arith}
+use mathlib.Core.Path.{sym}
+use Rattle.plan_path.specs.WrittenLaws.{lent-front, lent-room, positions-written}
+use Rattle.plan_path.proofs.positions.positions.Statement.{statement}
+use Rattle.plan_path.proofs.positions.positions.Tie as tie
+
+add-side : tie.Need-add-side
+add-side c = search needs
+
+mul-entries : tie.Need-mul-entries
+mul-entries c = search needs
+
+mul-entries-2 : tie.Need-mul-entries-2
+mul-entries-2 c = search needs
+
+mul-entries-3 : tie.Need-mul-entries-3
+mul-entries-3 c = search needs
+
+add-entries : tie.Need-add-entries
+add-entries c = search needs
+
+mul-entries-4 : tie.Need-mul-entries-4
+mul-entries-4 c = search needs
+
+sub-entries : tie.Need-sub-entries
+sub-entries c = search needs
+
+part-entries-start : tie.Need-part-entries-start
+part-entries-start c = search needs
+
+part-entries-end : tie.Need-part-entries-end
+part-entries-end c = search needs
+
+slice-relend-prefix-ends : tie.Need-slice-relend-prefix-ends
+slice-relend-prefix-ends c = search needs
+
+slice-aggregate-ends : tie.Need-slice-aggregate-ends
+slice-aggregate-ends c = let start = c .before .before .before .before .before in sym (lent-front (start .args .g) (start .args .count) (now (start .args .work-u32)) (now (start .args .work-u64)) (start .pre .1))
+
+ends-requires : tie.Need-ends-requires
+ends-requires c κs = let start = c .before .before .before .before .before in (start .pre .0, lent-room (start .args .g) (start .args .count) (now (start .args .work-u32)) (now (start .args .work-u64)) (start .pre .1) _ 0 (lent-front (start .args .g) (start .args .count) (now (start .args .work-u32)) (now (start .args .work-u64)) (start .pre .1)) (omega arith))
+
+add-ends : tie.Need-add-ends
+add-ends c = search needs
+
+mul-ends : tie.Need-mul-ends
+mul-ends c = search needs
+
+sub-ends : tie.Need-sub-ends
+sub-ends c = search needs
+
+part-ends-start : tie.Need-part-ends-start
+part-ends-start c = search needs
+
+part-ends-end : tie.Need-part-ends-end
+part-ends-end c = search needs
+
+ends-requires-2 : tie.Need-ends-requires-2
+ends-requires-2 c κs = search needs
+
+same-length : tie.Need-same-length
+same-length c = search needs
+
+returns : tie.Need-returns
+returns c =
+    let start = c .before .before .before .before .before .before .before .before .before .before .before .before in
+    positions-written (start .args .g) (start .args .count) (now (start .args .work-u32)) (now (start .args .work-u64)) (start .pre .1) _ (c .before .before .before .before .before .before .ends .ensures) _ (c .before .before .ends2 .ensures)
+
+pub positions-spec : {M : Type 1} → statement M
+positions-spec =
+    tie.close
+    (tie.spec
+    add-side
+    mul-entries
+    mul-entries-2
+    mul-entries-3
+    add-entries
+    mul-entries-4
+    sub-entries
+    part-entries-start
+    part-entries-end
+    slice-relend-prefix-ends
+    slice-aggregate-ends
+    ends-requires
+    add-ends
+    mul-ends
+    sub-ends
+    part-ends-start
+    part-ends-end
+    ends-requires-2
+    same-length
+    returns)

@@ -1,0 +1,20 @@
+-- Candidates in work memory, over which the path search is asked.
+use mathlib.Core.Path.{_≡_}
+use mathlib.Core.List.{List}
+use Prim.Native.Nat.{ℕ, _+_, _*_, _≤_}
+use lib.Ieee.{Float}
+use lib.ListN.{length}
+use Rattle.grid.specs.declared.boundary.FrameGrid.{FrameGrid}
+use Rattle.candidates.specs.declared.candidate.Candidate.{Candidate}
+use Rattle.candidates.specs.Entries.{entriesOf, costsOf}
+use Rattle.plan_path.specs.Positions.{entriesIn}
+use Rattle.plan_path.specs.Seek.{cutsOf}
+
+-- work memory holds the candidates cs, and has room for their positions and for the search
+pub record CandidatesHeld (g : FrameGrid) (cs : List Candidate) (work positions : List ℕ) (costs : List Float) : Type 0 where
+  pub entries : entriesIn (g .frames) (length cs) work ≡ entriesOf cs
+  pub priced : cutsOf (g .frames) (length cs) costs ≡ costsOf cs
+  pub few : length cs ≤ g .frames + 1
+  pub u32s : 12 * (g .frames + 1) ≤ length work
+  pub u64s : 2 * (g .frames + 1) ≤ length positions
+  pub f64s : 7 * (g .frames + 1) ≤ length costs

@@ -1,0 +1,38 @@
+// The best path by length, searched and held in one work list.
+use crate::back;
+use path_by_length::solve::Solved;
+use path_by_length::solve::solve;
+use path_pieces::lengths::Lengths;
+ghost use Prim.Native.Nat.{_+_, _-_, _≤_};
+ghost use lib.ListN.{length};
+ghost use Rattle.path_by_length.specs.Paths.{lastOf};
+ghost use Rattle.path_by_length.specs.Table.{bestPath, bestScore};
+ghost use Rattle.path_by_length.specs.Solved.{TableRoom, cutsIn};
+ghost use Rattle.plan_path.specs.Within.{partAt};
+ghost use Rattle.plan_path.specs.Held.{PathHeld};
+
+// Searches in the part of `work` from `search` to `at`, and writes the path from `at` on. The costs of the cuts stand behind the scores' in `cost`.
+pub fn path_by_length(
+    left: &[u64],
+    right: &[u64],
+    lengths: Lengths,
+    work: &mut [u32],
+    search: usize,
+    at: usize,
+    cost: &mut [f64],
+) -> Solved
+    requires { ⌜ TableRoom lengths (now left) (now right) (partAt search (at - search) (now work)) (now cost) ⌝ }
+    requires { ⌜ (search ≤ at) × (at + length (now left) ≤ length (now work)) ⌝ }
+    ensures { λ r. ⌜
+        PathHeld search at
+        (bestPath lengths (now (left .entry)) (now (right .entry)) (cutsIn (length (now (left .entry))) (now (cost .entry))))
+        (bestScore lengths (now (left .entry)) (now (right .entry)) (cutsIn (length (now (left .entry))) (now (cost .entry)))
+        (lastOf (now (left .entry))))
+        (now (work .entry)) (now (work .exit)) r
+        ⌝ }
+{
+    let n = left.len();
+    let solved = solve(left, right, lengths, &mut work[search..at], cost);
+    back::backtrack_within(&mut *work, search + n, n, solved.len, at);
+    solved
+}

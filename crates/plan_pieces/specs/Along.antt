@@ -1,0 +1,74 @@
+-- Document 01's pieces (start, end, flags) and cuts (previous end, next start, reason) along a path, three numbers for each: what the Rust's `to_plan` makes.
+-- left and right have for each candidate the sample where a piece ends at it and where the next starts, as the path search takes them.
+-- reasons has the number of its reason.
+use Prim.Native.Nat.{ℕ, suc, _+_}
+use mathlib.Core.Bool.{Bool, false, _||_}
+use mathlib.Core.List.{List, [], _∷_, _++_}
+use lib.Ieee.{Float}
+use lib.ListN.{getD, set}
+use Rattle.path_pieces.specs.Pieces.{pieceLength}
+use Rattle.plan_pieces.specs.Flags.{isLonger, flagsOf}
+use Rattle.plan_pieces.specs.declared.pieces.Piece.{Piece}
+
+module _ (left right : List ℕ) where
+  -- ---- pieces
+
+  -- the piece from candidate i to candidate j; least and most are the minimum and the maximum, in samples
+  abbrev pub pieceNumbers : Float → ℕ → ℕ → ℕ → List ℕ
+  pieceNumbers least most i j = getD right i 0 ∷ (getD left j 0 ∷ (flagsOf least most (pieceLength left right i j) ∷ []))
+
+  -- where piece i of a path lies, as the code holds it
+  abbrev pub pieceAt : List ℕ → ℕ → Piece
+  pieceAt path i = record { start = getD right (getD path i 0) 0; end = getD left (getD path (suc i) 0) 0 }
+
+  -- from candidate i on
+  unfoldable pub piecesFrom : Float → ℕ → ℕ → List ℕ → List ℕ
+  piecesFrom least most i [] = []
+  piecesFrom least most i (j ∷ rest) = pieceNumbers least most i j ++ piecesFrom least most j rest
+
+  -- a piece from each candidate of a path to the next
+  unfoldable pub piecesAlongNumbers : Float → ℕ → List ℕ → List ℕ
+  piecesAlongNumbers least most [] = []
+  piecesAlongNumbers least most (i ∷ rest) = piecesFrom least most i rest
+
+  -- ---- cuts
+
+  -- the cut at candidate j
+  abbrev pub cutNumbers : List ℕ → ℕ → List ℕ
+  cutNumbers reasons j = getD left j 0 ∷ (getD right j 0 ∷ (getD reasons j 0 ∷ []))
+
+  -- from the cut at candidate j on; there is none at the last
+  unfoldable pub cutsFrom : List ℕ → ℕ → List ℕ → List ℕ
+  cutsFrom reasons j [] = []
+  cutsFrom reasons j (k ∷ rest) = cutNumbers reasons j ++ cutsFrom reasons k rest
+
+  -- a cut at each candidate between the first of a path and its last
+  unfoldable pub cutsAlongNumbers : List ℕ → List ℕ → List ℕ
+  cutsAlongNumbers reasons [] = []
+  cutsAlongNumbers reasons (i ∷ []) = []
+  cutsAlongNumbers reasons (i ∷ (j ∷ rest)) = cutsFrom reasons j rest
+
+  -- ---- pieces over the maximum
+
+  -- from candidate i on
+  unfoldable pub anyLongFrom : ℕ → ℕ → List ℕ → Bool
+  anyLongFrom most i [] = false
+  anyLongFrom most i (j ∷ rest) = isLonger most (pieceLength left right i j) || anyLongFrom most j rest
+
+  -- some piece of a path is longer than the maximum
+  unfoldable pub anyLong : ℕ → List ℕ → Bool
+  anyLong most [] = false
+  anyLong most (i ∷ rest) = anyLongFrom most i rest
+
+-- ---- candidates as numbers in a list
+
+-- the reasons, each behind the left and the right boundary
+unfoldable pub reasonsIn : List ℕ → List ℕ
+reasonsIn [] = []
+reasonsIn (l ∷ []) = []
+reasonsIn (l ∷ (r ∷ [])) = []
+reasonsIn (l ∷ (r ∷ (reason ∷ rest))) = reason ∷ reasonsIn rest
+
+-- three of them from `at` on
+unfoldable pub putThree : ℕ → ℕ → ℕ → ℕ → List ℕ → List ℕ
+putThree at a b c xs = set (set (set xs at a) (at + 1) b) (at + 2) c

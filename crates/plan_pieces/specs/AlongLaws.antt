@@ -1,0 +1,183 @@
+-- Writing three numbers for each step of a path: what is written so far, and what the rest of the path still gives, make up the whole.
+use mathlib.Core.Path.{_≡_, refl, sym, ap, subst, _∙_}
+use mathlib.Core.Bool.{Bool, true, false, _||_}
+use mathlib.Core.List.{List, [], _∷_, _++_, append-assoc, append-nil}
+use Prim.Native.Nat.{ℕ, zero, suc, _+_, _-_, _*_, _≤_, _<_}
+use native.Mathlib.Numerals.{add-one}
+use native.Mathlib.Omega.{arith}
+use lib.Ieee.{Float}
+use lib.ListN.{length, getD, drop, set, length-append, length-drop, length-set}
+use lib.Seq.{drop-cons}
+use borrow.Author.Tests.{lt-ltb, le-ltb}
+use Rattle.base_terms.specs.Limits.{maxLen}
+use Rattle.base_terms.specs.Lists.{onto}
+use Rattle.base_code.specs.FrontLaws.{onto-nil, onto-next}
+use Rattle.path_pieces.specs.Pieces.{pieceLength}
+use Rattle.plan_pieces.specs.Flags.{isLonger, flagsOf}
+use Rattle.plan_pieces.specs.Along.{pieceAt, pieceNumbers, piecesFrom, piecesAlongNumbers, cutNumbers, reasonsIn, cutsFrom, cutsAlongNumbers, anyLongFrom, anyLong, putThree}
+use Rattle.plan_pieces.specs.Drawn.{Drawn}
+use Rattle.plan_pieces.specs.declared.pieces.Piece.{Piece}
+
+-- ---- steps of a path
+
+module _ (left right : List ℕ) where
+  pub pieces-step : (least : Float) (most : ℕ) (path : List ℕ) (i : ℕ) → suc i < length path → piecesAlongNumbers left right least most (drop i path)
+      ≡ pieceNumbers left right least most (getD path i 0) (getD path (suc i) 0) ++ piecesAlongNumbers left right least most (drop (suc i) path)
+  unfolding piecesAlongNumbers piecesFrom
+  pieces-step least most path i h = rw (drop-cons path i 0 (omega (arith, h)), drop-cons path (suc i) 0 h)
+
+  pub pieces-none : (least : Float) (most : ℕ) (path : List ℕ) → length path ≤ 1 → piecesAlongNumbers left right least most path ≡ []
+  unfolding piecesAlongNumbers piecesFrom
+  pieces-none least most [] h = refl
+  pieces-none least most (i ∷ []) h = refl
+  pieces-none least most (i ∷ (j ∷ rest)) h = absurd (omega arith)
+
+  pub cuts-step : (reasons path : List ℕ) (i : ℕ) → suc (suc i) < length path
+      → cutsAlongNumbers left right reasons (drop i path) ≡ cutNumbers left right reasons (getD path (suc i) 0) ++ cutsAlongNumbers left right reasons (drop (suc i) path)
+  unfolding cutsAlongNumbers cutsFrom
+  cuts-step reasons path i h =
+      rw (drop-cons path i 0 (omega (arith, h)), drop-cons path (suc i) 0 (omega (arith, h)), drop-cons path (suc (suc i)) 0 h)
+
+  pub cuts-none : (reasons path : List ℕ) → length path ≤ 2 → cutsAlongNumbers left right reasons path ≡ []
+  unfolding cutsAlongNumbers cutsFrom
+  cuts-none reasons [] h = refl
+  cuts-none reasons (i ∷ []) h = refl
+  cuts-none reasons (i ∷ (j ∷ [])) h = refl
+  cuts-none reasons (i ∷ (j ∷ (k ∷ rest))) h = absurd (omega arith)
+
+  pub long-step : (most : ℕ) (path : List ℕ) (i : ℕ) → suc i < length path → anyLong left right most (drop i path)
+      ≡ (isLonger most (pieceLength left right (getD path i 0) (getD path (suc i) 0)) || anyLong left right most (drop (suc i) path))
+  unfolding anyLong anyLongFrom
+  long-step most path i h = rw (drop-cons path i 0 (omega (arith, h)), drop-cons path (suc i) 0 h)
+
+  pub long-none : (most : ℕ) (path : List ℕ) → length path ≤ 1 → anyLong left right most path ≡ false
+  unfolding anyLong anyLongFrom
+  long-none most [] h = refl
+  long-none most (i ∷ []) h = refl
+  long-none most (i ∷ (j ∷ rest)) h = absurd (omega arith)
+
+-- ---- a piece as the code holds it
+
+module _ (left right path : List ℕ) (d : Drawn left right path) (i : ℕ) (h : suc i < length path) (p : Piece) (lies : p ≡ pieceAt left right path i) where
+  -- it ends where it starts or after
+  pub piece-rises : p .start ≤ p .end
+  piece-rises = subst (λ (q : Piece). q .start ≤ q .end) (sym lies) (d .rises i h)
+
+  -- its length is within the limit of lengths
+  pub piece-small : p .end - p .start ≤ maxLen
+  piece-small = subst (λ (q : Piece). q .end - q .start ≤ maxLen) (sym lies) (omega (arith, d .bounded (suc i) h))
+
+  -- with its flags it is what the path gives next
+  pub piece-next : (least : Float) (most flags : ℕ) → flags ≡ flagsOf least most (p .end - p .start)
+      → piecesAlongNumbers left right least most (drop i path) ≡ (p .start ∷ (p .end ∷ (flags ∷ []))) ++ piecesAlongNumbers left right least most (drop (suc i) path)
+  unfolding pieceLength
+  piece-next least most flags e =
+      pieces-step left right least most path i h
+      ∙ ap (λ (ns : List ℕ). ns ++ piecesAlongNumbers left right least most (drop (suc i) path))
+      (sym (ap (λ (f : ℕ). p .start ∷ (p .end ∷ (f ∷ []))) e
+      ∙ ap (λ (q : Piece). q .start ∷ (q .end ∷ (flagsOf least most (q .end - q .start) ∷ []))) lies))
+
+-- ---- a cut as the code reads it
+
+pub reason-at : (entries : List ℕ) (j : ℕ) → 3 * suc j ≤ length entries → getD (reasonsIn entries) j 0 ≡ getD entries (3 * j + 2) 0
+unfolding reasonsIn
+reason-at [] j h = absurd (omega arith)
+reason-at (l ∷ []) j h = absurd (omega arith)
+reason-at (l ∷ (r ∷ [])) j h = absurd (omega arith)
+reason-at (l ∷ (r ∷ (c ∷ rest))) zero h = refl
+reason-at (l ∷ (r ∷ (c ∷ rest))) (suc j) h =
+    let e : 3 * suc j + 2 ≡ suc (suc (suc (3 * j + 2))) = omega arith in
+    reason-at rest j (omega arith) ∙ ap (λ (k : ℕ). getD (l ∷ (r ∷ (c ∷ rest))) k 0) (sym e)
+
+pub cut-next : (left right entries path : List ℕ) → Drawn left right path → 3 * length left ≤ length entries
+    → (i : ℕ) → suc (suc i) < length path → (j : ℕ) → j ≡ getD path (suc i) 0
+    → cutsAlongNumbers left right (reasonsIn entries) (drop i path)
+    ≡ (getD left j 0 ∷ (getD right j 0 ∷ (getD entries (3 * j + 2) 0 ∷ []))) ++ cutsAlongNumbers left right (reasonsIn entries) (drop (suc i) path)
+cut-next left right entries path d room i h j e =
+    cuts-step left right (reasonsIn entries) path i h
+    ∙ ap (λ (k : ℕ). cutNumbers left right (reasonsIn entries) k ++ cutsAlongNumbers left right (reasonsIn entries) (drop (suc i) path)) (sym e)
+    ∙ ap (λ (r : ℕ). (getD left j 0 ∷ (getD right j 0 ∷ (r ∷ []))) ++ cutsAlongNumbers left right (reasonsIn entries) (drop (suc i) path))
+    (reason-at entries j (omega (arith, e, room, d .named (suc i) (omega (arith, h)))))
+
+-- ---- a search for a piece that is longer than the maximum
+
+-- no piece before candidate i of the path is longer
+pub record Seeking (left right : List ℕ) (most : ℕ) (path : List ℕ) (i : ℕ) : Type 0 where
+  pub upto : i ≤ length path
+  pub is : anyLong left right most path ≡ anyLong left right most (drop i path)
+
+module _ (left right : List ℕ) (most : ℕ) (path : List ℕ) where
+  pub seeking-start : Seeking left right most path 0
+  seeking-start = record { upto = omega arith; is = refl }
+
+  module _ (i : ℕ) (w : Seeking left right most path i) (p : Piece) (lies : p ≡ pieceAt left right path i) where
+    longer-is : isLonger most (p .end - p .start) ≡ isLonger most (pieceLength left right (getD path i 0) (getD path (suc i) 0))
+    unfolding pieceLength
+    longer-is = ap (λ (q : Piece). isLonger most (q .end - q .start)) lies
+
+    pub seeking-found : suc i < length path → most < p .end - p .start → true ≡ anyLong left right most path
+    seeking-found h more =
+        sym (w .is ∙ long-step left right most path i h
+        ∙ ap (λ (b : Bool). b || anyLong left right most (drop (suc i) path)) (sym longer-is ∙ lt-ltb most (p .end - p .start) more))
+
+    pub seeking-next : suc i < length path → p .end - p .start ≤ most → Seeking left right most path (i + 1)
+    seeking-next h less =
+        record {
+          upto = omega (arith, h);
+          is = rw add-one (w .is ∙ long-step left right most path i h
+              ∙ ap (λ (b : Bool). b || anyLong left right most (drop (suc i) path)) (sym longer-is ∙ le-ltb most (p .end - p .start) less));
+        }
+
+  pub seeking-done : (i : ℕ) → Seeking left right most path i → length path ≤ i + 1 → false ≡ anyLong left right most path
+  seeking-done i w h = sym (w .is ∙ long-none left right most (drop i path) (rw length-drop (omega (arith, h))))
+
+-- ---- three more numbers
+
+pub put-length : (at a b c : ℕ) (xs : List ℕ) → length (putThree at a b c xs) ≡ length xs
+unfolding putThree
+put-length at a b c xs = length-set (set (set xs at a) (at + 1) b) (at + 2) c ∙ length-set (set xs at a) (at + 1) b ∙ length-set xs at a
+
+put-three : (p xs : List ℕ) (at a b c : ℕ) → length p ≡ at → at + 3 ≤ length xs → putThree at a b c (onto p xs) ≡ onto (p ++ (a ∷ (b ∷ (c ∷ [])))) xs
+unfolding putThree
+put-three p xs at a b c e h =
+    ap (λ (ys : List ℕ). set (set ys (at + 1) b) (at + 2) c) (onto-next p xs at a e (omega arith))
+    ∙ ap (λ (ys : List ℕ). set ys (at + 2) c) (onto-next (p ++ (a ∷ [])) xs (at + 1) b one (omega arith))
+    ∙ onto-next ((p ++ (a ∷ [])) ++ (b ∷ [])) xs (at + 2) c two (omega arith)
+    ∙ ap (λ (q : List ℕ). onto q xs) (append-assoc (p ++ (a ∷ [])) (b ∷ []) (c ∷ []) ∙ append-assoc p (a ∷ []) (b ∷ (c ∷ [])))
+  where
+    one : length (p ++ (a ∷ [])) ≡ at + 1
+    one = simp length-append (omega (arith, e))
+
+    two : length ((p ++ (a ∷ [])) ++ (b ∷ [])) ≡ at + 2
+    two = simp length-append (omega (arith, e))
+
+-- the numbers of the first i steps are written; `all` gives those of a path
+pub record Writing (all : List ℕ → List ℕ) (path out₀ out : List ℕ) (i : ℕ) : Type 0 where
+  pub upto : i ≤ length path
+  pub written : List ℕ
+  pub size : length written ≡ 3 * i
+  pub same : length out ≡ length out₀
+  pub is : out ≡ onto written out₀
+  pub rest : all path ≡ written ++ all (drop i path)
+
+module _ (all : List ℕ → List ℕ) (path out₀ : List ℕ) where
+  pub writing-start : Writing all path out₀ out₀ 0
+  writing-start = record { upto = omega arith; written = []; size = refl; same = refl; is = sym (onto-nil out₀); rest = refl }
+
+  module _ (out : List ℕ) (i : ℕ) (w : Writing all path out₀ out i) where
+    pub writing-next : i < length path → (a b c : ℕ) (out′ : List ℕ) → all (drop i path) ≡ (a ∷ (b ∷ (c ∷ []))) ++ all (drop (suc i) path) → 3 * i + 3 ≤ length out₀
+        → out′ ≡ putThree (3 * i) a b c out → Writing all path out₀ out′ (i + 1)
+    writing-next more a b c out′ step h e =
+        record {
+          upto = omega (arith, more);
+          written = w .written ++ (a ∷ (b ∷ (c ∷ [])));
+          size = simp length-append (omega (arith, w .size));
+          same = ap length e ∙ put-length (3 * i) a b c out ∙ w .same;
+          is = e ∙ ap (putThree (3 * i) a b c) (w .is) ∙ put-three (w .written) out₀ (3 * i) a b c (w .size) h;
+          rest = rw add-one
+              (w .rest ∙ ap (λ (t : List ℕ). w .written ++ t) step ∙ sym (append-assoc (w .written) (a ∷ (b ∷ (c ∷ []))) (all (drop (suc i) path))));
+        }
+
+    pub writing-done : all (drop i path) ≡ [] → out ≡ onto (all path) out₀
+    writing-done e =
+        w .is ∙ ap (λ (p : List ℕ). onto p out₀) (sym (w .rest ∙ ap (λ (t : List ℕ). w .written ++ t) e ∙ append-nil (w .written)))

@@ -1,0 +1,47 @@
+-- Every number but that of a plan is above 0, so it tells whether a plan was made.
+use mathlib.Core.Path.{_≡_, refl, sym, ap, _∙_}
+use mathlib.Core.Bool.{false}
+use mathlib.Core.List.{List}
+use lib.Ieee.{Float}
+use Rattle.base_laws.specs.Tests.{holds}
+use Rattle.grid.specs.declared.validate.Recording.{Recording}
+use Rattle.silence_list.specs.declared.config.SegmentConfig.{SegmentConfig}
+use Rattle.candidate_settings.specs.declared.config.PlanConfig.{PlanConfig}
+use Prim.Native.Nat.{ℕ}
+use native.Mathlib.Omega.{arith}
+use Rattle.plan_tests.specs.Refusal as tests
+use Rattle.plan_tests.specs.RefusalLaws.{number-fine}
+use Rattle.plan_pieces.specs.Answer.{numberOf}
+use Rattle.plan_pieces.specs.declared.answer.Answer.{Answer}
+use Rattle.plan_pieces.specs.declared.answer.Answer.the-variants.{Planned, Refused, ShortParent, NoReach, ShortOutput}
+
+-- a plan was made, of so many pieces
+pub record IsPlanned (a : Answer) : Type 0 where
+  pub pieces : ℕ
+  pub is : a ≡ Planned pieces
+
+-- a refusal before 14 has a number above 0
+abbrev pub Numbered : Answer → Type 0
+Numbered (Planned pieces) = Unit {0}
+Numbered (Refused v) = tests.numberOf v ≡ 0 → ⊥
+Numbered ShortParent = Unit {0}
+Numbered NoReach = Unit {0}
+Numbered ShortOutput = Unit {0}
+
+-- as that of the first test which fails has
+pub refused-numbered : (r : Recording) (segment : SegmentConfig) (plan : PlanConfig) (values : List Float) (flags : List ℕ) (levels : List Float) (n32 n64 nf : ℕ)
+    → tests.isFine (tests.firstRefusalOf r segment plan values flags levels n32 n64 nf) ≡ false
+    → Numbered (Refused (tests.firstRefusalOf r segment plan values flags levels n32 n64 nf))
+refused-numbered r segment plan values flags levels n32 n64 nf n e =
+    absurd (holds (sym n ∙ ap tests.isFine (number-fine r segment plan values flags levels n32 n64 nf e)))
+
+-- the number is 0 where a plan was made, and nowhere else
+pub number-zero : (a : Answer) → Numbered a → numberOf a ≡ 0 → IsPlanned a
+number-zero (Planned pieces) n e = record { pieces = pieces; is = refl }
+number-zero (Refused v) n e = absurd (n e)
+number-zero ShortParent n e = absurd (omega (arith, e))
+number-zero NoReach n e = absurd (omega (arith, e))
+number-zero ShortOutput n e = absurd (omega (arith, e))
+
+pub planned-zero : (a : Answer) → IsPlanned a → numberOf a ≡ 0
+planned-zero a p = ap numberOf (p .is)

@@ -1,0 +1,79 @@
+-- Three numbers for each piece and for each cut, in the order of the path.
+use mathlib.Core.Path.{_≡_, refl, ap, _∙_}
+use mathlib.Core.List.{List, [], _∷_}
+use Prim.Native.Nat.{ℕ, zero, suc, _+_, _-_, _*_, _<_}
+use native.Mathlib.Omega.{arith}
+use lib.Ieee.{Float}
+use lib.ListN.{length, getD}
+use Rattle.path_pieces.specs.Pieces.{pieceLength}
+use Rattle.plan_pieces.specs.Flags.{flagsOf}
+use Rattle.plan_pieces.specs.Along.{piecesFrom, piecesAlongNumbers, cutsFrom, cutsAlongNumbers}
+
+-- the three numbers of piece or cut i
+pub record Numbers (ns : List ℕ) (i first second third : ℕ) : Type 0 where
+  pub one : getD ns (3 * i) 0 ≡ first
+  pub two : getD ns (3 * i + 1) 0 ≡ second
+  pub three : getD ns (3 * i + 2) 0 ≡ third
+
+-- three more stand before them
+numbers-on : (x y z : ℕ) (ns : List ℕ) (i a b c : ℕ) → Numbers ns i a b c → Numbers (x ∷ (y ∷ (z ∷ ns))) (suc i) a b c
+numbers-on x y z ns i a b c n =
+    record {
+      one = let e : 3 * suc i ≡ suc (suc (suc (3 * i))) = omega arith in ap at e ∙ n .one;
+      two = let e : 3 * suc i + 1 ≡ suc (suc (suc (3 * i + 1))) = omega arith in ap at e ∙ n .two;
+      three = let e : 3 * suc i + 2 ≡ suc (suc (suc (3 * i + 2))) = omega arith in ap at e ∙ n .three;
+    }
+  where
+    at : ℕ → ℕ
+    at k = getD (x ∷ (y ∷ (z ∷ ns))) k 0
+
+module _ (left right : List ℕ) where
+  -- ---- pieces
+
+  from-length : (least : Float) (most i : ℕ) (path : List ℕ) → length (piecesFrom left right least most i path) ≡ 3 * length path
+  unfolding piecesFrom
+  from-length least most i [] = refl
+  from-length least most i (j ∷ rest) = omega (arith, from-length least most j rest)
+
+  -- a path has one piece fewer than candidates
+  pub pieces-length : (least : Float) (most : ℕ) (path : List ℕ) → length (piecesAlongNumbers left right least most path) ≡ 3 * (length path - 1)
+  unfolding piecesAlongNumbers
+  pieces-length least most [] = refl
+  pieces-length least most (i ∷ rest) = omega (arith, from-length least most i rest)
+
+  -- piece i starts at the right end of candidate i of the path, ends at the left end of the next, and has the flags of its length
+  pub piece-numbers : (least : Float) (most : ℕ) (path : List ℕ) (i : ℕ) → suc i < length path
+      → Numbers (piecesAlongNumbers left right least most path) i
+      (getD right (getD path i 0) 0) (getD left (getD path (suc i) 0) 0) (flagsOf least most (pieceLength left right (getD path i 0) (getD path (suc i) 0)))
+  unfolding piecesAlongNumbers piecesFrom
+  piece-numbers least most [] i h = absurd (omega arith)
+  piece-numbers least most (p ∷ []) i h = absurd (omega arith)
+  piece-numbers least most (p ∷ (q ∷ rest)) zero h = record { one = refl; two = refl; three = refl }
+  piece-numbers least most (p ∷ (q ∷ rest)) (suc i) h =
+      numbers-on _ _ _ (piecesAlongNumbers left right least most (q ∷ rest)) i _ _ _ (piece-numbers least most (q ∷ rest) i (omega arith))
+
+  -- ---- cuts
+
+  cuts-from-length : (reasons : List ℕ) (j : ℕ) (path : List ℕ) → length (cutsFrom left right reasons j path) ≡ 3 * length path
+  unfolding cutsFrom
+  cuts-from-length reasons j [] = refl
+  cuts-from-length reasons j (k ∷ rest) = omega (arith, cuts-from-length reasons k rest)
+
+  -- and one cut fewer than pieces
+  pub cuts-length : (reasons path : List ℕ) → length (cutsAlongNumbers left right reasons path) ≡ 3 * (length path - 1 - 1)
+  unfolding cutsAlongNumbers
+  cuts-length reasons [] = refl
+  cuts-length reasons (i ∷ []) = refl
+  cuts-length reasons (i ∷ (j ∷ rest)) = omega (arith, cuts-from-length reasons j rest)
+
+  -- cut i lies at candidate i + 1 of the path
+  pub cut-numbers : (reasons path : List ℕ) (i : ℕ) → suc (suc i) < length path
+      → Numbers (cutsAlongNumbers left right reasons path) i
+      (getD left (getD path (suc i) 0) 0) (getD right (getD path (suc i) 0) 0) (getD reasons (getD path (suc i) 0) 0)
+  unfolding cutsAlongNumbers cutsFrom
+  cut-numbers reasons [] i h = absurd (omega arith)
+  cut-numbers reasons (p ∷ []) i h = absurd (omega arith)
+  cut-numbers reasons (p ∷ (q ∷ [])) i h = absurd (omega arith)
+  cut-numbers reasons (p ∷ (q ∷ (r ∷ rest))) zero h = record { one = refl; two = refl; three = refl }
+  cut-numbers reasons (p ∷ (q ∷ (r ∷ rest))) (suc i) h =
+      numbers-on _ _ _ (cutsAlongNumbers left right reasons (q ∷ (r ∷ rest))) i _ _ _ (cut-numbers reasons (q ∷ (r ∷ rest)) i (omega arith))

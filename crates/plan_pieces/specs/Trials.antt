@@ -1,0 +1,42 @@
+-- The definitions at document 01's recording R, seven frames of 100 samples: the plan as printed, with silence, and the trial "maximum 300 ms and count 2".
+use mathlib.Core.Path.{_≡_, refl}
+use mathlib.Core.List.{List, [], _∷_}
+use Prim.Native.Nat.{ℕ}
+use lib.Ieee.{span, climb, size, odd, units, round, sum, add, neg, sub, div, lt, ofInt}
+use Rattle.grid.specs.Boundary.{boundaryOf, startOf}
+use Rattle.grid.specs.Durations.{samplesFloor, samplesIn}
+use Rattle.grid.specs.declared.boundary.FrameGrid.{FrameGrid}
+use Rattle.path_pieces.specs.Pieces.{pieceLength}
+use Rattle.candidates.specs.Candidates.{node}
+use Rattle.candidates.specs.Asked.{leftsOf, rightsOf}
+use Rattle.candidates.specs.declared.candidate.Candidate.{Candidate}
+use Rattle.candidates.specs.declared.candidate.Reason.the-variants.{Silence}
+use Rattle.base_terms.specs.Floats.{nought}
+use Rattle.plan_pieces.specs.Flags.{shortFlag, longFlag, flagsOf}
+use Rattle.plan_pieces.specs.Along.{piecesFrom, piecesAlongNumbers, cutsFrom, cutsAlongNumbers}
+use Rattle.plan_pieces.specs.PlanAlong.{reasonsOf}
+
+grid : FrameGrid
+grid = record { «sample_rate» = 1000; «frame_rate» = 10; hop = 1; len = 700; frames = 7 }
+
+-- the two ends, and a cut in the silence at boundary k
+abbrev cutIn : ℕ → List Candidate
+cutIn k = node 0 ∷ (record { left = k; right = k; cost = nought; reason = Silence } ∷ (node 7 ∷ []))
+
+abbrev along : ℕ → ℕ → List ℕ
+along k most = piecesAlongNumbers (leftsOf grid (cutIn k)) (rightsOf grid (cutIn k)) (samplesIn 1000 100000000) (samplesFloor 1000 most) (0 ∷ (1 ∷ (2 ∷ [])))
+
+-- pieces 0 to 400 and 400 to 700, without flags
+printed : along 4 400000000 ≡ 0 ∷ (400 ∷ (0 ∷ (400 ∷ (700 ∷ (0 ∷ [])))))
+unfolding span climb size odd units round sum add neg sub div lt ofInt grid boundaryOf startOf samplesFloor samplesIn pieceLength shortFlag longFlag flagsOf piecesFrom piecesAlongNumbers
+printed = refl
+
+-- and the cut between them, in silence
+printed-cut : cutsAlongNumbers (leftsOf grid (cutIn 4)) (rightsOf grid (cutIn 4)) (reasonsOf (cutIn 4)) (0 ∷ (1 ∷ (2 ∷ []))) ≡ 400 ∷ (400 ∷ (0 ∷ []))
+unfolding grid boundaryOf startOf cutsFrom cutsAlongNumbers
+printed-cut = refl
+
+-- with a maximum of 300 ms the second piece of 0 to 300 and 300 to 700 is flagged long
+long-second : along 3 300000000 ≡ 0 ∷ (300 ∷ (0 ∷ (300 ∷ (700 ∷ (2 ∷ [])))))
+unfolding span climb size odd units round sum add neg sub div lt ofInt grid boundaryOf startOf samplesFloor samplesIn pieceLength shortFlag longFlag flagsOf piecesFrom piecesAlongNumbers
+long-second = refl
