@@ -114,7 +114,17 @@ fn lengths(plan: &mut Settings, rng: &mut Rng) {
 
 fn put(bytes: &mut Bytes, job: &Job, refusal: u32, found: &Found) {
     put_recording(bytes, &job.recording);
-    let (plan, weights) = (&job.plan, &job.plan.weights);
+    put_settings(bytes, &job.plan);
+    bytes.u32(refusal);
+    bytes.u32(found.costs.len() as u32);
+    put_lists(bytes, &job.recording.case);
+    found.ends.iter().for_each(|n| bytes.u32(*n));
+    found.costs.iter().for_each(|c| bytes.f64(*c));
+}
+
+/// The settings of a plan.
+pub fn put_settings(bytes: &mut Bytes, plan: &Settings) {
+    let weights = &plan.weights;
     bytes.u64(plan.min);
     bytes.u64(plan.target);
     bytes.u64(plan.max);
@@ -129,9 +139,4 @@ fn put(bytes: &mut Bytes, job: &Job, refusal: u32, found: &Found) {
     bytes.u64(weights.pause_ref);
     bytes.f64(weights.target);
     bytes.f64(weights.short);
-    bytes.u32(refusal);
-    bytes.u32(found.costs.len() as u32);
-    put_lists(bytes, &job.recording.case);
-    found.ends.iter().for_each(|n| bytes.u32(*n));
-    found.costs.iter().for_each(|c| bytes.f64(*c));
 }

@@ -28,12 +28,12 @@
 //! and of a cut, one piece less, one more, and a refusal; and the number of a refusal.
 
 use super::Bytes;
+use super::candidates::put_settings;
 use super::silences::{put_lists, put_recording};
 use crate::domain::{MOST_SAMPLES, RATES};
 use crate::plan_job::planned::Planned;
-use crate::plan_job::{Job, Settings, trials};
+use crate::plan_job::{Job, trials};
 use crate::rng::Rng;
-use crate::silence_job;
 
 const MOST_FRAMES: u64 = 30;
 
@@ -183,22 +183,4 @@ fn put(bytes: &mut Bytes, job: &Job, lists: &Lists, refusal: u32, answer: &Plann
     put_lists(bytes, &job.recording.case);
     answer.pieces.iter().for_each(|n| bytes.u64(*n));
     answer.cuts.iter().for_each(|n| bytes.u64(*n));
-}
-
-fn put_settings(bytes: &mut Bytes, plan: &Settings) {
-    let weights = &plan.weights;
-    bytes.u64(plan.min);
-    bytes.u64(plan.target);
-    bytes.u64(plan.max);
-    bytes.u32(plan.by_count.into());
-    bytes.u32(plan.count);
-    bytes.u32(plan.drop_gaps.into());
-    bytes.u32(plan.placement.into());
-    bytes.f32(plan.ratio);
-    bytes.f64(weights.cut);
-    bytes.f64(weights.level);
-    bytes.f64(weights.pause);
-    bytes.u64(weights.pause_ref);
-    bytes.f64(weights.target);
-    bytes.f64(weights.short);
 }
