@@ -20,21 +20,14 @@ copying-start list out l = record { within = omega arith; ends = refl; room = l;
 
 module _ {A : Type 0} (list out₀ : List A) (end : ℕ) (out : List A) (i : ℕ) (w : Copying list out₀ end out i) where
   pub copying-next : (z : A) → i < end → Copying list out₀ end (set out i (getD list i z)) (i + 1)
-  copying-next z l = record {
-    within = omega (arith, w .ends);
-    ends = w .ends;
-    room = w .room;
-    same = length-set out i (getD list i z) ∙ w .same;
-    front = rw (w .front, add-one) put;
-  }
-    where
-      put : set (take i list ++ drop i out₀) i (getD list i z) ≡ take (suc i) list ++ drop (suc i) out₀
-      put =
-          let d = drop-cons out₀ i z (omega (arith, w .ends, w .room)) in
-          ap (λ (t : List A). set (take i list ++ t) i (getD list i z)) d
-          ∙ set-at (take i list) (getD out₀ i z) (drop (suc i) out₀) (getD list i z) i (length-take-le i list (w .within))
-          ∙ sym (append-snoc (take i list) (getD list i z) (drop (suc i) out₀))
-          ∙ ap (λ (t : List A). t ++ drop (suc i) out₀) (sym (take-suc list i z (omega (arith, w .ends))))
+  copying-next z l =
+      let put : set (take i list ++ drop i out₀) i (getD list i z) ≡ take (suc i) list ++ drop (suc i) out₀ =
+      let d = drop-cons out₀ i z (omega (arith, w .ends, w .room)) in
+      ap (λ (t : List A). set (take i list ++ t) i (getD list i z)) d
+      ∙ set-at (take i list) (getD out₀ i z) (drop (suc i) out₀) (getD list i z) i (length-take-le i list (w .within))
+      ∙ sym (append-snoc (take i list) (getD list i z) (drop (suc i) out₀))
+      ∙ ap (λ (t : List A). t ++ drop (suc i) out₀) (sym (take-suc list i z (omega (arith, w .ends)))) in
+      search (arith, w .ends, w .room, length-set out i (getD list i z) ∙ w .same, w .front, add-one, put)
 
   pub copying-done : end ≤ i → out ≡ onto list out₀
   unfolding onto

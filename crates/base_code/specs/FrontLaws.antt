@@ -66,13 +66,6 @@ module _ {A : Type 0} where
     | inr g ↦ let e : k ≡ n = omega arith in rw e (getD-at (tabulate f n) (f n) [] z n (tabulate-length f n))
   ]
 
-  -- the front holds them
-  pub onto-tabulate-at : (f : ℕ → A) (xs : List A) (n k : ℕ) (z : A) → k < n → getD (onto (tabulate f n) xs) k z ≡ f k
-  onto-tabulate-at f xs n k z h = onto-at (tabulate f n) xs k z (rw tabulate-length h) ∙ tabulate-at f n k z h
-
-  pub onto-tabulate-length : (f : ℕ → A) (xs : List A) (n : ℕ) → n ≤ length xs → length (onto (tabulate f n) xs) ≡ length xs
-  onto-tabulate-length f xs n h = onto-length (tabulate f n) xs (rw tabulate-length h)
-
   -- one more is written
   pub onto-tabulate-next : (f : ℕ → A) (xs : List A) (n : ℕ) → n < length xs → set (onto (tabulate f n) xs) n (f n) ≡ onto (tabulate f (suc n)) xs
   unfolding tabulate

@@ -7,7 +7,7 @@ pub mod ListsLaws
 pub mod Elements
 -- FrontLaws: a list written at its front, or from its back
 --   onto-length, onto-at, onto-take, onto-all, onto-next   what stands at the front, and one more written
---   tabulate-length, tabulate-at, onto-tabulate-*          the values of a function there
+--   tabulate-length, tabulate-at                           the values of a function there
 --   back-next             one more, from the back
 pub mod FrontLaws
 -- Copying: what holds while a loop copies a list to the front of another

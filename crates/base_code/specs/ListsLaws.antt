@@ -1,6 +1,6 @@
 -- Lists of any element: tests of every element, and lists that were cleared.
 use mathlib.Core.Path.{_≡_, refl, sym, ap, _∙_}
-use mathlib.Core.Bool.{Bool, true, false, _&&_}
+use mathlib.Core.Bool.{Bool, true, false, _&&_, and-true}
 use mathlib.Core.List.{List, [], _∷_, _++_, append-nil}
 use Prim.Native.Nat.{ℕ, zero, suc, _+_, _≤_, _<_}
 use native.Mathlib.Nat.{not-suc-le-zero, le-of-suc-le-suc}
@@ -59,10 +59,6 @@ module _ {A : Type 0} (p : A → Bool) where
 -- `ok` tells whether the first i elements pass: what holds while a loop that ends at `end` tests all of them, with no early exit
 abbrev pub Tested : {A : Type 0} → (A → Bool) → List A → ℕ → Bool → ℕ → Type 0
 Tested p xs end ok i = (i ≤ length xs) × (end ≡ length xs) × (ok ≡ allOf p (take i xs))
-
-and-true : (a : Bool) → (a && true) ≡ a
-and-true true = refl
-and-true false = refl
 
 and-assoc : (a b c : Bool) → (a && (b && c)) ≡ ((a && b) && c)
 and-assoc true b c = refl

@@ -20,10 +20,9 @@ unfolding lt
 below-cross m e t = subst (λ (n : ℕ). n < 2 ^ 52 * down e) (mul-one (m * up e)) (subst (λ (n : ℕ). m * up e * 1 < n * down e) (one-mul (2 ^ 52)) (ltb→lt (m * up e * 1) (1 * 2 ^ 52 * down e) t))
 
 twice : (a b : ℕ) → (a * b + a * b) * b ≡ a * 2 * (b * b)
-twice a b = ap (λ (n : ℕ). n * b) (sym (two-mul (a * b))) ∙ sorted a b
-  where
-    sorted : (a b : ℕ) → 2 * (a * b) * b ≡ a * 2 * (b * b)
-    sorted a b = simp (mul-assoc, mul-comm, mul-left-comm)
+twice a b =
+    let sorted : (a b : ℕ) → 2 * (a * b) * b ≡ a * 2 * (b * b) = λ a b. simp (mul-assoc, mul-comm, mul-left-comm) in
+    ap (λ (n : ℕ). n * b) (sym (two-mul (a * b))) ∙ sorted a b
 
 -- a value plus itself is the fraction's double
 double-is : (s : Bool) (m : ℕ) (e : ℤ) → add binary64 (fin s m e) (fin s m e) ≡ round binary64 s (m * up e * 2) (down e)
@@ -78,10 +77,7 @@ zero-doubled : (m : ℕ) (e : ℤ) → m * up e ≡ 0 → Doubled (fin true m e)
 unfolding halfAway
 zero-doubled m e z =
     let w : toUnsigned 64 (add binary64 (fin true m e) (fin true m e)) ≡ 0 = no-part (add binary64 (fin true m e) (fin true m e)) (rw (double-is true m e) (round-has binary64 true (m * up e * 2) (down e))) in
-    record { within = rw w (lit≤ tt); rounds = rw (w, z) (sym (div-eq-of-lt (more (down e) (down-pos e)))) }
-  where
-    more : (b : ℕ) → 0 < b → 0 * 2 + b < b * 2
-    more b h = omega arith
+    record { within = rw w (lit≤ tt); rounds = rw (w, z) (sym (div-eq-of-lt (omega (arith, down-pos e)))) }
 
 pub doubled : (x : Float) → T (fits binary64 x) → T (le (fin false 0 (pos 0)) x) → T (lt x (fin false 1 (pos 52))) → Doubled x
 unfolding le lt eq

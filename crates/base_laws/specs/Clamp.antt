@@ -4,27 +4,28 @@ use mathlib.Core.Path.{_≡_}
 use mathlib.Core.Logic.{_⊎_, inl, inr}
 use mathlib.Core.Bool.{Bool, true, false, not, _||_, cond}
 use lib.Dec.{T, T-not}
+use lib.Ieee.Bits.{is-true, is-false}
 use lib.Ieee.{Float, lt, le, isNan}
 use Rattle.base_terms.specs.Floats.{minOf, maxOf, clampOf}
-use Rattle.base_laws.specs.Tests.{passes, cond-yes, cond-no}
-use Rattle.base_laws.specs.Order.{float-le-refl, float-le-total, float-le-trans, float-le-numbers, float-lt-le, float-not-lt, float-le-not-lt, float-lt-le-trans}
+use Rattle.base_laws.specs.Tests.{passes, tested}
+use Rattle.base_laws.specs.Order.{float-le-refl, float-le-total, float-le-trans, float-le-numbers, float-lt-le, float-not-lt, float-le-not-lt}
 
 -- ---- the least and the greatest
 
 -- the least is one of the two
 pub min-one : (x y : Float) → (minOf x y ≡ x) ⊎ (minOf x y ≡ y)
 unfolding minOf
-min-one x y = elim (passes (le x y || isNan y)) [ inl t ↦ inl (cond-yes (le x y || isNan y) x y t) | inr t ↦ inr (cond-no (le x y || isNan y) x y t) ]
+min-one x y = elim (tested (le x y || isNan y)) [ inl t ↦ inl (rw t) | inr t ↦ inr (rw t) ]
 
 -- the greatest is one of the two
 pub max-one : (x y : Float) → (maxOf x y ≡ x) ⊎ (maxOf x y ≡ y)
 unfolding maxOf
-max-one x y = elim (passes (le y x || isNan y)) [ inl t ↦ inl (cond-yes (le y x || isNan y) x y t) | inr t ↦ inr (cond-no (le y x || isNan y) x y t) ]
+max-one x y = elim (tested (le y x || isNan y)) [ inl t ↦ inl (rw t) | inr t ↦ inr (rw t) ]
 
 -- a choice between x and y by whether `good` passes, where y is no NaN
 choose : (good : Bool) (x y : Float) (P : Float → Type 0) → T (not (isNan y)) → (T good → P x) → (T (not good) → P y) → P (cond (good || isNan y) x y)
 choose true x y P n f g = f tt
-choose false x y P n f g = rw (cond-no (isNan y) x y n) (g tt)
+choose false x y P n f g = rw (is-false (isNan y) n) (g tt)
 
 not-le : (x y : Float) → T (not (isNan x)) → T (not (isNan y)) → T (not (le x y)) → T (le y x)
 not-le x y p q h = elim (float-le-total y x q p) [ inl k ↦ k | inr k ↦ absurd (T-not (le x y) h k) ]
@@ -48,18 +49,17 @@ max-above x y p q =
 -- a value in the range stays
 pub clamp-inside : (x lo hi : Float) → T (le lo x) → T (le x hi) → clampOf x lo hi ≡ x
 unfolding clampOf
-clamp-inside x lo hi h k = rw (cond-no (lt x lo) lo x (float-le-not-lt x lo h)) (cond-no (lt hi x) hi x (float-le-not-lt hi x k))
+clamp-inside x lo hi h k = rw (is-false (lt x lo) (float-le-not-lt x lo h), is-false (lt hi x) (float-le-not-lt hi x k))
 
 -- a value below it becomes its low end
 pub clamp-below : (x lo hi : Float) → T (lt x lo) → T (le lo hi) → clampOf x lo hi ≡ lo
 unfolding clampOf
-clamp-below x lo hi h k = rw (cond-yes (lt x lo) lo x h) (cond-no (lt hi lo) hi lo (float-le-not-lt hi lo k))
+clamp-below x lo hi h k = rw (is-true (lt x lo) h, is-false (lt hi lo) (float-le-not-lt hi lo k))
 
 -- a value above it becomes its high end
 pub clamp-above : (x lo hi : Float) → T (lt hi x) → T (le lo hi) → clampOf x lo hi ≡ hi
 unfolding clampOf
-clamp-above x lo hi h k =
-    rw (cond-no (lt x lo) lo x (float-le-not-lt x lo (float-le-trans lo hi x k (float-lt-le hi x h)))) (cond-yes (lt hi x) hi x h)
+clamp-above x lo hi h k = rw (is-false (lt x lo) (float-le-not-lt x lo (float-le-trans lo hi x k (float-lt-le hi x h))), is-true (lt hi x) h)
 
 -- so the three cases cover it
 by-place : (x lo hi : Float) (P : Float → Type 0) → T (not (isNan x)) → T (le lo hi) → (T (lt x lo) → P lo) → (T (lt hi x) → P hi)
@@ -82,17 +82,6 @@ clamp-range x lo hi n r =
     by-place x lo hi (λ (c : Float). T (le lo c) × T (le c hi)) n r (λ (a : T (lt x lo)). (float-le-refl lo (float-le-numbers lo hi r .0), r))
     (λ (b : T (lt hi x)). (r, float-le-refl hi (float-le-numbers lo hi r .1)))
     (λ (l : T (le lo x)) (h : T (le x hi)). (l, h))
-
--- and grows with the value
-pub clamp-mono : (x y lo hi : Float) → T (le x y) → T (le lo hi) → T (le (clampOf x lo hi) (clampOf y lo hi))
-clamp-mono x y lo hi k r =
-    let nx : T (not (isNan x)) = float-le-numbers x y k .0 in
-    let ny : T (not (isNan y)) = float-le-numbers x y k .1 in
-    by-place x lo hi (λ (c : Float). T (le c (clampOf y lo hi))) nx r (λ (a : T (lt x lo)). clamp-range y lo hi ny r .0)
-    (λ (b : T (lt hi x)). rw (clamp-above y lo hi (float-lt-le-trans hi x y b k) r) (float-le-refl hi (float-le-numbers lo hi r .1)))
-    (λ (l : T (le lo x)) (h : T (le x hi)).
-    by-place y lo hi (λ (c : Float). T (le x c)) ny r
-    (λ (a : T (lt y lo)). float-le-trans x y lo k (float-lt-le y lo a)) (λ (b : T (lt hi y)). h) (λ (l' : T (le lo y)) (h' : T (le y hi)). k))
 
 -- it lies between the value and whatever else is in the range: nothing there is closer
 pub clamp-between : (t lo x hi : Float) → T (not (isNan t)) → T (le lo x) → T (le x hi)

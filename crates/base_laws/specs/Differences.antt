@@ -1,34 +1,52 @@
+-- Sums and differences that are no NaN: a number and a finite value. Only two infinities can cancel out.
 -- Differences of finite values: they grow with the first and fall with the second, as the sums that they are; x - x is zero, so the order of x and y shows in the sign of x - y.
 -- The difference of two values that are not negative is no larger than the larger of them, so it is finite where that is a value of the format.
-use mathlib.Core.Path.{_≡_, refl, ap, _∙_}
+-- A value of f64 less one of f32 does not overflow: the largest f64 and 2 ^ 128 together still round to a finite value.
+use Prim.Native.Nat.{ℕ, _*_, _+_, _-_, _≤_, _<_, suc, _^_}
+use mathlib.Core.Bool.{Bool, true, false, not, cond, true≢false, Bool·beq}
+use lib.Dec.{T, ltb, lit≤}
+use lib.Ieee.{Float, nan, inf, fin, Format, up, down, neg, add, sub, isNan, round, sum, le, fits, binary32, binary64}
+use lib.Ieee.Scale.{finite}
+use mathlib.Core.Path.{_≡_, refl, ap, _∙_, sym, subst}
 use mathlib.Core.Logic.{_⊎_, inl, inr}
-use Prim.Native.Nat.{ℕ, _+_, _-_, _*_, _≤_, _<_}
-use native.Mathlib.Nat.{le-refl, not-le-of-lt, mul-pos, mul-assoc, mul-comm, mul-right-comm, mul-le-mul-right}
+use native.Mathlib.Nat.{le-refl, mul-pos, mul-assoc, mul-comm, mul-right-comm, mul-le-mul-right, le-trans, le-of-eq, le-of-lt, add-le-add, mul-le-mul, mul-one, add-mul, lt-of-mul-lt-mul-right, le-mul-of-pos-right}
 use native.Mathlib.Omega.{arith}
-use mathlib.Core.Bool.{Bool, true, false, not, _&&_, cond, true≢false}
-use lib.Dec.{T, ltb, ltb→lt}
-use lib.Ieee.{Float, nan, inf, fin, Format, up, down, round, sum, neg, add, sub, le, isNan, fits}
 use lib.Ieee.Fits.{down-pos}
 use lib.Ieee.Exact.{HasValue}
-use lib.Ieee.Scale.{finite}
+use borrow.Author.Tests.{le-ltb}
+use lib.IntN.{ℤ, pos, negsuc}
+use lib.Pow.{pow-pos, pow-add, pow-mono}
+use lib.Ieee.Order.{round-mono}
+use Rattle.base_laws.specs.Rounding.{neg-finite, Le-of-values, Sign, round-has, round-neg, round-zero, round-le, round-own, neg-flip, either-sign, sign-nonneg, fits-digits}
+use Rattle.base_laws.specs.Sums.{sum-number, sgn, size-of, sum-is, add-le}
 use Rattle.base_laws.specs.Signed.{nega, nega-scale, Under, times-zero}
 use Rattle.base_laws.specs.Compare.{Le, le→Le, Le→le, Le-trans, nega-of}
-use Rattle.base_laws.specs.Rounding.{Le-of-values, Sign, round-has, round-neg, round-zero, round-le, round-own, neg-flip}
-use Rattle.base_laws.specs.Order.{float-le-refl, float-le-total, float-le-trans}
+use Rattle.base_laws.specs.Order.{float-le-refl, float-le-trans}
 use Rattle.base_terms.specs.Floats.{nought, nonneg, absOf}
-use Rattle.base_laws.specs.Nonneg.{nought-value, finite-number, finite-within, abs-neg, abs-rises}
-use Rattle.base_laws.specs.Adding.{sgn, size-of, sum-is, sum-number, add-le}
+use Rattle.base_laws.specs.Nonneg.{nought-value, finite-number, abs-neg, abs-rises, finite-between}
+use Rattle.base_laws.specs.Tests.{lt-or-le, tested}
+
+-- a number and a finite value have a number as their sum
+pub float-add-finite : (f : Format) (x y : Float) → T (not (isNan x)) → T (finite y) → T (not (isNan (add f x y)))
+unfolding add isNan
+float-add-finite f nan y h k = absurd h
+float-add-finite f (inf s) nan h k = absurd k
+float-add-finite f (inf s) (inf t) h k = absurd k
+float-add-finite f (inf s) (fin t n d) h k = tt
+float-add-finite f (fin s m e) nan h k = absurd k
+float-add-finite f (fin s m e) (inf t) h k = absurd k
+float-add-finite f (fin s m e) (fin t n d) h k = sum-number f s (m * up e * down d) t (n * up d * down e) (down e * down d)
+
+-- and as their difference
+pub float-sub-finite-number : (f : Format) (x y : Float) → T (not (isNan x)) → T (finite y) → T (not (isNan (sub f x y)))
+unfolding sub
+float-sub-finite-number f x y h k = float-add-finite f x (neg y) h (neg-finite y k)
 
 -- ---- order
 
 -- a difference of finite values is a number
 pub float-sub-number : (f : Format) (x y : Float) → T (finite x) → T (finite y) → T (not (isNan (sub f x y)))
-unfolding sub add neg
-float-sub-number f nan y h k = absurd h
-float-sub-number f (inf s) y h k = absurd h
-float-sub-number f (fin s m e) nan h k = absurd k
-float-sub-number f (fin s m e) (inf t) h k = absurd k
-float-sub-number f (fin s m e) (fin t n d) h k = sum-number f s (m * up e * down d) (not t) (n * up d * down e) (down e * down d)
+float-sub-number f x y h k = float-sub-finite-number f x y (finite-number x h) k
 
 -- it grows with the first and falls with the second
 pub float-sub-mono : (f : Format) (x x' y y' : Float) → T (finite x) → T (finite x') → T (finite y) → T (finite y') → T (le x x') → T (le y' y)
@@ -50,28 +68,13 @@ float-sub-self f (fin s m e) h =
     let c = down e * down e in
     rw (sum-is f s a (not s) a c, same-sgn s a) (round-zero f false (size-of s a (not s) a) c (mul-pos (down-pos e) (down-pos e)) (same-size s a))
   where
-    no-less : (a : ℕ) → T (ltb a a) → ⊥
-    no-less a t = not-le-of-lt (ltb→lt a a t) (le-refl a)
-
     same-sgn : (s : Bool) (a : ℕ) → sgn s a (not s) a ≡ false
-    same-sgn true a = go (ltb a a) (no-less a)
-      where
-        go : (b : Bool) → (T b → ⊥) → cond b false (true && b) ≡ false
-        go true n = absurd (n tt)
-        go false n = refl
-    same-sgn false a = go (ltb a a) (no-less a)
-      where
-        go : (b : Bool) → (T b → ⊥) → cond b true (false && b) ≡ false
-        go true n = absurd (n tt)
-        go false n = refl
-
-    nothing : (a : ℕ) (b : Bool) → cond b (a - a) (a - a) ≡ 0
-    nothing a true = omega arith
-    nothing a false = omega arith
+    same-sgn true a = rw (le-ltb a a (le-refl a))
+    same-sgn false a = rw (le-ltb a a (le-refl a))
 
     same-size : (s : Bool) (a : ℕ) → size-of s a (not s) a ≡ 0
-    same-size true a = nothing a (ltb a a)
-    same-size false a = nothing a (ltb a a)
+    same-size true a = rw (le-ltb a a (le-refl a)) (omega arith)
+    same-size false a = rw (le-ltb a a (le-refl a)) (omega arith)
 
 -- x - y is not negative where y ≤ x
 pub float-sub-nonneg : (f : Format) (x y : Float) → T (finite x) → T (finite y) → T (le y x) → T (nonneg (sub f x y))
@@ -109,6 +112,12 @@ apart false a true b z y = inl (omega arith)
 apart true a false b z y = inr (omega arith)
 apart true a true b z y = either a b (ltb a b)
 
+over : (w a q k p g : ℕ) → w ≤ a * q → a * g ≤ k * p → w * g ≤ k * (p * q)
+over w a q k p g i h =
+    let l : w * g ≤ a * g * q = rw (mul-right-comm a g q) (mul-le-mul-right g i) in
+    let n : a * g * q ≤ k * (p * q) = rw (mul-assoc k p q) at (mul-le-mul-right q h) in
+    omega arith
+
 -- a / p and b / q are at most k / g, so their difference w / (p * q) is
 within : (f : Format) (s : Bool) (a p : ℕ) (t : Bool) (b q k g : ℕ) → 0 < p → 0 < q → 0 < g → nega s a ≡ 0 → nega t b ≡ 0
     → Under false (a * g) false (k * p) → Under false (b * g) false (k * q)
@@ -117,24 +126,11 @@ within f s a p t b q k g P Q G z y h j =
     let w = size-of s (a * q) (not t) (b * p) in
     let z' : nega s (a * q) ≡ 0 = nega-scale s a q ∙ times-zero (nega s a) q z in
     let y' : nega t (b * p) ≡ 0 = nega-scale t b p ∙ times-zero (nega t b) p y in
-    let u : Under false (w * g) false (k * (p * q)) = elim (apart s (a * q) t (b * p) z' y') [ inl i ↦ by-a w i | inr i ↦ by-b w i ] in
+    let u : Under false (w * g) false (k * (p * q)) = elim (apart s (a * q) t (b * p) z' y') [
+      | inl i ↦ omega (arith, over w a q k p g i (omega arith))
+      | inr i ↦ rw (mul-comm p q) (omega (arith, over w b p k q g i (omega arith)))
+    ] in
     rw (sum-is f s (a * q) (not t) (b * p) (p * q), abs-round) (round-le f false w (p * q) false k g (mul-pos P Q) G u)
-  where
-    by-a : (w : ℕ) → w ≤ a * q → Under false (w * g) false (k * (p * q))
-    by-a w i =
-        let l : w * g ≤ a * q * g = mul-le-mul-right g i in
-        let m : a * q * g ≡ a * g * q = mul-right-comm a q g in
-        let n : a * g * q ≤ k * p * q = mul-le-mul-right q (omega arith) in
-        let o : k * p * q ≡ k * (p * q) = mul-assoc k p q in
-        omega arith
-
-    by-b : (w : ℕ) → w ≤ b * p → Under false (w * g) false (k * (p * q))
-    by-b w i =
-        let l : w * g ≤ b * p * g = mul-le-mul-right g i in
-        let m : b * p * g ≡ b * g * p = mul-right-comm b p g in
-        let n : b * g * p ≤ k * q * p = mul-le-mul-right p (omega arith) in
-        let o : k * q * p ≡ k * (p * q) = mul-assoc k q p ∙ ap (λ (i : ℕ). k * i) (mul-comm q p) in
-        omega arith
 
 -- the difference of two values between zero and a value of the format is no larger than that
 pub float-sub-within : (f : Format) (x y top : Float) → T (nonneg x) → T (nonneg y) → T (le x top) → T (le y top) → T (finite top) → T (fits f top)
@@ -162,13 +158,71 @@ float-sub-within f x y top p q h k g v =
         (Le-of-values (round f false (i * up j) (down j)) false (i * up j) (down j) (fin u i j) u (i * up j) (down j) (down-pos j) (down-pos j)
         (round-own f u false i j v) (refl, refl) (same u (i * up j) (down j) (nega-of u i j Z)))
 
--- so it is finite for finite values of the format
-pub float-sub-finite : (f : Format) (x y : Float) → T (nonneg x) → T (nonneg y) → T (finite x) → T (finite y) → T (fits f x) → T (fits f y)
-    → T (finite (sub f x y))
-float-sub-finite f x y p q g h u v =
-    let xx : T (le x x) = float-le-refl x (finite-number x g) in
-    let yy : T (le y y) = float-le-refl y (finite-number y h) in
-    elim (float-le-total x y (finite-number x g) (finite-number y h)) [
-      | inl l ↦ finite-within (sub f x y) y h (float-sub-within f x y y p q l yy h v)
-      | inr l ↦ finite-within (sub f x y) x g (float-sub-within f x y x p q xx l g u)
-    ]
+-- the largest f64, and what an f32 is below
+abbrev largest : ℕ
+largest = (2 ^ 53 - 1) * 2 ^ 971
+
+abbrev widest : ℕ
+widest = 2 ^ 128
+
+-- they round to a finite value together
+room : T (finite (round binary64 false (largest + widest) 1))
+unfolding round
+room = tt
+
+-- ---- sizes
+
+-- an f64 is no larger than the largest
+below-largest : (s : Bool) (m : ℕ) (e : ℤ) → T (fits binary64 (fin s m e)) → m * up e ≤ largest * down e
+below-largest s m (negsuc k) h =
+    let p = fits-digits binary64 s m (negsuc k) h in
+    le-trans (le-of-eq (mul-one m)) (le-trans (le-trans (le-of-lt (p .0)) (lit≤ tt)) (le-mul-of-pos-right largest (pow-pos (suc k))))
+below-largest s m (pos k) h =
+    let before : (a : ℕ) → a < 2 ^ 53 → a ≤ 2 ^ 53 - 1 = λ a l. omega arith in
+    let split : (j : ℕ) → 971 < j → 2 ^ j ≡ 2 ^ (j - 971) * 2 ^ 971 = λ j l. let e : j ≡ j - 971 + 971 = omega arith in ap (λ (n : ℕ). 2 ^ n) e ∙ pow-add 2 (j - 971) 971 in
+    let above : (a b c : ℕ) → c ≡ b * 2 ^ 971 → a * c < 2 ^ 1024 * 1 → a * c ≤ largest =
+    λ a b c e l.
+    let f : a * c ≡ a * b * 2 ^ 971 = ap (λ (n : ℕ). a * n) e ∙ sym (mul-assoc a b (2 ^ 971)) in
+    let g : a * b * 2 ^ 971 < 2 ^ 53 * 2 ^ 971 = subst (λ (n : ℕ). n < 2 ^ 1024) f l in
+    le-trans (le-of-eq f) (mul-le-mul-right (2 ^ 971) (before (a * b) (lt-of-mul-lt-mul-right (2 ^ 971) g))) in
+    let p = fits-digits binary64 s m (pos k) h in
+    le-trans (elim (lt-or-le 971 k) [
+      | inl l ↦ above m (2 ^ (k - 971)) (2 ^ k) (split k l) (p .2)
+      | inr l ↦ mul-le-mul (before m (p .0)) (pow-mono {i = k} {j = 971} l)
+    ]) (le-of-eq (sym (mul-one largest)))
+
+-- the size of a sum is at most that of its parts
+size-most : (s : Bool) (a : ℕ) (t : Bool) (b : ℕ) → size-of s a t b ≤ a + b
+size-most s a t b = elim (tested (Bool·beq s t)) [
+  | inl e ↦ rw e (omega arith)
+  | inr e ↦ rw e (elim (tested (ltb a b)) [ inl f ↦ rw f (omega arith) | inr f ↦ rw f (omega arith) ])
+]
+
+together : (A B E D X R : ℕ) → A ≤ X * E → B ≤ R * D → A * D + B * E ≤ (X + R) * (E * D)
+together A B E D X R h k =
+    le-trans (add-le-add (mul-le-mul-right D h) (mul-le-mul-right E k))
+    (le-of-eq (ap (λ (n : ℕ). n + R * D * E) (mul-assoc X E D) ∙ ap (λ (n : ℕ). X * (E * D) + n) (mul-assoc R D E ∙ ap (λ (n : ℕ). R * n) (mul-comm D E))
+    ∙ sym (add-mul X R (E * D))))
+
+-- a fraction up to the two together rounds to a finite value
+fits-in : (s : Bool) (a c : ℕ) → 0 < c → a ≤ (largest + widest) * c → T (finite (round binary64 s a c))
+fits-in s a c C h =
+    either-sign binary64 s a c
+    (finite-between nought (round binary64 false a c) (round binary64 false (largest + widest) 1) tt room
+    (sign-nonneg (round binary64 false a c) (round-has binary64 false a c))
+    (round-mono binary64 a c (largest + widest) 1 C (pow-pos 0) (le-trans (le-of-eq (mul-one a)) h)))
+
+-- an f64 less an f32, both finite, is finite
+pub difference-finite : (x y : Float) → T (finite x) → T (finite y) → T (fits binary64 x) → T (fits binary32 y) → T (finite (sub binary64 x y))
+difference-finite nan y p q f g = absurd p
+difference-finite (inf s) y p q f g = absurd p
+difference-finite (fin s m e) nan p q f g = absurd q
+difference-finite (fin s m e) (inf t) p q f g = absurd q
+difference-finite (fin s m e) (fin t n d) p q f g =
+    let a = m * up e * down d in
+    let b = n * up d * down e in
+    unfold sub add neg in
+    (rw (sum-is binary64 s a (not t) b (down e * down d))
+    (fits-in (sgn s a (not t) b) (size-of s a (not t) b) (down e * down d) (mul-pos (down-pos e) (down-pos d))
+    (le-trans (size-most s a (not t) b)
+    (together (m * up e) (n * up d) (down e) (down d) largest widest (below-largest s m e f) (le-of-lt (fits-digits binary32 t n d g .2))))))

@@ -1,25 +1,86 @@
+-- How far a piece's length is from the target, relative to the target, in the program's operations; and that of all lengths of a range the one closest to the target is closest as computed.
+-- A difference and then a quotient by a positive target keep the order, so the offset rises with the length and has the sign of the difference.
 -- What a piece costs for its length, as `Lengths::cost` has it; the least that any length of a range can cost, as `Search::bound` has it; and that the second is a bound of the first.
 -- The bound takes the length closest to the target and the longest: each term of the cost is least at its own, and every rounded operation on the way keeps the order.
 use mathlib.Core.Logic.{inl, inr}
-use Prim.Native.Nat.{ℕ, suc, _+_, _^_, _≤_}
-use mathlib.Core.Bool.{false, cond}
+use Prim.Native.Nat.{ℕ, suc, _+_, _≤_, _^_}
+use native.Mathlib.Omega.{arith}
+use mathlib.Core.Bool.{false}
 use lib.IntN.{pos, negsuc}
 use lib.Dec.{T, lit≤}
-use lib.Ieee.{Float, fin, Format, binary32, binary64, emax, add, sub, mul, div, ofInt, lt, le}
+use lib.Ieee.{Float, fin, Format, emax, sub, le, binary32, binary64, add, mul, ofInt, lt}
 use lib.Ieee.Scale.{finite}
 use lib.Ieee.Positive.{positive, positive-finite, between}
-use Rattle.base_laws.specs.Tests.{passes, cond-yes, cond-no}
+use lib.Ieee.Bits.{is-true, is-false}
 use Rattle.base_laws.specs.Order.{float-le-refl, float-le-trans, float-lt-le, float-le-lt-trans}
 use Rattle.base_terms.specs.Floats.{nought, nonneg, absOf, clampOf}
-use Rattle.base_laws.specs.Nonneg.{nonneg-number, finite-number, finite-between, positive-nonneg, positive-above, finite-within}
-use Rattle.base_laws.specs.Sums.{float-add-mono, float-add-nonneg, float-add-grows}
-use Rattle.base_laws.specs.Differences.{float-sub-mono, float-sub-nonneg, float-sub-within}
-use Rattle.base_laws.specs.Products.{float-mul-number, float-mul-mono, float-mul-nonneg}
-use Rattle.base_laws.specs.Quotients.{float-div-mono, float-div-nonneg}
-use Rattle.base_laws.specs.Whole.{whole-nonneg, whole-within, power-fits}
+use Rattle.base_laws.specs.Nonneg.{finite-number, finite-between, positive-nonneg, finite-within, abs-finite, abs-rises, abs-falls, nonneg-number, positive-above}
+use Rattle.base_laws.specs.Differences.{float-sub-mono, float-sub-nonneg, float-sub-nonpos, float-sub-within}
+use Rattle.base_laws.specs.Quotients.{float-div-mono, float-div-nonneg, float-div-nonpos, float-div-finite}
+use Rattle.base_laws.specs.Whole.{power-fits, whole-nonneg, whole-within}
+use Rattle.base_laws.specs.Clamp.{clamp-between}
 use Rattle.base_terms.specs.Lengths.{square, offOf, short, lengthCost, lengthBound}
-use Rattle.base_laws.specs.Square.{square-fits, square-nonneg}
-use Rattle.base_laws.specs.Offset.{off-finite, off-closest-finite, square-closest}
+use Rattle.base_laws.specs.Square.{square-mono, square-fits, square-nonneg}
+use Rattle.base_laws.specs.Tests.{passes}
+use Rattle.base_laws.specs.Sums.{float-add-mono, float-add-nonneg, float-add-grows}
+use Rattle.base_laws.specs.Products.{float-mul-number, float-mul-mono, float-mul-nonneg}
+
+-- ---- order and sign
+
+-- it grows with the length
+pub off-mono : (f : Format) (t x x' : Float) → T (positive t) → T (finite x) → T (finite x') → T (le x x') → T (le (offOf f t x) (offOf f t x'))
+unfolding offOf
+off-mono f t x x' p g g' h =
+    let k : T (finite t) = positive-finite t p in
+    float-div-mono f (sub f x t) (sub f x' t) t p (float-sub-mono f x x' t t g g' k k h (float-le-refl t (finite-number t k)))
+
+-- it is not negative from the target up
+pub off-nonneg : (f : Format) (t x : Float) → T (positive t) → T (finite x) → T (le t x) → T (nonneg (offOf f t x))
+unfolding offOf
+off-nonneg f t x p g h = float-div-nonneg f (sub f x t) t p (float-sub-nonneg f x t g (positive-finite t p) h)
+
+-- and not above zero from the target down
+pub off-nonpos : (f : Format) (t x : Float) → T (positive t) → T (finite x) → T (le x t) → T (le (offOf f t x) nought)
+unfolding offOf
+off-nonpos f t x p g h = float-div-nonpos f (sub f x t) t p (float-sub-nonpos f x t g (positive-finite t p) h)
+
+-- ---- size
+
+-- it is finite for a length and a target up to 2 ^ a and a target of 2 ^ -(b + 1) at least, where a + b + 1 is an exponent of the format
+pub off-finite : (f : Format) (t x : Float) (a b : ℕ) → a + suc b ≤ emax f → T (nonneg x) → T (le x (fin false 1 (pos a)))
+    → T (le (fin false 1 (negsuc b)) t) → T (le t (fin false 1 (pos a))) → T (finite (offOf f t x))
+unfolding offOf
+off-finite f t x a b r n h l k =
+    let p : T (positive t) = between (fin false 1 (negsuc b)) t (fin false 1 (pos a)) tt tt l k in
+    float-div-finite f (sub f x t) t a b r
+    (float-sub-within f x t (fin false 1 (pos a)) n (positive-nonneg t p) h k tt (power-fits f a (omega arith))) p l
+
+-- of a range, the length closest to the target is no further off than any other x
+pub off-closest : (f : Format) (t lo x hi : Float) → T (positive t) → T (finite x) → T (le lo x) → T (le x hi)
+    → T (le (absOf (offOf f t (clampOf t lo hi))) (absOf (offOf f t x)))
+off-closest f t lo x hi p g h k =
+    let c = clampOf t lo hi in
+    let ft : T (finite t) = positive-finite t p in
+    elim (clamp-between t lo x hi (finite-number t ft) h k) [
+      | inl b ↦
+          let gc : T (finite c) = finite-between t c x ft g (b .0) (b .1) in
+          abs-rises (offOf f t c) (offOf f t x) (off-nonneg f t c p gc (b .0)) (off-mono f t c x p gc g (b .1))
+      | inr b ↦
+          let gc : T (finite c) = finite-between x c t g ft (b .0) (b .1) in
+          abs-falls (offOf f t c) (offOf f t x) (off-nonpos f t c p gc (b .1)) (off-mono f t x c p g gc (b .0))
+    ]
+
+-- so it is finite where that is
+pub off-closest-finite : (f : Format) (t lo x hi : Float) → T (positive t) → T (finite x) → T (le lo x) → T (le x hi) → T (finite (offOf f t x))
+    → T (finite (offOf f t (clampOf t lo hi)))
+off-closest-finite f t lo x hi p g h k o =
+    finite-within (offOf f t (clampOf t lo hi)) (absOf (offOf f t x)) (rw (abs-finite (offOf f t x)) o) (off-closest f t lo x hi p g h k)
+
+-- and its square term is at most that of x
+pub square-closest : (f : Format) (wt t lo x hi : Float) → T (nonneg wt) → T (finite wt) → T (positive t) → T (finite x) → T (le lo x) → T (le x hi)
+    → T (finite (offOf f t x)) → T (le (square f wt (offOf f t (clampOf t lo hi))) (square f wt (offOf f t x)))
+square-closest f wt t lo x hi p fw q g h k o =
+    square-mono f wt (offOf f t (clampOf t lo hi)) (offOf f t x) p fw (off-closest-finite f t lo x hi q g h k o) o (off-closest f t lo x hi q g h k)
 
 -- ---- what is asked: wt and ws are the weights of the target and of the shortfall, m is the minimum, t the target, x a length
 
@@ -92,11 +153,9 @@ module _ {f : Format} {wt ws m t : Float} (ok : Preferences f wt ws m t) where
 
   -- so the offset of a length is finite
   finite-off : (x : Float) → Length x → T (finite (offOf f t x))
-  finite-off x l = off-finite f t x 60 39 (wide f) (l .length-nonneg) (l .length-high) (ok .target-low) (ok .target-high)
-    where
-      wide : (f : Format) → 60 + suc 39 ≤ emax f
-      wide binary32 = lit≤ tt
-      wide binary64 = lit≤ tt
+  finite-off x l =
+      let wide : 60 + suc 39 ≤ emax f = elim f [ binary32 ↦ lit≤ tt | binary64 ↦ lit≤ tt ] in
+      off-finite f t x 60 39 wide (l .length-nonneg) (l .length-high) (ok .target-low) (ok .target-high)
 
   -- a minimum above a length is above zero
   min-positive : (x : Float) → T (nonneg x) → T (lt x m) → T (positive m)
@@ -118,11 +177,10 @@ module _ {f : Format} {wt ws m t : Float} (ok : Preferences f wt ws m t) where
   unfolding lengthCost
   length-cost-nonneg {x} l =
       let c = square f wt (offOf f t x) in
-      let s = add f c (short f ws m x) in
       elim (passes (lt x m)) [
-        | inl h ↦ rw (cond-yes (lt x m) s c h)
+        | inl h ↦ rw (is-true (lt x m) h)
             (float-add-nonneg f c (short f ws m x) (square-ok x (finite-off x l)) (below-min x (l .length-nonneg) h))
-        | inr h ↦ rw (cond-no (lt x m) s c h) (square-ok x (finite-off x l))
+        | inr h ↦ rw (is-false (lt x m) h) (square-ok x (finite-off x l))
       ]
 
   -- the bound of a range is not negative
@@ -130,14 +188,13 @@ module _ {f : Format} {wt ws m t : Float} (ok : Preferences f wt ws m t) where
   unfolding lengthBound
   length-bound-nonneg {lo} hi l r =
       let c = square f wt (offOf f t (clampOf t lo hi)) in
-      let s = add f c (short f ws m hi) in
       let lo-lo : T (le lo lo) = float-le-refl lo (nonneg-number lo (l .length-nonneg)) in
       let o : T (finite (offOf f t (clampOf t lo hi))) = off-closest-finite f t lo lo hi target-positive (finite-length lo l) lo-lo r (finite-off lo l) in
       let n : T (nonneg c) = square-ok (clampOf t lo hi) o in
       elim (passes (lt hi m)) [
-        | inl h ↦ rw (cond-yes (lt hi m) s c h)
+        | inl h ↦ rw (is-true (lt hi m) h)
             (float-add-nonneg f c (short f ws m hi) n (below-min hi (float-le-trans nought lo hi (l .length-nonneg) r) h))
-        | inr h ↦ rw (cond-no (lt hi m) s c h) n
+        | inr h ↦ rw (is-false (lt hi m) h) n
       ]
 
   -- the bound of a range is at most the cost of every length in it
@@ -149,7 +206,6 @@ module _ {f : Format} {wt ws m t : Float} (ok : Preferences f wt ws m t) where
       let o : T (finite (offOf f t x)) = finite-off x l in
       let b = square f wt (offOf f t (clampOf t lo hi)) in
       let c = square f wt (offOf f t x) in
-      let bs = add f b (short f ws m hi) in
       let cs = add f c (short f ws m x) in
       let nb : T (nonneg b) = square-ok (clampOf t lo hi) (off-closest-finite f t lo x hi target-positive g h k o) in
       let nc : T (nonneg c) = square-ok x o in
@@ -158,13 +214,13 @@ module _ {f : Format} {wt ws m t : Float} (ok : Preferences f wt ws m t) where
         | inl i ↦
             let j : T (lt x m) = float-le-lt-trans x hi m k i in
             let nh : T (nonneg hi) = float-le-trans nought x hi (l .length-nonneg) k in
-            rw (cond-yes (lt hi m) bs b i, cond-yes (lt x m) cs c j)
+            rw (is-true (lt hi m) i, is-true (lt x m) j)
             (float-add-mono f b c (short f ws m hi) (short f ws m x) nb (below-min hi nh i) q
             (short-falls f ws m x hi (ok .short-weight-nonneg) (ok .short-weight-finite) (min-positive x (l .length-nonneg) j)
             (ok .min-high) (l .length-nonneg) k (float-lt-le hi m i)))
         | inr i ↦ elim (passes (lt x m)) [
-          | inl j ↦ rw (cond-no (lt hi m) bs b i, cond-yes (lt x m) cs c j)
+          | inl j ↦ rw (is-false (lt hi m) i, is-true (lt x m) j)
               (float-le-trans b c cs q (float-add-grows f c (short f ws m x) nc (square-fits f wt (offOf f t x)) (below-min x (l .length-nonneg) j)))
-          | inr j ↦ rw (cond-no (lt hi m) bs b i, cond-no (lt x m) cs c j) q
+          | inr j ↦ rw (is-false (lt hi m) i, is-false (lt x m) j) q
         ]
       ]

@@ -5,7 +5,6 @@
 -- Order: `le`, `lt` and `eq`
 --   float-le-refl, float-le-total, float-le-trans   `le` is a total preorder of the numbers
 --   float-le-numbers      what `le` compares are two numbers
---   float-le-inf          every number is at most +inf
 --   float-lt-is           below is not at least, of numbers
 --   float-eq-is           equal is at most both ways
 --   float-lt-le           below is at most
@@ -24,7 +23,7 @@ pub mod Order
 --   finite-within         a value of a size up to a finite value is finite
 --   abs-rises, abs-falls  it rises from zero up, and falls up to zero
 pub mod Nonneg
--- Sums: of values of the domain, +inf included
+-- Sums: of any sign as one signed fraction (`sum-is`, `add-le`), and of values of the domain, +inf included
 --   float-add-mono        a sum grows with each part
 --   float-add-nonneg      it is of the domain, so no NaN
 --   float-add-grows       a part that the format holds is at most the sum
@@ -35,13 +34,9 @@ pub mod Sums
 --   float-sub-self        x - x has the value zero
 --   float-sub-nonneg, float-sub-nonpos   x - y has the sign that the order of x and y says
 --   float-sub-within      it is no larger than a value of the format that bounds both, for values of the domain
---   float-sub-finite      it is finite, for values of the domain that the format holds
-pub mod Differences
 --   difference-finite     a finite f64 less a finite f32 is finite
-pub mod Difference
--- Numbers: results that are no NaN
 --   float-add-finite, float-sub-finite-number   a number and a finite value have a number as sum and difference
-pub mod Numbers
+pub mod Differences
 -- Products: of values of the domain
 --   float-mul-number      a product of finite values is a number
 --   float-mul-mono        it grows with each factor, where neither product is NaN
@@ -65,7 +60,6 @@ pub mod Whole
 --   min-below, max-above  the least is at most both numbers, the greatest at least both
 --   clamp-inside, clamp-below, clamp-above   what becomes of a value in a range, below it and above it
 --   clamp-range           the result lies in the range
---   clamp-mono            it grows with the value
 --   clamp-between         it lies between the value and anything else in the range
 pub mod Clamp
 -- Square: the square term of a length's cost
@@ -74,14 +68,13 @@ pub mod Clamp
 --   square-number, square-nonneg   it is a number for finite w and off, and of the domain where w is
 --   square-mono           it grows with the size of off
 pub mod Square
--- Offset: how far a length is from the target
+-- Lengths: how far a length is from the target
 --   off-mono              it grows with the length
 --   off-nonneg, off-nonpos   it has the sign that the order of length and target says
 --   off-finite            it is finite for a length and a target up to 2 ^ a and a target of 2 ^ -(b + 1) at least
 --   off-closest, off-closest-finite   the target clamped into a range is no further off than any length in it, and finite where that is
 --   square-closest        so its square term is the least
-pub mod Offset
--- Lengths: what a piece's length costs, and the bound of that over a range
+-- and what the length costs, with the bound of that over a range
 --   Preferences, Length   what the planner asks of its preferences and of a length
 --   length-whole          a whole number up to 2 ^ 60 is a length
 --   short-nonneg, short-falls   up to the minimum the shortfall is of the domain, and falls as the length grows
@@ -97,9 +90,8 @@ pub mod Lengths
 --   score-bound           pieces in order, added to scores in order, keep the order: for the bound of a range
 --   score-piece, score-cut, score-step   the same piece, the same cut, or the one and then the other on both sides keep the order
 pub mod Scores
--- Steps that the laws are proved by, and that no client needs: tests as types; signed numbers as differences; the order by cases; what `round` keeps; sums of any sign.
+-- Steps that the laws are proved by, and that no client needs: tests as types; signed numbers as differences; the order by cases; what `round` keeps.
 pub mod Tests
 pub mod Signed
 pub mod Compare
 pub mod Rounding
-pub mod Adding

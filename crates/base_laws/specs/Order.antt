@@ -2,12 +2,12 @@
 -- Each law is one of the order by cases, `Le` of Compare.antt, which the three test.
 use mathlib.Core.Path.{_≡_}
 use mathlib.Core.Logic.{_⊎_, inl, inr}
-use mathlib.Core.Bool.{false, not, _&&_}
+use mathlib.Core.Bool.{not, _&&_}
 use lib.Dec.{T, T-not, not-T}
 use lib.Ieee.{Float, nan, inf, fin, lt, eq, le, isNan}
 use lib.Ieee.Fits.{and-l, and-r, and-i}
 use Rattle.base_laws.specs.Tests.{same-test, or-l, passes}
-use Rattle.base_laws.specs.Compare.{Le, le→Le, Le→le, Le-refl, Le-total, Le-trans, high-end, lt-excludes, lt-otherwise, eq→both, both→eq}
+use Rattle.base_laws.specs.Compare.{Le, le→Le, Le→le, Le-refl, Le-total, Le-trans, lt-excludes, lt-otherwise, eq→both, both→eq}
 
 -- ---- a total preorder
 
@@ -36,10 +36,6 @@ float-le-numbers x y h = go x y (le→Le x y h)
     go (fin s m e) nan k = absurd k
     go (fin s m e) (inf t) k = (tt, tt)
     go (fin s m e) (fin t n d) k = (tt, tt)
-
--- +inf is the greatest
-pub float-le-inf : (x : Float) → T (not (isNan x)) → T (le x (inf false))
-float-le-inf x p = Le→le x (inf false) (high-end x p)
 
 -- ---- its strict part, and both ways
 

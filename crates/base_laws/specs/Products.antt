@@ -1,14 +1,17 @@
 -- Products of values that are not negative grow with each factor, infinities and overflow included, wherever neither product is NaN (0 * inf is).
 -- Two finite values multiply as fractions, and on this domain a sign matters only at zero.
 use mathlib.Core.Path.{_≡_, refl, ap, _∙_}
+use mathlib.Core.Logic.{inl, inr}
 use Prim.Native.Nat.{ℕ, _*_, _≤_, _<_}
 use native.Mathlib.Nat.{le-trans, le-of-eq, mul-pos, mul-zero, mul-le-mul, mul-mul-mul-comm}
 use native.Mathlib.Omega.{arith}
 use mathlib.Core.Bool.{Bool, true, false, not, cond}
 use lib.Dec.{T, eqb}
 use lib.Ieee.{Float, nan, inf, fin, Format, up, down, unlike, round, mul, le, isNan}
-use lib.Ieee.Fits.{up-pos, down-pos, eq→eqb}
+use lib.Ieee.Fits.{up-pos, down-pos}
 use lib.Ieee.Scale.{finite}
+use borrow.Author.Tests.{eq-eqb}
+use Rattle.base_laws.specs.Tests.{tested}
 use Rattle.base_laws.specs.Signed.{nega, nega-scale, Under, times-zero, zero-of}
 use Rattle.base_laws.specs.Compare.{Le, le→Le, Le→le, high-end, nega-of}
 use Rattle.base_laws.specs.Rounding.{sign-nonneg, round-has, round-number, round-le}
@@ -54,19 +57,11 @@ product f s a p t b q s' a' p' t' b' q' P Q P' Q' z y z' y' h k =
 
 ends : (n : ℕ) (s : Bool) → T (not (isNan (cond (eqb n 0) nan (inf s)))) → cond (eqb n 0) nan (inf s) ≡ inf s
 unfolding isNan
-ends n s = go (eqb n 0)
-  where
-    go : (b : Bool) → T (not (isNan (cond b nan (inf s)))) → cond b nan (inf s) ≡ inf s
-    go true h = absurd h
-    go false h = refl
+ends n s h = elim (tested (eqb n 0)) [ inl e ↦ absurd (rw e at h) | inr e ↦ rw e ]
 
 no-end : (n : ℕ) (s : Bool) → n ≡ 0 → T (not (isNan (cond (eqb n 0) nan (inf s)))) → ⊥
 unfolding isNan
-no-end n s z = go (eqb n 0) (eq→eqb z)
-  where
-    go : (b : Bool) → T b → T (not (isNan (cond b nan (inf s)))) → ⊥
-    go true t h = h
-    go false t h = t
+no-end n s z h = rw (eq-eqb n 0 z) at h
 
 mul-inf-l : (f : Format) (y : Float) → Le nought y → T (not (isNan (mul f (inf false) y))) → mul f (inf false) y ≡ inf false
 unfolding mul

@@ -1,18 +1,19 @@
 -- Quotients by a finite divisor above zero keep the order, whatever the sign of the dividend: a finite quotient rounds the dividend's fraction over the divisor's, and an infinite dividend stays.
 -- A quotient is finite where the exponents of the dividend's bound and of the divisor's leave room below 2 ^ emax.
-use mathlib.Core.Path.{_≡_, refl, subst}
+use mathlib.Core.Path.{_≡_, subst}
 use Prim.Native.Nat.{ℕ, suc, _+_, _*_, _^_, _≤_, _<_}
 use native.Mathlib.Nat.{le-trans, le-of-eq, mul-pos, mul-assoc, mul-comm, mul-left-comm, one-mul, mul-le-mul, mul-le-mul-right}
 use native.Mathlib.Omega.{arith}
-use mathlib.Core.Bool.{Bool, true, false, not, cond}
+use mathlib.Core.Bool.{Bool, true, false, not}
 use lib.IntN.{ℤ, pos, negsuc}
-use lib.Dec.{T, eqb, eqb→eq, ltb→lt}
+use lib.Dec.{T, ltb→lt}
 use lib.Pow.{pow-pos, pow-add, pow-mono}
-use lib.Ieee.{Float, nan, inf, fin, Format, emax, up, down, unlike, round, div, le, isNan}
+use lib.Ieee.{Float, nan, inf, fin, Format, emax, up, down, round, div, le, isNan}
 use lib.Ieee.Fits.{up-pos, down-pos}
 use lib.Ieee.Exact.{HasValue}
 use lib.Ieee.Scale.{finite}
 use lib.Ieee.Positive.{positive}
+use borrow.Author.Tests.{ne-eqb}
 use Rattle.base_laws.specs.Signed.{Under, under-scale}
 use Rattle.base_laws.specs.Compare.{Le, le→Le, Le→le, low-end, high-end}
 use Rattle.base_laws.specs.Rounding.{round-number, round-le, round-zero, round-within}
@@ -25,14 +26,8 @@ use Rattle.base_laws.specs.Nonneg.{nought-value}
 by : (f : Format) (s : Bool) (m : ℕ) (e : ℤ) (n : ℕ) (d : ℤ) → 0 < n
     → div f (fin s m e) (fin false n d) ≡ round f s (m * up e * down d) (n * up d * down e)
 unfolding div
-by f s m e n d N = go s (eqb n 0) (eqb→eq n 0)
-  where
-    go : (t b : Bool) → (T b → n ≡ 0)
-        → cond b (cond (eqb m 0) nan (inf (unlike t false))) (round f (unlike t false) (m * up e * down d) (n * up d * down e))
-        ≡ round f t (m * up e * down d) (n * up d * down e)
-    go t true h = let z : n ≡ 0 = h tt in absurd (omega arith)
-    go true false h = refl
-    go false false h = refl
+by f true m e n d N = rw (ne-eqb n 0 (λ z. omega arith))
+by f false m e n d N = rw (ne-eqb n 0 (λ z. omega arith))
 
 quotient : (f : Format) (s : Bool) (a p : ℕ) (t : Bool) (c r b q : ℕ) → 0 < p → 0 < r → 0 < b → Under s (a * r) t (c * p)
     → Le (round f s (a * q) (b * p)) (round f t (c * q) (b * r))

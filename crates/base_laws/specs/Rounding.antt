@@ -1,18 +1,20 @@
 -- What `round` keeps: the sign, the order of signed fractions, a value that the format holds, and finiteness under a finite result.
 -- No proof here opens `round`: the kit's `round-mono`, `round-exact` and `round-same` say all that is used of it. Steps for the other files.
 use mathlib.Core.Path.{_≡_, refl, sym, ap, subst, _∙_}
+use mathlib.Core.Logic.{inl, inr}
 use Prim.Native.Nat.{ℕ, zero, suc, _+_, _-_, _*_, _%_, _^_, _≤_, _<_}
-use native.Mathlib.Nat.{lt-of-mul-lt-mul-right, mul-lt-mul-of-pos-right, mul-comm, mul-left-comm, le-refl, le-trans, le-of-eq, lt-of-lt-of-le, lt-of-not-le, not-le-of-lt, le-of-suc-le-suc, mul-assoc, mul-one, one-mul, add-comm, zero-mul, mul-pos, mul-le-mul-right}
+use native.Mathlib.Nat.{lt-of-mul-lt-mul-right, mul-lt-mul-of-pos-right, mul-comm, mul-left-comm, le-refl, le-trans, le-of-eq, lt-of-not-le, not-le-of-lt, le-of-suc-le-suc, mul-assoc, mul-one, one-mul, zero-mul, mul-pos, mul-le-mul-right}
 use native.Mathlib.Omega.{arith}
-use mathlib.Core.Bool.{Bool, true, false, not, _&&_, cond, true≢false}
+use mathlib.Core.Bool.{Bool, true, false, not, _&&_, true≢false}
 use lib.IntN.{ℤ, pos, negsuc}
 use lib.Dec.{T, ltb, leb, eqb, ltb→lt, leb→le, eqb→eq}
-use lib.Pow.{pow-pos, pow-add, pow-lt, pow-mono, shl-lt}
+use lib.Pow.{pow-pos, pow-add, pow-lt}
 use lib.Ieee.{Float, nan, inf, fin, Format, prec, emax, low, up, down, odd, units, round, neg, le, isNan, fits}
-use lib.Ieee.Fits.{two, two-le-pos, reach, up-pos, down-pos, and-l, and-r, round-is}
+use lib.Ieee.Fits.{two, two-le-pos, up-pos, down-pos, and-l, and-r, round-is}
 use lib.Ieee.Exact.{HasValue, round-exact}
 use lib.Ieee.Order.{drop, kept, round-mono}
 use lib.Ieee.Scale.{finite, round-same}
+use Rattle.base_laws.specs.Tests.{tested}
 use Rattle.base_laws.specs.Signed.{Under, under-flip, under-transfer, zero-of}
 use Rattle.base_laws.specs.Compare.{Le, le→Le, Le→le}
 
@@ -51,11 +53,7 @@ odd-has d s (suc q) k l = refl
 
 units-has : (f : Format) (s : Bool) (q k : ℕ) → Sign s (units f s q k)
 unfolding units
-units-has f s q k = go (ltb (q * 2 ^ k) (2 ^ (low f + suc (emax f))))
-  where
-    go : (b : Bool) → Sign s (cond b (odd (suc (prec f)) s q k (low f)) (inf s))
-    go true = odd-has (suc (prec f)) s q k (low f)
-    go false = refl
+units-has f s q k = elim (tested (ltb (q * 2 ^ k) (2 ^ (low f + suc (emax f))))) [ inl e ↦ rw e (odd-has (suc (prec f)) s q k (low f)) | inr e ↦ rw e ]
 
 -- `round` keeps the sign that it is given
 pub round-has : (f : Format) (s : Bool) (a c : ℕ) → Sign s (round f s a c)
@@ -107,11 +105,10 @@ odd-neg d (suc q) k l = refl
 
 units-neg : (f : Format) (q k : ℕ) → units f true q k ≡ neg (units f false q k)
 unfolding units
-units-neg f q k = go (ltb (q * 2 ^ k) (2 ^ (low f + suc (emax f))))
-  where
-    go : (b : Bool) → cond b (odd (suc (prec f)) true q k (low f)) (inf true) ≡ neg (cond b (odd (suc (prec f)) false q k (low f)) (inf false))
-    go true = odd-neg (suc (prec f)) q k (low f)
-    go false = unfold neg in refl
+units-neg f q k = elim (tested (ltb (q * 2 ^ k) (2 ^ (low f + suc (emax f))))) [
+  | inl e ↦ rw e (odd-neg (suc (prec f)) q k (low f))
+  | inr e ↦ rw e (unfold neg in refl)
+]
 
 -- rounding a negated fraction negates the result
 pub round-neg : (f : Format) (a c : ℕ) → round f true a c ≡ neg (round f false a c)
@@ -137,10 +134,7 @@ across (fin s m e) nan h k = k
 across (fin s m e) (inf true) h k = absurd (true≢false k)
 across (fin s m e) (inf false) h k = tt
 across (fin true m e) (fin true n d) h k = absurd (true≢false k)
-across (fin true m e) (fin false n d) h k = none (n * up d * down e + m * up e * down d)
-  where
-    none : (i : ℕ) → 0 ≤ i
-    none i = omega arith
+across (fin true m e) (fin false n d) h k = omega arith
 across (fin false m e) (fin t n d) h k = absurd (true≢false (sym h))
 
 -- signed fractions in order round to values in order
@@ -170,22 +164,16 @@ own f s m e t a b c =
     (lt-of-mul-lt-mul-right (down e) (subst (λ (x : ℕ). x < 2 ^ (l + suc (emax f)) * down e) shift (fine (m * up e * 2 ^ t) (2 ^ suc (emax f)) (down e) (2 ^ l) (2 ^ (l + suc (emax f))) c (pow-pos l) (sym (pow-add 2 l (suc (emax f)))))))
     shift
   where
-    gap : (i l : ℕ) → i ≤ l → l - i + i ≡ l
-    gap i l h = omega arith
-
     -- 2 ^ e is a whole number of the format's smallest value
     unit : (e : ℤ) (l : ℕ) → down e ≤ 2 ^ l → (j : ℕ) × (up e * 2 ^ l ≡ 2 ^ j * down e)
     unit (pos k) l h = (k + l, sym (pow-add 2 k l) ∙ sym (mul-one (2 ^ (k + l))))
-    unit (negsuc k) l h = (l - suc k, one-mul (2 ^ l) ∙ ap (λ (x : ℕ). 2 ^ x) (sym (gap (suc k) l (pow-back (suc k) l h))) ∙ pow-add 2 (l - suc k) (suc k))
+    unit (negsuc k) l h = (l - suc k, one-mul (2 ^ l) ∙ ap (λ (x : ℕ). 2 ^ x) (sym (omega (arith, pow-back (suc k) l h))) ∙ pow-add 2 (l - suc k) (suc k))
 
     moved : (m u t l j d : ℕ) → u * l ≡ j * d → m * u * t * l ≡ m * (j * t) * d
-    moved m u t l j d h = apart m u t l ∙ ap (λ (x : ℕ). x * (m * t)) h ∙ together m t j d
-      where
-        apart : (m u t l : ℕ) → m * u * t * l ≡ u * l * (m * t)
-        apart m u t l = simp (mul-assoc, mul-comm, mul-left-comm)
-
-        together : (m t j d : ℕ) → j * d * (m * t) ≡ m * (j * t) * d
-        together m t j d = simp (mul-assoc, mul-comm, mul-left-comm)
+    moved m u t l j d h =
+        let apart : m * u * t * l ≡ u * l * (m * t) = simp (mul-assoc, mul-comm, mul-left-comm) in
+        let together : j * d * (m * t) ≡ m * (j * t) * d = simp (mul-assoc, mul-comm, mul-left-comm) in
+        apart ∙ ap (λ (x : ℕ). x * (m * t)) h ∙ together
 
     fine : (n e d l w : ℕ) → n < e * d → 0 < l → l * e ≡ w → n * l < w * d
     fine n e d l w h p g =
@@ -218,10 +206,24 @@ round-double f u s m e h l = let p = fits-digits f u m e h in own f s m e 1 (p .
 
 -- ---- finite results
 
+-- a negative is finite where the value is
+pub neg-finite : (x : Float) → T (finite x) → T (finite (neg x))
+unfolding neg
+neg-finite nan h = h
+neg-finite (inf s) h = h
+neg-finite (fin s m e) h = tt
+
+-- so a fraction that rounds to a finite value does so under either sign
+pub either-sign : (f : Format) (s : Bool) (a c : ℕ) → T (finite (round f false a c)) → T (finite (round f s a c))
+either-sign f false a c h = h
+either-sign f true a c h = rw (round-neg f a c) (neg-finite (round f false a c) h)
+
 -- a fraction that is no larger than one that rounds to a finite value does so too
 round-finite : (f : Format) (s : Bool) (a c b d : ℕ) → 0 < c → 0 < d → a * d ≤ b * c → T (finite (round f false b d)) → T (finite (round f s a c))
 unfolding neg
-round-finite f s a c b d C D h k = go s
+round-finite f s a c b d C D h k =
+    either-sign f s a c (under (round f false a c) (round f false b d) (round-has f false a c)
+    (le→Le (round f false a c) (round f false b d) (round-mono f a c b d C D h)) k)
   where
     under : (x y : Float) → Sign false x → Le x y → T (finite y) → T (finite x)
     under nan y s h k = h
@@ -231,29 +233,12 @@ round-finite f s a c b d C D h k = go s
     under (inf false) (fin t n d) s h k = h
     under (fin u m e) y s h k = tt
 
-    neg-finite : (x : Float) → T (finite x) → T (finite (neg x))
-    neg-finite nan h = h
-    neg-finite (inf s) h = h
-    neg-finite (fin s m e) h = tt
-
-    plus : T (finite (round f false a c))
-    plus =
-        under (round f false a c) (round f false b d) (round-has f false a c)
-        (le→Le (round f false a c) (round f false b d) (round-mono f a c b d C D h)) k
-
-    go : (u : Bool) → T (finite (round f u a c))
-    go false = plus
-    go true = rw (round-neg f a c) (neg-finite (round f false a c) plus)
-
 -- a power of two up to 2 ^ emax rounds to itself
 pub round-power : (f : Format) (k : ℕ) → k ≤ emax f → HasValue (round f false (2 ^ k) 1) false (2 ^ k) 1
 round-power f k h =
     round-exact f false (2 ^ k) 1 1 (k + low f) (pow-pos 0) (pow-lt (two-le-pos (prec f) (two f)))
-    (subst (λ (x : ℕ). x < 2 ^ (low f + suc (emax f))) (sym (one-mul (2 ^ (k + low f)))) (pow-lt (next k (emax f) (low f) h)))
+    (subst (λ (x : ℕ). x < 2 ^ (low f + suc (emax f))) (sym (one-mul (2 ^ (k + low f)))) (pow-lt (omega arith)))
     (sym (pow-add 2 k (low f)) ∙ sym (mul-one (1 * 2 ^ (k + low f)) ∙ one-mul (2 ^ (k + low f))))
-  where
-    next : (k e l : ℕ) → k ≤ e → k + l < l + suc e
-    next k e l h = omega arith
 
 -- so a fraction of at most 2 ^ emax rounds to a finite value
 pub round-within : (f : Format) (s : Bool) (a c : ℕ) → 0 < c → a ≤ 2 ^ emax f * c → T (finite (round f s a c))

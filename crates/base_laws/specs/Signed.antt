@@ -3,7 +3,7 @@
 use mathlib.Core.Path.{_≡_, refl, sym, ap, _∙_}
 use mathlib.Core.Logic.{inl, inr}
 use Prim.Native.Nat.{ℕ, _+_, _*_, _≤_, _<_}
-use native.Mathlib.Nat.{le-antisymm, not-le-of-lt, mul-pos, mul-assoc, mul-comm, mul-left-comm, mul-right-comm, mul-le-mul-right, le-of-mul-le-mul-right, zero-mul, add-mul}
+use native.Mathlib.Nat.{not-le-of-lt, mul-pos, mul-assoc, mul-comm, mul-left-comm, mul-right-comm, mul-le-mul-right, le-of-mul-le-mul-right, zero-mul, add-mul}
 use native.Mathlib.Omega.{arith}
 use mathlib.Core.Bool.{Bool, true, false, not}
 use lib.Dec.{T, eqb, eqb→eq, ltb→lt, lt→ltb}
@@ -13,12 +13,9 @@ use Rattle.base_laws.specs.Tests.{lt-or-le}
 
 -- ---- natural numbers
 
-none : (n : ℕ) → 0 ≤ n
-none n = omega arith
-
 -- a product that is zero, by a factor that is not
 pub zero-of : (a q : ℕ) → 0 < q → a * q ≤ 0 → a ≡ 0
-zero-of a q Q h = elim (lt-or-le 0 a) [ inl l ↦ absurd (not-le-of-lt (mul-pos l Q) h) | inr g ↦ le-antisymm g (none a) ]
+zero-of a q Q h = elim (lt-or-le 0 a) [ inl l ↦ absurd (not-le-of-lt (mul-pos l Q) h) | inr g ↦ omega arith ]
 
 -- a product with zero is zero
 pub times-zero : (a r : ℕ) → a ≡ 0 → a * r ≡ 0
@@ -79,19 +76,10 @@ under-transfer s x p a c t y q b d C D e g h =
 -- of fractions ±a / p, ±b / q and ±c / r
 pub under-trans : (s : Bool) (a p : ℕ) (t : Bool) (b q : ℕ) (u : Bool) (c r : ℕ) → 0 < q → Under s (a * q) t (b * p) → Under t (b * r) u (c * q)
     → Under s (a * r) u (c * p)
-under-trans s a p t b q u c r Q h k = le-of-mul-le-mul-right (rw (add-mul (posi s (a * r)), add-mul (posi u (c * p))) lin) Q
-  where
-    lin : posi s (a * r) * q + nega u (c * p) * q ≤ posi u (c * p) * q + nega s (a * r) * q
-    lin =
-        let h' : Under s (a * q * r) t (b * p * r) = under-scale s (a * q) t (b * p) r h in
-        let k' : Under t (b * p * r) u (c * q * p) = rw (mul-right-comm b p r) (under-scale t (b * r) u (c * q) p k) in
-        let a' : a * q * r ≡ a * r * q = mul-right-comm a q r in
-        let c' : c * q * p ≡ c * p * q = mul-right-comm c q p in
-        let pa : posi s (a * q * r) ≡ posi s (a * r) * q = ap (λ (n : ℕ). posi s n) a' ∙ posi-scale s (a * r) q in
-        let na : nega s (a * q * r) ≡ nega s (a * r) * q = ap (λ (n : ℕ). nega s n) a' ∙ nega-scale s (a * r) q in
-        let pc : posi u (c * q * p) ≡ posi u (c * p) * q = ap (λ (n : ℕ). posi u n) c' ∙ posi-scale u (c * p) q in
-        let nc : nega u (c * q * p) ≡ nega u (c * p) * q = ap (λ (n : ℕ). nega u n) c' ∙ nega-scale u (c * p) q in
-        omega arith
+under-trans s a p t b q u c r Q h k =
+    let h' : Under s (a * r * q) t (b * p * r) = rw (mul-right-comm a r q) (under-scale s (a * q) t (b * p) r h) in
+    let k' : Under t (b * p * r) u (c * p * q) = rw (mul-right-comm b p r, mul-right-comm c p q) (under-scale t (b * r) u (c * q) p k) in
+    under-unscale s (a * r) u (c * p) q Q (omega arith)
 
 -- ---- the tests of lib.Ieee
 

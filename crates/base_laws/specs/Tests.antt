@@ -2,9 +2,8 @@
 use mathlib.Core.Path.{_≡_, refl, sym, subst, _∙_}
 use mathlib.Core.Logic.{_⊎_, inl, inr}
 use Prim.Native.Nat.{ℕ, _≤_, _<_}
-use mathlib.Core.Bool.{Bool, true, false, not, _&&_, _||_, cond}
+use mathlib.Core.Bool.{Bool, true, false, not, _&&_, _||_}
 use lib.Dec.{T, ltb, ltb→lt, nltb→le}
-use lib.Ieee.{Float}
 use borrow.Author.Tests.{not-true, not-false}
 
 -- two tests that pass together are one
@@ -43,15 +42,10 @@ pub passes : (b : Bool) → T b ⊎ T (not b)
 passes true = inl tt
 passes false = inr tt
 
--- the first of two where a test passes
-pub cond-yes : (b : Bool) (x y : Float) → T b → cond b x y ≡ x
-cond-yes true x y t = refl
-cond-yes false x y t = absurd t
-
--- the second of two where it fails
-pub cond-no : (b : Bool) (x y : Float) → T (not b) → cond b x y ≡ y
-cond-no true x y t = absurd t
-cond-no false x y t = refl
+-- the same as equations, so that a step with both is `elim (tested b) [ inl e ↦ rw e .. | inr e ↦ rw e .. ]`
+pub tested : (b : Bool) → (b ≡ true) ⊎ (b ≡ false)
+tested true = inl refl
+tested false = inr refl
 
 -- of two numbers one is below the other, or it is not
 pub lt-or-le : (a b : ℕ) → (a < b) ⊎ (b ≤ a)

@@ -52,10 +52,7 @@ power-fits f k h =
     let b = leb 1 (2 ^ low f) in
     and-i (a && b) (ltb (1 * 2 ^ k) (2 ^ suc (emax f) * 1))
     (and-i a b (lt→ltb 1 (2 ^ prec f) (pow-lt (two-le-pos (prec f) (two f)))) (le→leb 1 (2 ^ low f) (pow-pos (low f))))
-    (lt→ltb (1 * 2 ^ k) (2 ^ suc (emax f) * 1) below)
-  where
-    below : 1 * 2 ^ k < 2 ^ suc (emax f) * 1
-    below = let l : 2 ^ k < 2 ^ suc (emax f) = pow-lt (omega arith) in omega arith
+    (lt→ltb (1 * 2 ^ k) (2 ^ suc (emax f) * 1) (let l : 2 ^ k < 2 ^ suc (emax f) = pow-lt (omega arith) in omega arith))
 
 -- the number itself up to 2 ^ prec
 pub whole-exact : (f : Format) (n : ℕ) → n ≤ 2 ^ prec f → HasValue (ofInt f (pos n)) false n 1

@@ -76,15 +76,7 @@ module _ (f : ℕ → Float) (n : ℕ) where
   levelling-start out before h r e =
       let v = div binary64 before unit in
       let g = levelAt (tabulate f n) in
-      record {
-        some = omega arith;
-        within = h;
-        ends = refl;
-        room = rw (length-set out 0 v) r;
-        same = refl;
-        held = e;
-        written = onto-tabulate-one g out v (omega arith) (rw e (sym (level-first h))) ∙ sym (onto-tabulate-set g out 1 0 v (omega arith));
-      }
+      search (arith, length-set out 0 v, onto-tabulate-one g out v (omega arith) (rw e (sym (level-first h))) ∙ sym (onto-tabulate-set g out 1 0 v (omega arith)))
 
   pub levelling-next : (out₀ : List Float) (end : ℕ) (out : List Float) (before here : Float) (k : ℕ) → k < end → here ≡ f k
       → Levelling out₀ end out before k → Levelling out₀ end (set out k (div binary64 (add binary64 before here) double)) here (k + 1)

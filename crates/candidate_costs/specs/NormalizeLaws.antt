@@ -7,7 +7,7 @@ use lib.Ieee.Scale.{finite}
 use Rattle.base_laws.specs.Order.{float-le-numbers, float-lt-le-trans}
 use Rattle.base_terms.specs.Floats.{nought, clampOf}
 use Rattle.base_laws.specs.Nonneg.{nought-nonneg, finite-between, positive-above}
-use Rattle.base_laws.specs.Numbers.{float-sub-finite-number}
+use Rattle.base_laws.specs.Differences.{float-sub-finite-number, difference-finite}
 use Rattle.base_laws.specs.Quotients.{float-div-number}
 use Rattle.base_laws.specs.Clamp.{max-above, clamp-range}
 use Rattle.grid.specs.Values.{isFinite}
@@ -15,7 +15,6 @@ use Rattle.grid.specs.ValuesLaws.{value-finite, value-number}
 use Rattle.grid.specs.declared.validate.Domain.the-variants.{Decibels, Scores}
 use Rattle.silence_levels.specs.declared.threshold.Levels.{Levels}
 use Rattle.candidate_costs.specs.Normalize.{unit, minRange, rangeOf, normalizeOf}
-use Rattle.base_laws.specs.Difference.{difference-finite}
 
 -- a number from 0 to 1
 pub record OnScale (x : Float) : Type 0 where

@@ -10,7 +10,7 @@ use native.Mathlib.Omega.{arith}
 use lib.Dec.{T, T-not}
 use lib.Ieee.{Float, nan, le, lt, isNan}
 use lib.ListN.{getD}
-use Rattle.base_laws.specs.Tests.{lt-or-le, holds}
+use Rattle.base_laws.specs.Tests.{lt-or-le, holds, tested}
 use Rattle.base_laws.specs.Order.{float-le-refl, float-lt-le, float-lt-is, float-le-not-lt, float-lt-le-trans}
 use Rattle.candidate_costs.specs.Quietest.{quieter, quietestIn, quietestOf}
 
@@ -18,14 +18,10 @@ module _ (levels : List Float) where
   quiet-within : (from left b k : ℕ) → from ≤ b → b < k → (from ≤ quietestIn levels left b k) × (quietestIn levels left b k < k + left)
   unfolding quietestIn quieter
   quiet-within from zero b k h l = (h, omega arith)
-  quiet-within from (suc left) b k h l =
-      let t = le (getD levels b nan) (getD levels k nan) in
-      let p = quiet-within from left (cond t b k) (suc k) (one-of t .0) (one-of t .1) in
-      (p .0, omega (arith, p .1))
-    where
-      one-of : (t : Bool) → (from ≤ cond t b k) × (cond t b k < suc k)
-      one-of true = (h, omega arith)
-      one-of false = (omega arith, omega arith)
+  quiet-within from (suc left) b k h l = elim (tested (le (getD levels b nan) (getD levels k nan))) [
+    | inl t ↦ let p = quiet-within from left b (suc k) h (omega arith) in rw t (p .0, omega (arith, p .1))
+    | inr t ↦ let p = quiet-within from left k (suc k) (omega arith) (omega arith) in rw t (p .0, omega (arith, p .1))
+  ]
 
   -- it is one of them
   pub quietest-within : (from to : ℕ) → from < to → (from ≤ quietestOf levels from to) × (quietestOf levels from to < to)
@@ -40,14 +36,13 @@ module _ (levels : List Float) where
 
   module _ (from to : ℕ) (numbers : (k : ℕ) → from ≤ k → k < to → T (not (isNan (getD levels k nan)))) where
     one : from < to → Quietest from (suc from) from
-    one h = record {
-      within = (omega arith, omega arith);
-      least = λ (j : ℕ) (a : from ≤ j) (b : j < suc from). same j (omega arith);
-      earliest = λ (j : ℕ) (a : from ≤ j) (b : j < from). absurd (omega arith);
-    }
-      where
-        same : (j : ℕ) → j ≡ from → T (le (getD levels from nan) (getD levels j nan))
-        same j e = rw e (float-le-refl (getD levels from nan) (numbers from (omega arith) h))
+    one h =
+        let same : (j : ℕ) → j ≡ from → T (le (getD levels from nan) (getD levels j nan)) = λ j e. rw e (float-le-refl (getD levels from nan) (numbers from (omega arith) h)) in
+        record {
+          within = (omega arith, omega arith);
+          least = λ (j : ℕ) (a : from ≤ j) (b : j < suc from). same j (omega arith);
+          earliest = λ (j : ℕ) (a : from ≤ j) (b : j < from). absurd (omega arith);
+        }
 
     step : (b k : ℕ) → k < to → Quietest from k b → Quietest from (suc k) (quieter levels b k)
     unfolding quieter
@@ -57,31 +52,28 @@ module _ (levels : List Float) where
         lower e = rw (float-lt-is (getD levels k nan) (getD levels b nan) (numbers k (omega (arith, q .within)) h) (numbers b (q .within .0) (omega (arith, q .within))), e) tt
 
         go : (t : Bool) → le (getD levels b nan) (getD levels k nan) ≡ t → Quietest from (suc k) (cond t b k)
-        go true e = record {
-          within = (q .within .0, omega (arith, q .within));
-          least = λ (j : ℕ) (a : from ≤ j) (l : j < suc k). elim (lt-or-le j k) [
-            | inl m ↦ q .least j a m
-            | inr m ↦ at j (omega arith)
-          ];
-          earliest = q .earliest;
-        }
-          where
-            at : (j : ℕ) → j ≡ k → T (le (getD levels b nan) (getD levels j nan))
-            at j s = rw s (holds e)
-        go false e = record {
-          within = (omega (arith, q .within), omega arith);
-          least = λ (j : ℕ) (a : from ≤ j) (l : j < suc k). elim (lt-or-le j k) [
-            | inl m ↦ float-lt-le (getD levels k nan) (getD levels j nan) (below j a m)
-            | inr m ↦ at j (omega arith)
-          ];
-          earliest = below;
-        }
-          where
-            below : (j : ℕ) → from ≤ j → j < k → T (lt (getD levels k nan) (getD levels j nan))
-            below j a m = float-lt-le-trans (getD levels k nan) (getD levels b nan) (getD levels j nan) (lower e) (q .least j a m)
-
-            at : (j : ℕ) → j ≡ k → T (le (getD levels k nan) (getD levels j nan))
-            at j s = rw s (float-le-refl (getD levels k nan) (numbers k (omega (arith, q .within)) h))
+        go true e =
+            let at : (j : ℕ) → j ≡ k → T (le (getD levels b nan) (getD levels j nan)) = λ j s. rw s (holds e) in
+            record {
+              within = (q .within .0, omega (arith, q .within));
+              least = λ (j : ℕ) (a : from ≤ j) (l : j < suc k). elim (lt-or-le j k) [
+                | inl m ↦ q .least j a m
+                | inr m ↦ at j (omega arith)
+              ];
+              earliest = q .earliest;
+            }
+        go false e =
+            let below : (j : ℕ) → from ≤ j → j < k → T (lt (getD levels k nan) (getD levels j nan)) =
+            λ j a m. float-lt-le-trans (getD levels k nan) (getD levels b nan) (getD levels j nan) (lower e) (q .least j a m) in
+            let at : (j : ℕ) → j ≡ k → T (le (getD levels k nan) (getD levels j nan)) = λ j s. rw s (float-le-refl (getD levels k nan) (numbers k (omega (arith, q .within)) h)) in
+            record {
+              within = (omega (arith, q .within), omega arith);
+              least = λ (j : ℕ) (a : from ≤ j) (l : j < suc k). elim (lt-or-le j k) [
+                | inl m ↦ float-lt-le (getD levels k nan) (getD levels j nan) (below j a m)
+                | inr m ↦ at j (omega arith)
+              ];
+              earliest = below;
+            }
 
     steps : (left b k : ℕ) → k + left ≡ to → Quietest from k b → Quietest from to (quietestIn levels left b k)
     unfolding quietestIn
@@ -124,16 +116,12 @@ module _ (levels : List Float) (from to : ℕ) where
   module _ (best k : ℕ) (w : Seeking levels from to best k) where
     pub seeking-next : (r : ℕ) → k < to → r ≡ quieter levels best k → Seeking levels from to r (k + 1)
     unfolding quieter
-    seeking-next r h e = record { within = omega arith; below = rw e (lesser (le (getD levels best nan) (getD levels k nan)) best k (w .below)); left = rw add-one (moved ∙ w .left) }
-      where
-        more : to - k ≡ suc (to - suc k)
-        more = omega arith
-
-        moved : quietestIn levels (to - suc k) r (suc k) ≡ quietestIn levels (to - k) best k
-        moved = rw more (unfold quietestIn in unfold quieter in rw e)
+    seeking-next r h e =
+        let more : to - k ≡ suc (to - suc k) = omega arith in
+        let moved : quietestIn levels (to - suc k) r (suc k) ≡ quietestIn levels (to - k) best k = rw more (unfold quietestIn in unfold quieter in rw e) in
+        record { within = omega arith; below = rw e (lesser (le (getD levels best nan) (getD levels k nan)) best k (w .below)); left = rw add-one (moved ∙ w .left) }
 
     pub seeking-done : to ≤ k → best ≡ quietestOf levels from to
-    seeking-done h = sym (whole (to - k) (omega arith)) ∙ w .left
-      where
-        whole : (left : ℕ) → left ≡ 0 → quietestIn levels left best k ≡ best
-        whole left e = unfold quietestIn in rw e
+    seeking-done h =
+        let whole : (left : ℕ) → left ≡ 0 → quietestIn levels left best k ≡ best = λ left e. unfold quietestIn in rw e in
+        sym (whole (to - k) (omega arith)) ∙ w .left

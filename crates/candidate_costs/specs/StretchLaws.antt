@@ -1,6 +1,6 @@
 -- The stretch at a boundary by its frames: of the only one at either end, and of the longer one between.
 use mathlib.Core.Path.{_≡_, sym, ap, subst, _∙_}
-use mathlib.Core.Bool.{true, false, not}
+use mathlib.Core.Bool.{true, false, not, true≢false}
 use mathlib.Core.List.{List, [], _∷_}
 use Prim.Native.Nat.{ℕ, zero, suc, _-_, _*_, _^_, _≤_, _<_, max}
 use native.Mathlib.Nat.{not-suc-le-zero, le-refl, le-trans, le-of-lt, mul-pos, mul-one, one-mul, zero-mul, mul-assoc, mul-comm, mul-le-mul, mul-le-mul-right}
@@ -57,18 +57,14 @@ module _ (runs : List ℕ) where
 
 divided : (m : ℕ) (e : ℤ) (n : ℕ) (d : ℤ) → 0 < n → div binary64 (fin false m e) (fin false n d) ≡ round binary64 false (m * up e * down d) (n * up d * down e)
 unfolding div
-divided m e n d N = let z : eqb n 0 ≡ false = ne-eqb n 0 (apart n N) in rw z
-  where
-    apart : (i : ℕ) → 0 < i → i ≡ 0 → ⊥
-    apart i l e = omega arith
+divided m e n d N =
+    let apart : (i : ℕ) → 0 < i → i ≡ 0 → ⊥ = λ i l e. omega arith in
+    let z : eqb n 0 ≡ false = ne-eqb n 0 (apart n N) in rw z
 
 -- a quotient of whole numbers is at most the dividend
 quotient-most : (a b : ℕ) → a ≤ 2 ^ 53 → 0 < b → b ≤ 2 ^ 53 → T (le (div binary64 (float a) (float b)) (float a))
 quotient-most a b h B k = go (float a) (float b) (whole-exact binary64 a h) (whole-exact binary64 b k)
   where
-    none : true ≡ false → ⊥
-    none e = subst T e tt
-
     less : (M N E D : ℕ) → M * 1 ≡ a * E → N * 1 ≡ b * D → M * D * 1 ≤ a * (N * E)
     less M N E D p q =
         let m : M ≡ a * E = sym (mul-one M) ∙ p in
@@ -83,10 +79,10 @@ quotient-most a b h B k = go (float a) (float b) (whole-exact binary64 a h) (who
     go : (x y : Float) → HasValue x false a 1 → HasValue y false b 1 → T (le (div binary64 x y) (float a))
     go nan y p q = absurd p
     go (inf s) y p q = absurd p
-    go (fin true m e) y p q = absurd (none (p .0))
+    go (fin true m e) y p q = absurd (true≢false (p .0))
     go (fin false m e) nan p q = absurd q
     go (fin false m e) (inf t) p q = absurd q
-    go (fin false m e) (fin true n d) p q = absurd (none (q .0))
+    go (fin false m e) (fin true n d) p q = absurd (true≢false (q .0))
     go (fin false m e) (fin false n d) p q =
         let N : 0 < n = some n (up d) (down d) (down-pos d) (q .1) in
         rw (divided m e n d N)

@@ -78,12 +78,9 @@ pub record Windowed (width : ℕ) (values : List Float) : Type 0 where
   pub few : length values ≤ maxFrames
   pub bounded : allOf isFinite values ≡ true
 
-half-below : (width : ℕ) → 0 < width → halfOf width < width
-half-below width h = omega arith
-
 -- a window holds a frame at least: its own
 window-some : (width i n : ℕ) → 0 < width → i < n → i - halfOf width < min (i + (width - halfOf width)) n
-window-some width i n h l = omega (arith, half-below width h)
+window-some width i n h l = omega arith
 
 -- any part with a value may be summed
 pub part-sums : (width : ℕ) (values : List Float) (from to : ℕ) → Windowed width values → from < to → to ≤ length values
@@ -126,11 +123,7 @@ pub summing-next : (part : List Float) (end : ℕ) (total : Float) (i : ℕ) →
     → Summing part end (add binary64 total (getD part i nan)) (i + 1)
 unfolding sumFrom
 summing-next part end total i l w =
-    record {
-      within = omega (arith, w .ends);
-      ends = w .ends;
-      left = rw add-one (ap (sumFrom total) (sym (drop-cons part i nan (omega (arith, w .ends)))) ∙ w .left);
-    }
+    search (arith, add-one, ap (sumFrom total) (sym (drop-cons part i nan (omega (arith, w .ends)))) ∙ w .left)
 
 pub summing-done : (part : List Float) (end : ℕ) (total : Float) (i : ℕ) → end ≤ i → Summing part end total i → total ≡ sumOf part
 unfolding sumFrom
@@ -163,12 +156,10 @@ pub window-nonneg : (width : ℕ) (values : List Float) (i : ℕ) → Windowed w
     → T (nonneg (meanOf (windowOf width values i)))
 unfolding windowOf clipped
 window-nonneg width values i ok h e =
+    let score-nonneg : (x : Float) → isScore x ≡ true → T (nonneg x) = λ x s. unfold isScore in (holds (both (le nought x) (le x (fin false 1 (pos 0))) s .0)) in
     let from = i - halfOf width in
     let to = min (i + (width - halfOf width)) (length values) in
     let part = partOf from to values in
     let l : length part ≡ to - from = part-length from to values (omega arith) in
     mean-nonneg part (part-sums width values from to ok (window-some width i (length values) (ok .some) h) (omega arith) .0) (omega (arith, l, ok .few))
     (λ (j : ℕ) (b : j < length part). score-nonneg (getD part j nan) (all-at isScore part j nan b (all-part isScore from to values e)))
-  where
-    score-nonneg : (x : Float) → isScore x ≡ true → T (nonneg x)
-    score-nonneg x s = unfold isScore in (holds (both (le nought x) (le x (fin false 1 (pos 0))) s .0))

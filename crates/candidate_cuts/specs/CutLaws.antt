@@ -1,28 +1,75 @@
+-- What the parts of the code that cuts a silence ask, and one law for each of its ends.
 -- A silence's candidate lies in the silence, is its dropped gap where it has one, and its level is a number from 0 to 1.
-use mathlib.Core.Path.{_≡_, refl, sym, _∙_}
-use mathlib.Core.Bool.{Bool, true, false, _&&_, cond}
+use mathlib.Core.Path.{_≡_, ap, _∙_, refl, sym}
 use mathlib.Core.List.{List}
 use Prim.Native.Nat.{ℕ, _≤_, _<_}
-use native.Mathlib.Nat.{le-refl}
 use native.Mathlib.Omega.{arith}
-use lib.Dec.{ltb}
 use lib.Ieee.{Float, nan}
+use borrow.Author.Tests.{lt-ltb, le-ltb, ltb-true, ltb-false}
+use mathlib.Core.Logic.{inl, inr}
+use mathlib.Core.Bool.{Bool, true, false}
+use native.Mathlib.Nat.{le-refl}
+use lib.Dec.{ltb}
 use lib.ListN.{getD}
-use borrow.Author.Tests.{le-ltb, ltb-true, ltb-false}
-use Rattle.base_laws.specs.Tests.{holds}
 use Rattle.candidate_settings.specs.declared.config.Gap.{Gap}
 use Rattle.candidate_settings.specs.declared.config.Gap.the-variants.{Keep, Drop}
 use Rattle.candidate_settings.specs.declared.config.Placement.{Placement}
-use Rattle.candidate_span.specs.Bounds.{lowOf, highOf, isInner}
-use Rattle.candidate_span.specs.BoundsLaws.{inner-is, low-within, high-within}
+use Rattle.candidate_span.specs.declared.bounds.Bounds.{Bounds}
+use Rattle.candidate_span.specs.Bounds.{lowOf, highOf, boundsOf, isInner}
+use Rattle.candidate_span.specs.BoundsLaws.{high-within, inner-is, low-within}
+use Rattle.candidate_cuts.specs.declared.cut.SilenceCut.{SilenceCut}
+use Rattle.candidate_cuts.specs.Place.{WithLevels, Placeable, chosenBy}
+use Rattle.candidate_cuts.specs.Cut.{splitPoint, leastLevel, pointCut, openCut, silenceCut, Inner}
+use Rattle.base_laws.specs.Tests.{holds, tested}
 use Rattle.candidate_span.specs.Gaps.{Cut, isGap, silenceGap}
 use Rattle.candidate_costs.specs.NormalizeLaws.{OnScale}
-use Rattle.candidate_cuts.specs.declared.cut.SilenceCut.{SilenceCut}
-use Rattle.candidate_cuts.specs.Place.{chosenBy}
 use Rattle.candidate_cuts.specs.PlaceLaws.{chosen-within}
-use Rattle.candidate_cuts.specs.Cut.{splitPoint, pointCut, openCut, silenceCut, Inner}
 use Rattle.candidate_cuts.specs.LeastLaws.{least-within}
-use Rattle.candidate_cuts.specs.CutWalk.{split-within, open-placeable}
+
+-- ---- the middle of overlapping padding
+
+pub split-within : (next prev start end : ℕ) → start ≤ end → (start ≤ splitPoint next prev start end) × (splitPoint next prev start end ≤ end)
+unfolding splitPoint
+split-within next prev start end h = (omega arith, omega arith)
+
+-- ---- what the parts of the code ask
+
+module _ (gap : Gap) (placement : Placement) (n pre tail : ℕ) (levels : List Float) (start end : ℕ) where
+  pub whole-bounded : Inner placement n levels start end → WithLevels levels start end
+  whole-bounded p = record { order = omega (arith, p .some); held = omega (arith, p .before-sound, p .held); few = omega (arith, p .before-sound, p .few) }
+
+  pub open-placeable : (lo hi : ℕ) → hi ≤ end → lo ≤ hi → Inner placement n levels start end → Placeable placement levels lo hi
+  open-placeable lo hi w h p =
+      search arith
+
+  -- ---- one law for each end of the code
+
+  module _ (b : Bounds) (is : b ≡ boundsOf n pre tail start end) where
+    low : b .lo ≡ lowOf n tail start
+    low = ap (λ (x : Bounds). x .lo) is
+
+    high : b .hi ≡ highOf n pre end
+    high = ap (λ (x : Bounds). x .hi) is
+
+    pub bounds-placeable : b .lo ≤ b .hi → Inner placement n levels start end → Placeable placement levels (b .lo) (b .hi)
+    bounds-placeable h p = open-placeable (b .lo) (b .hi) (omega (arith, high, high-within n pre end)) h p
+
+    pub silence-overlaps : (r : SilenceCut) (k : ℕ) → b .hi < b .lo → k ≡ splitPoint (b .hi) (b .lo) start end → r ≡ pointCut levels k
+        → r ≡ silenceCut gap placement n pre tail levels start end
+    unfolding silenceCut
+    silence-overlaps r k h e q =
+        rw (lt-ltb (highOf n pre end) (lowOf n tail start) (omega (arith, low, high)), ← low, ← high) (q ∙ ap (λ (j : ℕ). pointCut levels j) e)
+
+    pub silence-keeps : (r : SilenceCut) (k : ℕ) → gap ≡ Keep → b .lo ≤ b .hi → k ≡ chosenBy placement levels (b .lo) (b .hi) → r ≡ pointCut levels k
+        → r ≡ silenceCut gap placement n pre tail levels start end
+    unfolding silenceCut openCut
+    silence-keeps r k g h e q =
+        rw (g, le-ltb (highOf n pre end) (lowOf n tail start) (omega (arith, low, high)), ← low, ← high) (q ∙ ap (λ (j : ℕ). pointCut levels j) e)
+
+    pub silence-drops : (level : Float) → gap ≡ Drop → b .lo ≤ b .hi → level ≡ leastLevel levels start end
+        → record { left = b .lo; right = b .hi; level = level } ≡ silenceCut gap placement n pre tail levels start end
+    unfolding silenceCut openCut
+    silence-drops level g h e = rw (g, e, le-ltb (highOf n pre end) (lowOf n tail start) (omega (arith, low, high)), ← low, ← high)
 
 -- ---- where it lies
 
@@ -32,12 +79,10 @@ module _ (gap : Gap) (placement : Placement) (n pre tail : ℕ) (levels : List F
       → (lowOf n tail start ≤ highOf n pre end → P (openCut gap placement levels start end (lowOf n tail start) (highOf n pre end)))
       → P (silenceCut gap placement n pre tail levels start end)
   unfolding silenceCut
-  by-bounds P f g = go (ltb (highOf n pre end) (lowOf n tail start)) (ltb-true (highOf n pre end) (lowOf n tail start)) (ltb-false (highOf n pre end) (lowOf n tail start))
-    where
-      go : (b : Bool) → (b ≡ true → highOf n pre end < lowOf n tail start) → (b ≡ false → lowOf n tail start ≤ highOf n pre end)
-          → P (cond b (pointCut levels (splitPoint (highOf n pre end) (lowOf n tail start) start end)) (openCut gap placement levels start end (lowOf n tail start) (highOf n pre end)))
-      go true t u = f (t refl)
-      go false t u = g (u refl)
+  by-bounds P f g = elim (tested (ltb (highOf n pre end) (lowOf n tail start))) [
+    | inl e ↦ rw e (f (ltb-true (highOf n pre end) (lowOf n tail start) e))
+    | inr e ↦ rw e (g (ltb-false (highOf n pre end) (lowOf n tail start) e))
+  ]
 
 abbrev Inside : ℕ → ℕ → SilenceCut → Type 0
 Inside start end c = (start ≤ c .left) × (c .left ≤ c .right) × (c .right ≤ end)
@@ -108,11 +153,7 @@ module _ (placement : Placement) (n pre tail : ℕ) (levels : List Float) (start
   gap-none : (gap : Gap) → highOf n pre end < lowOf n tail start → hasGap gap n pre tail start end ≡ false
   unfolding hasGap isGap
   gap-none Keep h = refl
-  gap-none Drop h = rw (le-ltb (lowOf n tail start) (highOf n pre end) (omega arith)) (none (isInner n start end))
-    where
-      none : (b : Bool) → (b && false) ≡ false
-      none true = refl
-      none false = refl
+  gap-none Drop h = rw (le-ltb (lowOf n tail start) (highOf n pre end) (omega arith)) (elim (tested (isInner n start end)) [ inl e ↦ rw e | inr e ↦ rw e ])
 
   open-gap : (gap : Gap) → ltb (openCut gap placement levels start end (lowOf n tail start) (highOf n pre end) .left) (openCut gap placement levels start end (lowOf n tail start) (highOf n pre end) .right) ≡ hasGap gap n pre tail start end
   unfolding openCut hasGap isGap

@@ -1,15 +1,15 @@
 -- The candidates of a list of silences: inside the span, in order, and those with two ends are document 01's dropped gaps.
 -- A cut lies in its silence, silences are apart, and inner silences lie strictly inside the span.
 use mathlib.Core.Path.{_≡_, refl, sym, subst, _∙_}
-use mathlib.Core.Logic.{inl, inr}
 use mathlib.Core.Bool.{true}
 use mathlib.Core.List.{List, List·Memᴰ, List·Memᴰ·not-nil}
-use Prim.Native.Nat.{ℕ, zero, suc, _≤_, _<_}
-use native.Mathlib.Nat.{eq-or-lt-of-le}
+use Prim.Native.Nat.{ℕ, _≤_, _<_}
+use native.Mathlib.Nat.{pos-of-ne-zero}
 use native.Mathlib.Omega.{arith}
 use lib.Ieee.{Float}
 use lib.ListN.{length}
 use borrow.Author.Tests.{lt-ltb}
+use native.Mathlib.Numerals.{lt-of-le-of-ne}
 use Rattle.base_laws.specs.Tests.{holds}
 use Rattle.grid.specs.Limits.{maxFrames}
 use Rattle.candidate_settings.specs.declared.config.Gap.{Gap}
@@ -40,26 +40,13 @@ pub record InnerAt (n : ℕ) (ss : List ℕ) (i : ℕ) : Type 0 where
   pub listed : i < count ss
   pub inner : isInner n (startAt ss i) (endAt ss i) ≡ true
 
-positive : (k : ℕ) → (k ≡ 0 → ⊥) → 0 < k
-positive zero f = absurd (f refl)
-positive (suc k) f = omega arith
-
-below : (k n : ℕ) → k ≤ n → (k ≡ n → ⊥) → k < n
-below k n h f = elim (eq-or-lt-of-le h) [ inl e ↦ absurd (f e) | inr l ↦ l ]
-
 module _ (gap : Gap) (placement : Placement) (n pre tail : ℕ) (levels : List Float) (ss : List ℕ) (p : Prepared gap placement n levels ss) where
   -- each inner silence can be cut
   pub inner-cut : (i : ℕ) → InnerAt n ss i → Inner placement n levels (startAt ss i) (endAt ss i)
   inner-cut i a =
       let q = inner-parts n (startAt ss i) (endAt ss i) (a .inner) in
-      record {
-        after-sound = positive (startAt ss i) (q .0);
-        some = listed-own (p .spanned .listed) i (a .listed);
-        before-sound = below (endAt ss i) n (listed-within (p .spanned .listed) i (a .listed)) (q .1);
-        few = p .few;
-        held = p .held;
-        ratio = p .ratio;
-      }
+      let before-sound = lt-of-le-of-ne (listed-within (p .spanned .listed) i (a .listed)) (q .1) in
+      search (pos-of-ne-zero (q .0), listed-own (p .spanned .listed) i (a .listed))
 
   -- its cut lies strictly inside the span
   pub cut-inside : (i : ℕ) → InnerAt n ss i

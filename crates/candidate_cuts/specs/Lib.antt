@@ -8,9 +8,7 @@ pub mod PlaceLaws
 pub mod Cut
 -- LeastLaws: the least level is at most each (`least-below`), and from 0 to 1 (`least-within`); what holds while it is sought (`Lowering`)
 pub mod LeastLaws
--- CutWalk: one law for each end of the code
-pub mod CutWalk
--- CutLaws: a candidate lies in its silence (`cut-within`), is the dropped gap where there is one (`cut-gap`, `cut-gap-is`), and its level is from 0 to 1 (`cut-level`)
+-- CutLaws: one law for each end of the code; a candidate lies in its silence (`cut-within`), is the dropped gap where there is one (`cut-gap`, `cut-gap-is`), and its level is from 0 to 1 (`cut-level`)
 pub mod CutLaws
 -- CutsLaws: the candidates of a list of silences lie inside the span (`cut-inside`), in order (`cuts-apart`), and those with two ends are the dropped gaps (`cut-dropped`, `dropped-cut`)
 pub mod CutsLaws

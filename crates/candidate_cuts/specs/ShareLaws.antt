@@ -31,25 +31,19 @@ wholeFloat n = fin false n (pos 0)
 
 -- what is at most a whole number is rounded to at most it
 half-cross : (m b n : ℕ) → 0 < b → m ≤ n * b → (m * 2 + b) / (b * 2) ≤ n
-half-cross m b n B h = le-of-suc-le-suc (div-lt-iff-lt-mul (omega arith) .1 (less (n * b) (scaled n b) h))
-  where
-    scaled : (i j : ℕ) → suc i * (j * 2) ≡ i * j * 2 + j * 2
-    scaled i j = suc-mul i (j * 2) ∙ ap (λ (t : ℕ). t + j * 2) (sym (mul-assoc i j 2))
-
-    less : (p : ℕ) → suc n * (b * 2) ≡ p * 2 + b * 2 → m ≤ p → m * 2 + b < suc n * (b * 2)
-    less p e l = rw e (omega arith)
+half-cross m b n B h =
+    let scaled : (i j : ℕ) → suc i * (j * 2) ≡ i * j * 2 + j * 2 = λ i j. suc-mul i (j * 2) ∙ ap (λ (t : ℕ). t + j * 2) (sym (mul-assoc i j 2)) in
+    let less : (p : ℕ) → suc n * (b * 2) ≡ p * 2 + b * 2 → m ≤ p → m * 2 + b < suc n * (b * 2) = λ p e l. rw e (omega arith) in
+    le-of-suc-le-suc (div-lt-iff-lt-mul (omega arith) .1 (less (n * b) (scaled n b) h))
 
 half-within : (x : Float) (n : ℕ) → T (nonneg x) → T (le x (wholeFloat n)) → halfAway x ≤ n
 half-within x n p h = go x (le→Le nought x p) (le→Le x (wholeFloat n) h)
   where
-    none : (a b c : ℕ) → a + b * 1 ≤ 0 + 0 → b ≤ c
-    none a b c l = omega arith
-
     go : (y : Float) → Le nought y → Le y (wholeFloat n) → halfAway y ≤ n
     go nan q k = absurd q
     go (inf s) q k = unfold halfAway in (omega arith)
     go (fin false m e) q k = unfold halfAway in (half-cross (m * up e) (down e) n (down-pos e) (simp (mul-one, add-zero) at k))
-    go (fin true m e) q k = unfold halfAway in (half-cross (m * up e) (down e) n (down-pos e) (none (0 * 1 * down e) (m * up e) (n * down e) q))
+    go (fin true m e) q k = unfold halfAway in (half-cross (m * up e) (down e) n (down-pos e) (omega arith))
 
 -- a whole number times one is itself
 one-times : (f : Format) (w : Float) (a : ℕ) → HasValue w false a 1 → mul f (fin false 1 (pos 0)) w ≡ round f false a 1

@@ -1,4 +1,5 @@
 -- What the candidates of a plan need, and one law for each end of the functions that write them.
+-- A request that passes every test before 14 can be measured and planned.
 use mathlib.Core.Path.{_≡_, refl, sym, ap, _∙_}
 use mathlib.Core.Bool.{true}
 use mathlib.Core.List.{List, []}
@@ -35,6 +36,7 @@ use Rattle.candidate_finder.specs.CandidatesIn.{spacingIn, contextWith, 
 use Rattle.candidate_finder.specs.Holds.{Measurable, Holds, silences-before, silences-are}
 use Rattle.candidate_finder.specs.GridPointMarks.{markedOf, mark-length}
 use Rattle.candidate_finder.specs.SpanCandidates.{foundOf, Spannable, span-markable}
+use Rattle.plan_tests.specs.PlanReady.{PlanReady}
 
 -- a plan of n frames, of whose silences so many are held
 pub record Askable (r : Recording) (segment : SegmentConfig) (plan : PlanConfig) (n count : ℕ) (work : List ℕ) (workf : List Float) : Type 0 where
@@ -63,13 +65,10 @@ context-is r plan s frames secs e = rw e
 -- ---- what was written is what stands there
 
 placed-held : {A : Type 0} (base k : ℕ) (p xs ys : List A) → ys ≡ placed base p xs → length ys ≡ length xs → base ≤ length xs → k ≡ length p → take k (drop base ys) ≡ p
-placed-held base k p xs ys e l h s = rw e (placed-part base p xs fits k s)
-  where
-    long : length (placed base p xs) ≡ base + (length p + (length xs - (base + length p)))
-    long = unfold placed in simp (length-append, length-drop, length-take-le base xs h)
-
-    fits : base + length p ≤ length xs
-    fits = omega (arith, long, ap length e, l)
+placed-held base k p xs ys e l h s =
+    let long : length (placed base p xs) ≡ base + (length p + (length xs - (base + length p))) = unfold placed in simp (length-append, length-drop, length-take-le base xs h) in
+    let fits : base + length p ≤ length xs = omega (arith, long, ap length e, l) in
+    rw e (placed-part base p xs fits k s)
 
 no-candidates : (n : ℕ) (cs : List Candidate) (work : List ℕ) (workf : List Float) → cs ≡ [] → Stands n 0 cs work workf
 no-candidates n cs work workf e = rw e (record { number = refl; entries = unfold entriesOf in refl; costs = unfold costsOf in refl })
@@ -124,28 +123,22 @@ module _ (r : Recording) (segment : SegmentConfig) (plan : PlanConfig) (n count 
           → work′ ≡ placed (heldAt (x .frames)) (entriesOf (foundOf x g s count first last work workf)) (markedOf (x .gap) g s count first last work workf)
           → workf′ ≡ placed (costsAt (x .frames)) (costsOf (foundOf x g s count first last work workf)) workf
           → length work′ ≡ length work → length workf′ ≡ length workf → Stands n k heldCandidates work′ workf′
-      ask-found k work′ workf′ number entries costs same samef = record {
-        number = number ∙ ap length found-is;
-        entries =
-            placed-held (heldAt n) (3 * k) (entriesOf heldCandidates) (markedOf (x .gap) g s count first last work workf) work′ entries-are (same ∙ sym marks) (omega (arith, marks, a .room))
-            (omega (arith, number ∙ ap length found-is, entries-length heldCandidates));
-        costs = placed-held (costsAt n) k (costsOf heldCandidates) workf workf′ costs-are samef (omega (arith, a .roomf)) (number ∙ ap length found-is ∙ sym (costs-length heldCandidates));
-      }
-        where
-          size : x .frames ≡ n
-          size = rw ex
-
-          entries-are : work′ ≡ placed (heldAt n) (entriesOf heldCandidates) (markedOf (x .gap) g s count first last work workf)
-          entries-are =
-              entries ∙ ap (λ (cs : List Candidate). placed (heldAt (x .frames)) (entriesOf cs) (markedOf (x .gap) g s count first last work workf)) found-is
-              ∙ ap (λ (m : ℕ). placed (heldAt m) (entriesOf heldCandidates) (markedOf (x .gap) g s count first last work workf)) size
-
-          costs-are : workf′ ≡ placed (costsAt n) (costsOf heldCandidates) workf
-          costs-are =
-              costs ∙ ap (λ (cs : List Candidate). placed (costsAt (x .frames)) (costsOf cs) workf) found-is ∙ ap (λ (m : ℕ). placed (costsAt m) (costsOf heldCandidates) workf) size
-
-          marks : length (markedOf (x .gap) g s count first last work workf) ≡ length work
-          marks = mark-length (x .gap) g s count first last work workf (span-markable x g s count first last work workf ask-spannable)
+      ask-found k work′ workf′ number entries costs same samef =
+          let size : x .frames ≡ n = rw ex in
+          let entries-are : work′ ≡ placed (heldAt n) (entriesOf heldCandidates) (markedOf (x .gap) g s count first last work workf) =
+          entries ∙ ap (λ (cs : List Candidate). placed (heldAt (x .frames)) (entriesOf cs) (markedOf (x .gap) g s count first last work workf)) found-is
+          ∙ ap (λ (m : ℕ). placed (heldAt m) (entriesOf heldCandidates) (markedOf (x .gap) g s count first last work workf)) size in
+          let costs-are : workf′ ≡ placed (costsAt n) (costsOf heldCandidates) workf =
+          costs ∙ ap (λ (cs : List Candidate). placed (costsAt (x .frames)) (costsOf cs) workf) found-is ∙ ap (λ (m : ℕ). placed (costsAt m) (costsOf heldCandidates) workf) size in
+          let marks : length (markedOf (x .gap) g s count first last work workf) ≡ length work =
+          mark-length (x .gap) g s count first last work workf (span-markable x g s count first last work workf ask-spannable) in
+          record {
+            number = number ∙ ap length found-is;
+            entries =
+                placed-held (heldAt n) (3 * k) (entriesOf heldCandidates) (markedOf (x .gap) g s count first last work workf) work′ entries-are (same ∙ sym marks) (omega (arith, marks, a .room))
+                (omega (arith, number ∙ ap length found-is, entries-length heldCandidates));
+            costs = placed-held (costsAt n) k (costsOf heldCandidates) workf workf′ costs-are samef (omega (arith, a .roomf)) (number ∙ ap length found-is ∙ sym (costs-length heldCandidates));
+          }
 
 -- ---- a plan
 
@@ -175,20 +168,20 @@ module _ (r : Recording) (segment : SegmentConfig) (plan : PlanConfig) (values :
     pub plan-askable : Plannable r segment plan values flags lent (length work) (length workf) → 0 < length values → Askable r segment plan (length values) count work workf
     plan-askable p l =
         let f = p .measurable .sounds .flagged in
-        record {
-          pre-spaced = p .pre-spaced;
-          tail-spaced = p .tail-spaced;
-          max-spaced = p .max-spaced;
-          ratio = p .ratio;
-          some = l;
-          listed = rw (h .silences) (silences-are r segment values flags f);
-          apart = omega (arith, h .counted, silences-before r segment values flags f);
-          room = omega (arith, p .measurable .room);
-          roomf = omega (arith, p .measurable .roomf);
-        }
+        search (arith, h .silences, silences-are r segment values flags f, silences-before r segment values flags f)
 
     -- what is found in what is held is what the recording has
     pub plan-found : (k : ℕ) (work′ : List ℕ) (workf′ : List Float) → Stands (length values) k (candidatesFrom r segment plan (length values) (silencesHeld count work) (runsHeld (length values) work) (levelsHeld (length values) workf)) work′ workf′
         → Stands (length values) k (candidatesIn r segment plan values flags lent) work′ workf′
     unfolding candidatesIn
     plan-found k work′ workf′ l = rw (h .silences, h .runs, h .levels) at l
+
+pub ready-plannable : (r : Recording) (segment : SegmentConfig) (plan : PlanConfig) (values : List Float) (flags : List ℕ) (lent : List Float) (n32 n64 nf : ℕ)
+    → PlanReady r segment plan values flags lent n32 n64 nf → Plannable r segment plan values flags lent n32 nf
+ready-plannable r segment plan values flags lent n32 n64 nf p = record {
+  measurable = record { sounds = p .sounds; smoothed = p .smoothed; measured = p .measured; scaled = p .scaled; room = p .work .enough32; roomf = p .work .enoughf };
+  pre-spaced = p .pre-spaced;
+  tail-spaced = p .tail-spaced;
+  max-spaced = p .max-spaced;
+  ratio = p .ratio;
+}

@@ -19,7 +19,6 @@ use Rattle.candidate_points.specs.Placed.{placed}
 use Rattle.candidate_points.specs.PlacedLaws.{placed-length, placed-take, placed-part, placed-again, placed-put}
 use Rattle.candidate_points.specs.Blocked.{isBlocked, blockedOf}
 use Rattle.candidate_points.specs.BlockedLaws.{blocked-length}
-use Rattle.candidate_points.specs.BlockedWalk.{FlagRoom}
 use Rattle.candidate_points.specs.Points.{gridPoints, isIn, isPoint, markAt, marksOf}
 use Rattle.candidate_points.specs.PointsWalk.{SpanFlagged}
 use Rattle.candidate_points.specs.Clear.{marks-are}
@@ -54,9 +53,6 @@ module _ (gap : Gap) (g : FrameGrid) (s : Spacing) (count first last : ℕ) (wor
   abbrev flags : List ℕ
   flags = blockedOf gap g s (silencesHeld count work)
 
-  pub mark-room : FlagRoom g count (marksFrom (g .frames)) work
-  mark-room = record { bounded = m .bounded; apart = omega (arith, m .apart); fits = omega (arith, m .room); listed = m .listed }
-
   flags-size : length flags ≡ suc (g .frames)
   flags-size = blocked-length gap g s (silencesHeld count work)
 
@@ -80,12 +76,7 @@ module _ (gap : Gap) (g : FrameGrid) (s : Spacing) (count first last : ℕ) (wor
     mark-same = ap length e ∙ placed-length (marksFrom (g .frames)) flags work flags-fit
 
     pub mark-ready : SpanFlagged (s .block) first last (levelsHeld (g .frames) workf) (take (end - marksFrom (g .frames)) (drop (marksFrom (g .frames)) work′))
-    mark-ready = record {
-      some = m .some;
-      order = m .order;
-      heard = omega (arith, length-take-le (g .frames + 1) workf (m .roomf), m .within);
-      flagged = omega (arith, ap length part, flags-size, m .within);
-    }
+    mark-ready = search (arith, m .some, m .order, length-take-le (g .frames + 1) workf (m .roomf), m .within, ap length part, flags-size)
 
     pub mark-done : (marks : List ℕ) → marks ≡ marksOf (levelsHeld (g .frames) workf) (s .block) first last (take (end - marksFrom (g .frames)) (drop (marksFrom (g .frames)) work′))
         → putMid (marksFrom (g .frames)) (end - marksFrom (g .frames)) work′ marks ≡ markedOf gap g s count first last work workf
@@ -113,16 +104,13 @@ module _ (gap : Gap) (g : FrameGrid) (s : Spacing) (count first last : ℕ) (wor
   -- a mark stands at each grid point, and nowhere else
   pub mark-is : (k : ℕ) → k ≤ g .frames
       → marked (g .frames) (markedOf gap g s count first last work workf) k ≡ isIn (gridPoints (isBlocked gap g s (silencesHeld count work)) (levelsHeld (g .frames) workf) (s .block) first last) k
-  mark-is k h = rw at (flag-set (isIn (gridPoints (isBlocked gap g s (silencesHeld count work)) (levelsHeld (g .frames) workf) (s .block) first last) k))
-    where
-      part : take (suc (g .frames)) (drop (marksFrom (g .frames)) (markedOf gap g s count first last work workf)) ≡ marksIn gap g s count first last work workf
-      part = unfold markedOf in placed-part (marksFrom (g .frames)) (marksIn gap g s count first last work workf) work marks-fit (suc (g .frames)) (sym marks-size)
-
-      set : getD (marksIn gap g s count first last work workf) k 0 ≡ flagOf (isIn (gridPoints (isBlocked gap g s (silencesHeld count work)) (levelsHeld (g .frames) workf) (s .block) first last) k)
-      set = unfold marksIn in unfold isPoint in marks-are gap g s (silencesHeld count work) (levelsHeld (g .frames) workf) (s .block) first last (omega (arith, m .within)) k h
-
-      at : getD (markedOf gap g s count first last work workf) (marksFrom (g .frames) + k) 0 ≡ flagOf (isIn (gridPoints (isBlocked gap g s (silencesHeld count work)) (levelsHeld (g .frames) workf) (s .block) first last) k)
-      at =
-          sym (getD-drop (marksFrom (g .frames)) (markedOf gap g s count first last work workf) k 0)
-          ∙ sym (getD-take (suc (g .frames)) (drop (marksFrom (g .frames)) (markedOf gap g s count first last work workf)) k 0 (omega arith))
-          ∙ ap (λ (xs : List ℕ). getD xs k 0) part ∙ set
+  mark-is k h =
+      let part : take (suc (g .frames)) (drop (marksFrom (g .frames)) (markedOf gap g s count first last work workf)) ≡ marksIn gap g s count first last work workf =
+      unfold markedOf in placed-part (marksFrom (g .frames)) (marksIn gap g s count first last work workf) work marks-fit (suc (g .frames)) (sym marks-size) in
+      let set : getD (marksIn gap g s count first last work workf) k 0 ≡ flagOf (isIn (gridPoints (isBlocked gap g s (silencesHeld count work)) (levelsHeld (g .frames) workf) (s .block) first last) k) =
+      unfold marksIn in unfold isPoint in marks-are gap g s (silencesHeld count work) (levelsHeld (g .frames) workf) (s .block) first last (omega (arith, m .within)) k h in
+      let at : getD (markedOf gap g s count first last work workf) (marksFrom (g .frames) + k) 0 ≡ flagOf (isIn (gridPoints (isBlocked gap g s (silencesHeld count work)) (levelsHeld (g .frames) workf) (s .block) first last) k) =
+      sym (getD-drop (marksFrom (g .frames)) (markedOf gap g s count first last work workf) k 0)
+      ∙ sym (getD-take (suc (g .frames)) (drop (marksFrom (g .frames)) (markedOf gap g s count first last work workf)) k 0 (omega arith))
+      ∙ ap (λ (xs : List ℕ). getD xs k 0) part ∙ set in
+      rw at (flag-set (isIn (gridPoints (isBlocked gap g s (silencesHeld count work)) (levelsHeld (g .frames) workf) (s .block) first last) k))

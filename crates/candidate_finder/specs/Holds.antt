@@ -23,8 +23,7 @@ use Rattle.silence_runs.specs.SilencesLaws.{silences-length, silences-room}
 use Rattle.silence_list.specs.Silences.{silencesIn, soundsIn}
 use Rattle.silence_list.specs.RefusalLaws.{SoundReady}
 use Rattle.silence_list.specs.declared.config.SegmentConfig.{SegmentConfig}
-use Rattle.candidate_span.specs.ListedLaws.{Listed}
-use Rattle.candidate_span.specs.ListedLaws.{silences-listed}
+use Rattle.candidate_span.specs.ListedLaws.{Listed, silences-listed}
 use Rattle.candidate_points.specs.Placed.{placed}
 use Rattle.candidate_points.specs.PlacedLaws.{placed-take, placed-part, placed-put}
 use Rattle.candidate_costs.specs.Window.{smoothing, widthOf}
@@ -99,30 +98,17 @@ module _ (r : Recording) (segment : SegmentConfig) (values : List Float) (flags 
     pub holds-all : (runs : List ℕ) (end width : ℕ) (workf workf′ : List Float) → end ≡ length values + 1 + length values → runs ≡ quietRuns (belowOff (l .off) values flags)
         → width ≡ widthOf (r .«frame_rate») (r .hop) → workf′ ≡ onto (boundaryLevels (r .domain) l width values lent) workf
         → Holds r segment values flags lent count (putMid (length values + 1) (end - (length values + 1)) work runs) workf′
-    holds-all runs end width workf workf′ z e w h = record {
-      counted = counted;
-      silences = ap (take (2 * count)) put ∙ placed-take (length values + 1) runs work fits (2 * count) (omega (arith, counted, silences-before r segment values flags (m .sounds .flagged))) ∙ front;
-      runs = ap (λ (xs : List ℕ). take (length values) (drop (length values + 1) xs)) put ∙ placed-part (length values + 1) runs work fits (length values) (sym size) ∙ runs-are;
-      levels = ap (take (length values + 1)) h ∙ ap (λ (k : ℕ). take k (onto bl workf)) (sym long) ∙ onto-take bl workf ∙ levels-are;
-    }
-      where
-        bl : List Float
-        bl = boundaryLevels (r .domain) l width values lent
-
-        runs-are : runs ≡ runsIn r segment values flags
-        runs-are = unfold runsIn in (e ∙ rw (is, needed-off (r .domain) (recordingLevels r segment values flags)))
-
-        size : length runs ≡ length values
-        size = ap length e ∙ quiet-length (belowOff (l .off) values flags) ∙ below-length (l .off) values flags (m .sounds .flagged)
-
-        fits : length values + 1 + length runs ≤ length work
-        fits = omega (arith, size, m .room, same)
-
-        put : putMid (length values + 1) (end - (length values + 1)) work runs ≡ placed (length values + 1) runs work
-        put = placed-put (length values + 1) runs work fits end (omega (arith, z, size))
-
-        levels-are : bl ≡ levelsIn r segment values flags lent
-        levels-are = unfold levelsIn in (rw (is, w) (needed-levels (r .domain) (recordingLevels r segment values flags) (widthOf (r .«frame_rate») (r .hop)) values lent))
-
-        long : length bl ≡ length values + 1
-        long = ap length levels-are ∙ (unfold levelsIn in unfold boundaryLevels in (tabulate-length _ (suc (length values)) ∙ sym (add-one (length values))))
+    holds-all runs end width workf workf′ z e w h =
+        let bl : List Float = boundaryLevels (r .domain) l width values lent in
+        let runs-are : runs ≡ runsIn r segment values flags = unfold runsIn in (e ∙ rw (is, needed-off (r .domain) (recordingLevels r segment values flags))) in
+        let size : length runs ≡ length values = ap length e ∙ quiet-length (belowOff (l .off) values flags) ∙ below-length (l .off) values flags (m .sounds .flagged) in
+        let fits : length values + 1 + length runs ≤ length work = omega (arith, size, m .room, same) in
+        let put : putMid (length values + 1) (end - (length values + 1)) work runs ≡ placed (length values + 1) runs work =
+        placed-put (length values + 1) runs work fits end (omega (arith, z, size)) in
+        let levels-are : bl ≡ levelsIn r segment values flags lent =
+        unfold levelsIn in (rw (is, w) (needed-levels (r .domain) (recordingLevels r segment values flags) (widthOf (r .«frame_rate») (r .hop)) values lent)) in
+        let long : length bl ≡ length values + 1 =
+        ap length levels-are ∙ (unfold levelsIn in unfold boundaryLevels in (tabulate-length _ (suc (length values)) ∙ sym (add-one (length values)))) in
+        let a = ap (take (2 * count)) put ∙ placed-take (length values + 1) runs work fits (2 * count) (omega (arith, counted, silences-before r segment values flags (m .sounds .flagged))) ∙ front in
+        let b = ap (λ (xs : List ℕ). take (length values) (drop (length values + 1) xs)) put ∙ placed-part (length values + 1) runs work fits (length values) (sym size) ∙ runs-are in
+        search (arith, ap (take (length values + 1)) h ∙ ap (λ (k : ℕ). take k (onto bl workf)) (sym long) ∙ onto-take bl workf ∙ levels-are)

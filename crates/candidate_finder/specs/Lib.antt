@@ -11,9 +11,8 @@ pub mod GridPointMarks
 -- SpanCandidates: the candidates of a span from what is held (`foundOf`); marks and walk give them (`span-found`)
 pub mod SpanCandidates
 -- FinderLaws: what the candidates of a plan need (`Askable`, `Plannable`) and how they stand in work memory (`Stands`); one law for each end of the functions
+--   what passes the tests of a plan can be planned (`ready-plannable`)
 pub mod FinderLaws
--- Accepted: what passes the tests of a plan can be planned (`ready-plannable`)
-pub mod Accepted
 -- Stretches: no stretch below off is longer than the recording (`stretches-most`)
 pub mod Stretches
 -- SpanIn: document 01's span, dropped gaps, kept frames and their boundaries of recording and settings (`emptyIn`, `firstIn`, `lastIn`, `gapsIn`, `keptFramesIn`, `keptBoundariesIn`); grid points and what is listed (`gridPointsIn`, `listedIn`)

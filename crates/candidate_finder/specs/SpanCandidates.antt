@@ -19,7 +19,7 @@ use Rattle.candidates.specs.Entries.{entriesOf, costsOf}
 use Rattle.candidate_walk.specs.Held.{silencesHeld, runsHeld, levelsHeld, marked, heldAt, costsAt}
 use Rattle.candidate_walk.specs.Collect.{collected}
 use Rattle.candidate_walk.specs.CollectLaws.{Holding, Collectable}
-use Rattle.candidate_walk.specs.Marked.{marked-in}
+use Rattle.candidate_walk.specs.CollectStep.{marked-in}
 use Rattle.candidates.specs.Same.{candidates-same}
 use Rattle.candidates.specs.declared.candidate.Candidate.{Candidate}
 use Rattle.candidates.specs.declared.context.Context.{Context}
@@ -54,16 +54,9 @@ module _ (x : Context) (g : FrameGrid) (s : Spacing) (count first last : ℕ) (w
       (ends-order (x .gap) (x .frames) (x .pre) (x .tail) (silencesHeld count work) (p .collectable .prepared .spanned))
 
   pub span-markable : Markable g s count first last work workf
-  span-markable = record {
-    bounded = p .bounded;
-    listed = subst (λ (n : ℕ). Listed n (silencesHeld count work)) (sym (p .size)) (hold .listed);
-    apart = omega (arith, hold .apart, p .size);
-    some = p .some;
-    order = inside .0;
-    within = omega (arith, inside, p .size);
-    room = omega (arith, hold .room, p .size);
-    roomf = omega (arith, hold .roomf, p .size);
-  }
+  span-markable =
+      let listed = subst (λ (n : ℕ). Listed n (silencesHeld count work)) (sym (p .size)) (hold .listed) in
+      search (arith, p .bounded, hold .apart, p .size, p .some, inside .0, inside, hold .room, hold .roomf)
 
   -- work memory with the marks
   abbrev now′ : List ℕ

@@ -1,12 +1,14 @@
 -- No stretch below off is longer than the recording.
 use mathlib.Core.Path.{_≡_}
-use mathlib.Core.Bool.{Bool, true, false, cond, _||_}
+use mathlib.Core.Logic.{inl, inr}
+use mathlib.Core.Bool.{_||_}
 use mathlib.Core.List.{List, [], _∷_, _++_}
 use Prim.Native.Nat.{ℕ, zero, suc, _+_, _≤_}
 use native.Mathlib.Omega.{arith}
 use lib.Dec.{eqb}
 use lib.Ieee.{Float, lt}
 use lib.ListN.{length, getD, replicate, length-append, length-replicate}
+use Rattle.base_laws.specs.Tests.{tested}
 use Rattle.silence_runs.specs.Runs.{eachRun}
 use Rattle.silence_runs.specs.RunsLaws.{by-runs, each-none, each-other, each-run}
 use Rattle.silence_runs.specs.Quiet.{belowAt, belowOff, own, quietRuns}
@@ -53,11 +55,7 @@ below-most : (off : Float) (values : List Float) (flags : List ℕ) → Most 1 (
 unfolding belowOff belowAt
 below-most off [] flags i = omega arith
 below-most off (v ∷ values) [] i = omega arith
-below-most off (v ∷ values) (f ∷ flags) zero = flag (eqb f 1 || lt v off)
-  where
-    flag : (t : Bool) → cond t 1 0 ≤ 1
-    flag true = omega arith
-    flag false = omega arith
+below-most off (v ∷ values) (f ∷ flags) zero = elim (tested (eqb f 1 || lt v off)) [ inl e ↦ rw e (omega arith) | inr e ↦ rw e (omega arith) ]
 below-most off (v ∷ values) (f ∷ flags) (suc i) = below-most off values flags i
 
 -- the lengths of the stretches are at most b where the recording is no longer

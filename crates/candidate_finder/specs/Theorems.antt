@@ -187,12 +187,8 @@ module _ (r : Recording) (segment : SegmentConfig) (plan : PlanConfig) (values :
           let blocked = blockedIn r segment plan values flags in
           let is : isPoint blocked levels (s .block) first last k ≡ true = unfold isPoint in t in
           let o = point-of blocked levels (s .block) last (fits .some) first k is in
-          record {
-            start = o .start;
-            own = o .own;
-            quietest = point-quietest blocked levels (s .block) last (fits .some) first k is (length values) numbers
-                (omega (arith, span-ends x ss runs levels ks first last planned .1));
-          }
+          let a = point-quietest blocked levels (s .block) last (fits .some) first k is (length values) numbers (omega (arith, span-ends x ss runs levels ks first last planned .1)) in
+          search arith
 
       pub plan-costs : PlanCosts r segment plan values flags lent (candidatesIn r segment plan values flags lent)
       plan-costs = subst (PlanCosts r segment plan values flags lent) (sym found-are) record {

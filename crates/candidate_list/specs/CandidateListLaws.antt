@@ -5,7 +5,7 @@ use mathlib.Core.List.{List}
 use Prim.Native.Nat.{ℕ, _+_, _-_, _*_, _/_, _≤_, _<_}
 use native.Mathlib.Omega.{arith}
 use lib.Dec.{leb}
-use lib.Ieee.{Float, binary64, ofBits}
+use lib.Ieee.{Float}
 use lib.ListN.{length, take, drop, length-take, length-drop}
 use borrow.Author.Tests.{le-leb, lt-leb, leb-true, leb-false}
 use Rattle.base_laws.specs.Tests.{both}
@@ -73,11 +73,6 @@ module _ (a b e : ℕ) (is : e ≡ a + b) where
   part-onto xs out out′ h = h ∙ ap (λ (w : ℕ). onto (take w (drop a xs)) out) width
 
 -- ---- the list
-
--- three cleared lists are cleared work memory
-pub cleared-lists : (work32 work64 : List ℕ) (workf : List Float) (w32 w64 : List ℕ) (wf : List Float) → w32 ≡ filled 0 work32 → w64 ≡ filled 0 work64 → wf ≡ filled (ofBits binary64 0) workf
-    → workOf w32 w64 wf ≡ cleared (workOf work32 work64 workf)
-cleared-lists work32 work64 workf w32 w64 wf e32 e64 ef = rw (e32, e64, ef)
 
 module _ (candidates : ℕ) (entries : List ℕ) (costs : List Float) (out : Output) (work w : Work) (e : w ≡ cleared work) where
   -- an output is too short

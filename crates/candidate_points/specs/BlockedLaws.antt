@@ -1,7 +1,7 @@
 -- Filling the flags of one silence after another gives the flags by all: a boundary lies in one silence at most, so a later silence never opens what an earlier one blocks.
 use mathlib.Core.Path.{_≡_, refl, sym, _∙_}
 use mathlib.Core.Logic.{_⊎_, inl, inr}
-use mathlib.Core.Bool.{Bool, true, false, not, _&&_, cond}
+use mathlib.Core.Bool.{Bool, true, false, not, _&&_, cond, and-false, or-false, or-true}
 use mathlib.Core.List.{List}
 use Prim.Native.Nat.{ℕ, zero, suc, _+_, _≤_, _<_}
 use native.Mathlib.Omega.{arith}
@@ -15,14 +15,13 @@ use Rattle.grid.specs.declared.boundary.FrameGrid.{FrameGrid}
 use Rattle.silence_runs.specs.Runs.{putRun}
 use Rattle.candidate_settings.specs.declared.config.Gap.{Gap}
 use Rattle.candidate_span.specs.Listed.{count, startAt, endAt}
-use Rattle.candidate_span.specs.ListedLaws.{Listed}
-use Rattle.candidate_span.specs.ListedLaws.{listed-own, listed-apart, listed-within}
+use Rattle.candidate_span.specs.ListedLaws.{Listed, listed-own, listed-apart, listed-within}
 use Rattle.candidate_span.specs.Bounds.{lowOf, highOf}
 use Rattle.candidate_span.specs.BoundsLaws.{low-within, high-within}
 use Rattle.candidate_span.specs.declared.spacing.Spacing.{Spacing}
 use Rattle.candidate_points.specs.Flags.{flagOf}
-use Rattle.candidate_points.specs.FlagsLaws.{flag-yes, flag-no, flag-set, and-no, or-no, or-yes}
-use Rattle.candidate_points.specs.RangeLaws.{put-length, put-before, put-in, put-after}
+use Rattle.candidate_points.specs.FlagsLaws.{flag-yes, flag-no, flag-set}
+use Rattle.candidate_points.specs.PlacedLaws.{put-length, put-before, put-in, put-after}
 use Rattle.candidate_points.specs.Blocked.{getsGrid, touches, opens, blocksAt, blockedBy, isBlocked, flagBy, flagsBy, blockedOf, shutBy}
 
 -- ---- in a silence
@@ -34,7 +33,7 @@ module _ (start end k : ℕ) where
 
   pub touches-out : (k < start) ⊎ (end < k) → touches start end k ≡ false
   unfolding touches
-  touches-out h = elim h [ inl l ↦ rw (lt-leb start k l) | inr l ↦ rw (lt-leb k end l) (and-no (leb start k)) ]
+  touches-out h = elim h [ inl l ↦ rw (lt-leb start k l) | inr l ↦ rw (lt-leb k end l) (and-false (leb start k)) ]
 
 -- ---- the flags of one silence
 
@@ -70,7 +69,7 @@ module _ (start end lo hi : ℕ) (xs : List ℕ) (own : start ≤ end) (fits : e
 
   -- in the silence: 0 where it gets grid points and k is inside its bounds
   range-in : (grid : Bool) (k : ℕ) → start ≤ k → k ≤ end → getD (cond (leb lo hi && grid) (putRun lo (hi + 1) 0 shut) shut) k 0 ≡ flagOf (not (grid && touches lo hi k))
-  range-in false k h l = rw (and-no (leb lo hi), flag-yes) (one k h l)
+  range-in false k h l = rw (and-false (leb lo hi), flag-yes) (one k h l)
   range-in true k h l = go (leb lo hi) (leb-true lo hi) (leb-false lo hi)
     where
       outside : (k < lo) ⊎ (hi < k) → flagOf (not (touches lo hi k)) ≡ 1
@@ -153,7 +152,7 @@ module _ (gap : Gap) (g : FrameGrid) (s : Spacing) (ss : List ℕ) where
       -- outside this silence the earlier ones decide
       outside : (k : ℕ) → k ≤ g .frames → (k < startAt ss i) ⊎ (endAt ss i < k) → getD next k 0 ≡ flagOf (blockedBy gap g s ss (suc i) k)
       outside k m o = unfold blockedBy in unfold blocksAt in
-          rw (touches-out (startAt ss i) (endAt ss i) k o, or-no)
+          rw (touches-out (startAt ss i) (endAt ss i) k o, or-false)
           (shut-out gap g s (startAt ss i) (endAt ss i) (flagsBy gap g s ss i) own within (flags-length i) k o ∙ flags-at i k m)
 
       -- in it the earlier ones have ended
@@ -193,7 +192,7 @@ module _ (gap : Gap) (g : FrameGrid) (s : Spacing) (ss : List ℕ) where
       earlier m e = unfold blockedBy in rw e
 
       this : (m : ℕ) → m ≡ i → blockedBy gap g s ss (suc m) k ≡ true
-      this m e = unfold blockedBy in rw (e, here) (or-yes (blockedBy gap g s ss i k))
+      this m e = unfold blockedBy in rw (e, here) (or-true (blockedBy gap g s ss i k))
 
       go : (m : ℕ) → i < m → blockedBy gap g s ss m k ≡ true
       go zero l = absurd (omega arith)

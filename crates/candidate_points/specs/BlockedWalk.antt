@@ -14,16 +14,14 @@ use Rattle.grid.specs.declared.boundary.FrameGrid.{FrameGrid}
 use Rattle.silence_runs.specs.Runs.{putRun}
 use Rattle.candidate_settings.specs.declared.config.Gap.{Gap}
 use Rattle.candidate_span.specs.Listed.{count, startAt, endAt}
-use Rattle.candidate_span.specs.ListedLaws.{Listed}
-use Rattle.candidate_span.specs.ListedLaws.{listed-own, listed-within}
+use Rattle.candidate_span.specs.ListedLaws.{Listed, listed-own, listed-within}
 use Rattle.candidate_span.specs.Bounds.{lowOf, highOf, boundsOf}
 use Rattle.candidate_span.specs.BoundsLaws.{high-within}
 use Rattle.candidate_span.specs.declared.bounds.Bounds.{Bounds}
 use Rattle.candidate_span.specs.declared.spacing.Spacing.{Spacing}
 use Rattle.candidate_points.specs.FlagsLaws.{flag-no}
 use Rattle.candidate_points.specs.Placed.{placed}
-use Rattle.candidate_points.specs.PlacedLaws.{placed-length, placed-take, placed-before, placed-part, placed-again, placed-put, placed-same}
-use Rattle.candidate_points.specs.RangeLaws.{put-length}
+use Rattle.candidate_points.specs.PlacedLaws.{placed-length, placed-take, placed-before, placed-part, placed-again, placed-put, placed-same, put-length}
 use Rattle.candidate_points.specs.Blocked.{getsGrid, flagsBy, blockedOf, shutBy}
 use Rattle.candidate_points.specs.BlockedLaws.{flags-length, flags-at, flags-next, blocked-none, blocked-length}
 
@@ -87,15 +85,14 @@ module _ (gap : Gap) (g : FrameGrid) (s : Spacing) (silences base : ℕ) (work�
   marking-start end e r c = record { room = r; within = omega arith; stops = e; same = refl; flags = sym start }
     where
       none : flagsBy gap g s (take (2 * silences) work₀) 0 ≡ replicate (suc (g .frames)) 0
-      none = ext-getD 0 (flagsBy gap g s (take (2 * silences) work₀) 0) (replicate (suc (g .frames)) 0)
+      none =
+          let zero-at : (k : ℕ) → k < suc (g .frames) → getD (flagsBy gap g s (take (2 * silences) work₀) 0) k 0 ≡ getD (replicate (suc (g .frames)) 0) k 0 =
+          λ k h. flags-at gap g s (take (2 * silences) work₀) 0 k (omega arith) ∙ rw (blocked-none gap g s (take (2 * silences) work₀) 0 k (λ (j : ℕ) (d : j < 0). absurd (omega arith))) flag-no
+          ∙ sym (getD-replicate (suc (g .frames)) k 0 0 h) in
+          ext-getD 0 (flagsBy gap g s (take (2 * silences) work₀) 0) (replicate (suc (g .frames)) 0)
           (flags-length gap g s (take (2 * silences) work₀) 0 ∙ sym (length-replicate (suc (g .frames)) 0))
           (λ (k : ℕ) (h : k < length (flagsBy gap g s (take (2 * silences) work₀) 0)).
           zero-at k (omega (arith, flags-length gap g s (take (2 * silences) work₀) 0)))
-        where
-          zero-at : (k : ℕ) → k < suc (g .frames) → getD (flagsBy gap g s (take (2 * silences) work₀) 0) k 0 ≡ getD (replicate (suc (g .frames)) 0) k 0
-          zero-at k h =
-              flags-at gap g s (take (2 * silences) work₀) 0 k (omega arith) ∙ rw (blocked-none gap g s (take (2 * silences) work₀) 0 k (λ (j : ℕ) (d : j < 0). absurd (omega arith))) flag-no
-              ∙ sym (getD-replicate (suc (g .frames)) k 0 0 h)
 
       start : placed base (flagsBy gap g s (take (2 * silences) work₀) 0) work₀ ≡ work₀
       start = rw (none, ← c .zeros) (placed-same base (suc (g .frames)) work₀ (r .fits))
@@ -122,65 +119,30 @@ module _ (gap : Gap) (g : FrameGrid) (s : Spacing) (silences base : ℕ) (work�
 
   -- silence i
   pub marking-silent : (start stop : ℕ) (part : List ℕ) → i < silences → start ≡ startAt work i → stop ≡ endAt work i → part ≡ take (end - base) (drop base work) → Silent g start stop part
-  marking-silent start stop part h a b p = record {
-    bounded = m .room .bounded;
-    own = omega (arith, listed-own (m .room .listed) i num, begins, finishes);
-    within = omega (arith, listed-within (m .room .listed) i num, finishes);
-    size = ap length (p ∙ marking-part) ∙ size;
-  }
-    where
-      num : i < count (take (2 * silences) work₀)
-      num = omega (arith, listed-count)
-
-      begins : start ≡ startAt (take (2 * silences) work₀) i
-      begins = a ∙ marking-read (2 * i) (omega arith)
-
-      finishes : stop ≡ endAt (take (2 * silences) work₀) i
-      finishes = b ∙ marking-read (2 * i + 1) (omega arith)
+  marking-silent start stop part h a b p =
+      let begins : start ≡ startAt (take (2 * silences) work₀) i = a ∙ marking-read (2 * i) (omega arith) in
+      let finishes : stop ≡ endAt (take (2 * silences) work₀) i = b ∙ marking-read (2 * i + 1) (omega arith) in
+      let c = listed-within (m .room .listed) i (omega (arith, listed-count)) in
+      search (arith, m .room .bounded, listed-own (m .room .listed) i (omega (arith, listed-count)), begins, finishes, ap length (p ∙ marking-part) ∙ size)
 
   pub marking-next : (start stop : ℕ) (part : List ℕ) → i < silences → start ≡ startAt work i → stop ≡ endAt work i
       → part ≡ shutBy gap g s start stop (take (end - base) (drop base work)) → Marking gap g s silences base work₀ end (putMid base (end - base) work part) (i + 1)
-  marking-next start stop part h a b p = record {
-    room = m .room;
-    within = omega arith;
-    stops = m .stops;
-    same = ap length now ∙ placed-length base next work₀ fits-next;
-    flags = now ∙ ap (λ (q : List ℕ). placed base q work₀) is;
-  }
-    where
-      num : i < count (take (2 * silences) work₀)
-      num = omega (arith, listed-count)
-
-      begins : start ≡ startAt (take (2 * silences) work₀) i
-      begins = a ∙ marking-read (2 * i) (omega arith)
-
-      finishes : stop ≡ endAt (take (2 * silences) work₀) i
-      finishes = b ∙ marking-read (2 * i + 1) (omega arith)
-
-      next : List ℕ
-      next = part
-
-      is : next ≡ flagsBy gap g s (take (2 * silences) work₀) (i + 1)
-      is = (p ∙ rw (begins, finishes, marking-part)
-          (flags-next gap g s (take (2 * silences) work₀) (m .room .listed) i num ∙ ap (flagsBy gap g s (take (2 * silences) work₀)) (sym (add-one i))))
-
-      long : length next ≡ suc (g .frames)
-      long = ap length is ∙ flags-length gap g s (take (2 * silences) work₀) (i + 1)
-
-      fits-next : base + length next ≤ length work₀
-      fits-next = omega (arith, long, m .room .fits)
-
-      now : putMid base (end - base) work part ≡ placed base next work₀
-      now =
-          placed-put base next work (omega (arith, long, m .room .fits, m .same)) end (omega (arith, long, m .stops))
-          ∙ ap (placed base next) (m .flags) ∙ placed-again base (flagsBy gap g s (take (2 * silences) work₀) i) work₀ room-fits next (long ∙ sym size)
+  marking-next start stop part h a b p =
+      let begins : start ≡ startAt (take (2 * silences) work₀) i = a ∙ marking-read (2 * i) (omega arith) in
+      let finishes : stop ≡ endAt (take (2 * silences) work₀) i = b ∙ marking-read (2 * i + 1) (omega arith) in
+      let next : List ℕ = part in
+      let is : next ≡ flagsBy gap g s (take (2 * silences) work₀) (i + 1) =
+      (p ∙ rw (begins, finishes, marking-part)
+      (flags-next gap g s (take (2 * silences) work₀) (m .room .listed) i (omega (arith, listed-count)) ∙ ap (flagsBy gap g s (take (2 * silences) work₀)) (sym (add-one i)))) in
+      let long : length next ≡ suc (g .frames) = ap length is ∙ flags-length gap g s (take (2 * silences) work₀) (i + 1) in
+      let now : putMid base (end - base) work part ≡ placed base next work₀ =
+      placed-put base next work (omega (arith, long, m .room .fits, m .same)) end (omega (arith, long, m .stops))
+      ∙ ap (placed base next) (m .flags) ∙ placed-again base (flagsBy gap g s (take (2 * silences) work₀) i) work₀ room-fits next (long ∙ sym size) in
+      search (arith, ap length now ∙ placed-length base next work₀ (omega (arith, long, m .room .fits)), now ∙ ap (λ (q : List ℕ). placed base q work₀) is)
 
   pub marking-done : silences ≤ i → work ≡ placed base (blockedOf gap g s (take (2 * silences) work₀)) work₀
   unfolding blockedOf
-  marking-done h = m .flags ∙ ap (λ (j : ℕ). placed base (flagsBy gap g s (take (2 * silences) work₀) j) work₀) all
-    where
-      all : i ≡ count (take (2 * silences) work₀)
-      all = omega (arith, listed-count, m .within)
+  marking-done h = m .flags ∙ ap (λ (j : ℕ). placed base (flagsBy gap g s (take (2 * silences) work₀) j) work₀) (omega (arith, listed-count, m .within))
 
 -- ---- the flags are cleared first
 
@@ -194,21 +156,16 @@ module _ (g : FrameGrid) (silences base : ℕ) (work work′ : List ℕ) (end : 
 
   now : work′ ≡ placed base zeros work
   unfolding zeros putRun placed
-  now = e ∙ rw (size, length-replicate {A = ℕ} (suc (g .frames)) 0, z)
-    where
-      size : end - base ≡ suc (g .frames)
-      size = omega arith
+  now =
+      let size : end - base ≡ suc (g .frames) = omega arith in
+      e ∙ rw (size, length-replicate {A = ℕ} (suc (g .frames)) 0, z)
 
   same-silences : take (2 * silences) work′ ≡ take (2 * silences) work
   same-silences = ap (take (2 * silences)) now ∙ placed-take base zeros work zeros-fit (2 * silences) (r .apart)
 
   pub cleared-room : FlagRoom g silences base work′
-  cleared-room = record {
-    bounded = r .bounded;
-    apart = r .apart;
-    fits = omega (arith, r .fits, ap length now ∙ placed-length base zeros work zeros-fit);
-    listed = subst (λ (ss : List ℕ). Listed (g .frames) ss) (sym same-silences) (r .listed);
-  }
+  cleared-room =
+      search (arith, ap length now ∙ placed-length base zeros work zeros-fit, subst (λ (ss : List ℕ). Listed (g .frames) ss) (sym same-silences) (r .listed))
 
   pub cleared-flags : Cleared g base work′
   unfolding zeros

@@ -15,8 +15,7 @@ use Rattle.grid.specs.declared.boundary.FrameGrid.{FrameGrid}
 use Rattle.candidate_settings.specs.declared.config.Gap.{Gap}
 use Rattle.candidate_settings.specs.declared.config.Gap.the-variants.{Keep, Drop}
 use Rattle.candidate_span.specs.Listed.{startAt, endAt}
-use Rattle.candidate_span.specs.ListedLaws.{Listed}
-use Rattle.candidate_span.specs.ListedLaws.{listed-own, listed-within}
+use Rattle.candidate_span.specs.ListedLaws.{Listed, listed-own, listed-within}
 use Rattle.candidate_span.specs.Bounds.{lowOf, highOf}
 use Rattle.candidate_span.specs.BoundsLaws.{low-within, high-within}
 use Rattle.candidate_span.specs.Gaps.{Cut, gapsOf}
@@ -64,29 +63,20 @@ drop-shut g s start end k = refl
 -- a gap lies inside its silence, whose boundaries are all blocked
 clear-one : (g : FrameGrid) (s : Spacing) (ss : List ℕ) → Listed (g .frames) ss → (p : ℕ) → isBlocked Drop g s ss p ≡ false → (c : Cut) → GapAt (g .frames) (s .pre) (s .tail) ss c
     → (p < c .left) ⊎ (c .right < p)
-clear-one g s ss l p e c a = elim (lt-or-le p low) [
-  | inl h ↦ inl (rw (a .is) h)
-  | inr h ↦ elim (lt-or-le high p) [ inl k ↦ inr (rw (a .is) k) | inr k ↦ absurd (not-both (shut h k) e) ]
-]
-  where
-    start : ℕ
-    start = startAt ss (a .number)
-
-    end : ℕ
-    end = endAt ss (a .number)
-
-    low : ℕ
-    low = lowOf (g .frames) (s .tail) start
-
-    high : ℕ
-    high = highOf (g .frames) (s .pre) end
-
-    shut : low ≤ p → p ≤ high → isBlocked Drop g s ss p ≡ true
-    shut h k =
-        blocked-in Drop g s ss (a .number) p (a .listed)
-        (touches-in start end p (omega (arith, low-within (g .frames) (s .tail) start (omega (arith, listed-own l (a .number) (a .listed), listed-within l (a .number) (a .listed)))))
-        (omega (arith, high-within (g .frames) (s .pre) end)))
-        (drop-shut g s start end p)
+clear-one g s ss l p e c a =
+    let start : ℕ = startAt ss (a .number) in
+    let end : ℕ = endAt ss (a .number) in
+    let low : ℕ = lowOf (g .frames) (s .tail) start in
+    let high : ℕ = highOf (g .frames) (s .pre) end in
+    let shut : low ≤ p → p ≤ high → isBlocked Drop g s ss p ≡ true =
+    λ h k. blocked-in Drop g s ss (a .number) p (a .listed)
+    (touches-in start end p (omega (arith, low-within (g .frames) (s .tail) start (omega (arith, listed-own l (a .number) (a .listed), listed-within l (a .number) (a .listed)))))
+    (omega (arith, high-within (g .frames) (s .pre) end)))
+    (drop-shut g s start end p) in
+    elim (lt-or-le p low) [
+      | inl h ↦ inl (rw (a .is) h)
+      | inr h ↦ elim (lt-or-le high p) [ inl k ↦ inr (rw (a .is) k) | inr k ↦ absurd (not-both (shut h k) e) ]
+    ]
 
 clear : (gap : Gap) (g : FrameGrid) (s : Spacing) (ss : List ℕ) → Listed (g .frames) ss → (p : ℕ) → isBlocked gap g s ss p ≡ false → Outside (gapsOf gap (g .frames) (s .pre) (s .tail) ss) p
 unfolding gapsOf

@@ -1,6 +1,6 @@
--- A flag tells whether its test passed. What `&&` and `||` are beside a known test.
+-- A flag tells whether its test passed.
 use mathlib.Core.Path.{_≡_, refl, sym, _∙_}
-use mathlib.Core.Bool.{Bool, true, false, not, _&&_, _||_}
+use mathlib.Core.Bool.{Bool, true, false, not}
 use lib.Dec.{eqb}
 use Rattle.base_laws.specs.Tests.{holds}
 use Rattle.candidate_points.specs.Flags.{flagOf}
@@ -18,20 +18,6 @@ pub flag-set : (b : Bool) → not (eqb (flagOf b) 0) ≡ b
 unfolding flagOf
 flag-set true = refl
 flag-set false = refl
-
--- ---- beside a known test
-
-pub and-no : (b : Bool) → (b && false) ≡ false
-and-no true = refl
-and-no false = refl
-
-pub or-no : (b : Bool) → (b || false) ≡ b
-or-no true = refl
-or-no false = refl
-
-pub or-yes : (b : Bool) → (b || true) ≡ true
-or-yes true = refl
-or-yes false = refl
 
 -- no test passes and fails
 pub not-both : {b : Bool} → b ≡ true → b ≡ false → ⊥

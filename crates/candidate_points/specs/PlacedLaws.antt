@@ -1,12 +1,14 @@
 -- What stands where after a list was written over the middle of another.
+-- What stands where after a range of a list was filled.
 use mathlib.Core.Path.{_≡_, sym, ap, _∙_}
 use mathlib.Core.List.{List, _++_, append-assoc}
 use Prim.Native.Nat.{ℕ, _+_, _-_, _≤_, _<_}
 use native.Mathlib.Omega.{arith}
-use lib.ListN.{length, take, drop, getD, length-append, length-drop}
-use lib.Seq.{take-at, drop-at, length-take-le, take-take, getD-take, drop-drop}
-use Rattle.candidate_points.specs.Placed.{placed}
+use lib.ListN.{length, take, drop, getD, length-append, length-drop, replicate, length-replicate, getD-replicate, List·getD-append}
+use lib.Seq.{take-at, drop-at, length-take-le, take-take, getD-take, drop-drop, getD-append-add, getD-drop}
 use borrow.Rule.Slice.PartMut.{putMid, post-is, put-same}
+use Rattle.candidate_points.specs.Placed.{placed}
+use Rattle.silence_runs.specs.Runs.{putRun}
 
 module _ {A : Type 0} (base : ℕ) (p xs : List A) (fits : base + length p ≤ length xs) where
   front : length (take base xs) ≡ base
@@ -47,7 +49,34 @@ module _ {A : Type 0} (base : ℕ) (p xs : List A) (fits : base + length p ≤ l
 -- what stands there, written over itself
 pub placed-same : {A : Type 0} (base k : ℕ) (xs : List A) → base + k ≤ length xs → placed base (take k (drop base xs)) xs ≡ xs
 unfolding placed
-placed-same base k xs h = rw (long, ← drop-drop) (put-same base k xs)
-  where
-    long : length (take k (drop base xs)) ≡ k
-    long = length-take-le k (drop base xs) (simp length-drop (omega arith))
+placed-same base k xs h =
+    let long : length (take k (drop base xs)) ≡ k = length-take-le k (drop base xs) (simp length-drop (omega arith)) in
+    rw (long, ← drop-drop) (put-same base k xs)
+
+after-front : {A : Type 0} (ps qs : List A) (n k : ℕ) (z : A) → length ps ≡ n → n ≤ k → getD (ps ++ qs) k z ≡ getD qs (k - n) z
+after-front {A} ps qs n k z e h = ap (λ (j : ℕ). getD (ps ++ qs) j z) (omega arith) ∙ getD-append-add ps qs (k - n) z
+
+module _ (a b w : ℕ) (xs : List ℕ) (order : a ≤ b) (fits : b ≤ length xs) where
+  low-part : length (take a xs) ≡ a
+  low-part = length-take-le a xs (omega arith)
+
+  pub put-length : length (putRun a b w xs) ≡ length xs
+  unfolding putRun
+  put-length = simp (length-append, length-drop, length-replicate, low-part) (omega arith)
+
+  pub put-before : (k z : ℕ) → k < a → getD (putRun a b w xs) k z ≡ getD xs k z
+  unfolding putRun
+  put-before k z h = List·getD-append (take a xs) (replicate (b - a) w ++ drop b xs) z k (omega (arith, low-part)) ∙ getD-take a xs k z h
+
+  pub put-in : (k z : ℕ) → a ≤ k → k < b → getD (putRun a b w xs) k z ≡ w
+  unfolding putRun
+  put-in k z h l =
+      after-front (take a xs) (replicate (b - a) w ++ drop b xs) a k z low-part h
+      ∙ List·getD-append (replicate (b - a) w) (drop b xs) z (k - a) (omega (arith, length-replicate (b - a) w)) ∙ getD-replicate (b - a) (k - a) w z (omega arith)
+
+  pub put-after : (k z : ℕ) → b ≤ k → getD (putRun a b w xs) k z ≡ getD xs k z
+  unfolding putRun
+  put-after k z h =
+      after-front (take a xs) (replicate (b - a) w ++ drop b xs) a k z low-part (omega arith)
+      ∙ after-front (replicate (b - a) w) (drop b xs) (b - a) (k - a) z (length-replicate (b - a) w) (omega arith)
+      ∙ getD-drop b xs (k - a - (b - a)) z ∙ ap (λ (j : ℕ). getD xs j z) (omega arith)

@@ -1,26 +1,28 @@
 -- What holds while the flags of blocked boundaries become marks of grid points, in place: behind boundary k all are marks, from k on all are flags.
+-- What holds while a block's end is sought, and one law for each end of a step.
 use mathlib.Core.Path.{_≡_, refl, sym, ap, subst, _∙_}
 use mathlib.Core.Logic.{inl, inr}
-use mathlib.Core.Bool.{Bool, true, false, _||_, cond}
+use mathlib.Core.Bool.{Bool, true, false, _||_, cond, or-false}
 use mathlib.Core.List.{List}
-use Prim.Native.Nat.{ℕ, suc, _+_, _≤_, _<_}
+use Prim.Native.Nat.{ℕ, suc, _+_, _≤_, _<_, _-_, min}
 use native.Mathlib.Omega.{arith}
 use lib.Dec.{eqb}
 use lib.Ieee.{Float}
 use lib.ListN.{length, getD, set, length-set}
 use lib.Seq.{getD-set-same, getD-set-other, ext-getD}
 use borrow.Author.Tests.{eq-eqb, ne-eqb, eqb-true, eqb-false, not-false}
-use Rattle.base_laws.specs.Tests.{lt-or-le}
+use native.Mathlib.Numerals.{add-one}
+use Rattle.base_laws.specs.Tests.{lt-or-le, tested}
 use Rattle.base_terms.specs.Lists.{tabulate}
 use Rattle.base_code.specs.FrontLaws.{tabulate-at, tabulate-length}
 use Rattle.silence_runs.specs.Runs.{putRun}
 use Rattle.candidate_costs.specs.Quietest.{quietestOf}
 use Rattle.candidate_costs.specs.QuietestLaws.{quietest-within}
 use Rattle.candidate_points.specs.Flags.{flagOf}
-use Rattle.candidate_points.specs.FlagsLaws.{flag-yes, flag-no, or-no}
-use Rattle.candidate_points.specs.RangeLaws.{put-length, put-before, put-in, put-after}
-use Rattle.candidate_points.specs.Points.{blockEnd, gridPoints, isIn, isPoint, isSet, markAt, marksOf}
-use Rattle.candidate_points.specs.BlocksLaws.{end-within, end-after, end-open, end-same}
+use Rattle.candidate_points.specs.FlagsLaws.{flag-yes, flag-no}
+use Rattle.candidate_points.specs.PlacedLaws.{put-length, put-before, put-in, put-after}
+use Rattle.candidate_points.specs.Points.{blockEnd, gridPoints, isIn, isPoint, isSet, markAt, marksOf, openTo}
+use Rattle.candidate_points.specs.BlocksLaws.{end-within, end-after, end-open, end-same, open-shut, open-pass}
 use Rattle.candidate_points.specs.PointsLaws.{PointWalk, Opened, points-walk, walk-pass, walk-open, opened-in, walk-before, walk-beyond}
 
 -- ---- one step
@@ -63,25 +65,23 @@ pub record HalfMarked (levels : List Float) (block first last : ℕ) (flags mark
 
 module _ (levels : List Float) (block first last : ℕ) (flags : List ℕ) where
   pub half-start : SpanFlagged block first last levels flags → HalfMarked levels block first last flags flags (first + 1)
-  half-start r = record {
-    some = r .some;
-    heard = r .heard;
-    flagged = r .flagged;
-    after = omega arith;
-    within = omega (arith, r .order);
-    same = refl;
-    rest = λ (j : ℕ) (h : first + 1 ≤ j). refl;
-    points = gridPoints (isSet flags) levels block first last;
-    walk = rw one (points-walk (isSet flags) levels block last (r .some) first);
-    ahead = all;
-    behind = λ (j : ℕ) (h : first < j) (l : j < first + 1). absurd (omega arith);
-  }
-    where
-      one : first + 1 ≡ suc first
-      one = omega arith
-
-      all : (j : ℕ) → first + 1 ≤ j → isIn (gridPoints (isSet flags) levels block first last) j ≡ isPoint (isSet flags) levels block first last j
-      all j h = unfold isPoint in refl
+  half-start r =
+      let one : first + 1 ≡ suc first = omega arith in
+      let all : (j : ℕ) → first + 1 ≤ j → isIn (gridPoints (isSet flags) levels block first last) j ≡ isPoint (isSet flags) levels block first last j =
+      λ j h. unfold isPoint in refl in
+      record {
+        some = r .some;
+        heard = r .heard;
+        flagged = r .flagged;
+        after = omega arith;
+        within = omega (arith, r .order);
+        same = refl;
+        rest = λ (j : ℕ) (h : first + 1 ≤ j). refl;
+        points = gridPoints (isSet flags) levels block first last;
+        walk = rw one (points-walk (isSet flags) levels block last (r .some) first);
+        ahead = all;
+        behind = λ (j : ℕ) (h : first < j) (l : j < first + 1). absurd (omega arith);
+      }
 
   module _ (marks : List ℕ) (k : ℕ) (l : k < last) where
     mark : (j : ℕ) (b : Bool) → isPoint (isSet flags) levels block first last j ≡ b → flagOf b ≡ markAt levels block first last flags j
@@ -90,31 +90,26 @@ module _ (levels : List Float) (block first last : ℕ) (flags : List ℕ) where
 
     -- k is blocked
     pub half-pass : HalfMarked levels block first last flags marks k → isSet flags k ≡ true → HalfMarked levels block first last flags (set marks k 0) (suc k)
-    half-pass w e = record {
-      some = w .some;
-      heard = w .heard;
-      flagged = w .flagged;
-      after = omega (arith, w .after);
-      within = l;
-      same = length-set marks k 0 ∙ w .same;
-      rest = λ (j : ℕ) (h : suc k ≤ j). getD-set-other marks k j 0 0 (λ (s : j ≡ k). omega arith) ∙ w .rest j (omega arith);
-      points = w .points;
-      walk = on;
-      ahead = λ (j : ℕ) (h : suc k ≤ j). w .ahead j (omega arith);
-      behind = λ (j : ℕ) (h : first < j) (m : j < suc k). elim (lt-or-le j k) [
-        | inl q ↦ getD-set-other marks k j 0 0 (λ (s : j ≡ k). omega arith) ∙ w .behind j h q
-        | inr q ↦ here j (omega arith)
-      ];
-    }
-      where
-        on : PointWalk (isSet flags) levels block last (suc k) (w .points)
-        on = walk-pass (w .walk) l e
-
-        here : (j : ℕ) → j ≡ k → getD (set marks k 0) j 0 ≡ markAt levels block first last flags j
-        here j s =
-            rw s
-            (getD-set-same marks k 0 0 (omega (arith, w .same, w .flagged)) ∙ sym flag-no
-            ∙ mark k false (sym (w .ahead k (omega arith)) ∙ walk-before (isSet flags) levels block last (w .some) on k (omega arith)))
+    half-pass w e =
+        let on : PointWalk (isSet flags) levels block last (suc k) (w .points) = walk-pass (w .walk) l e in
+        let here : (j : ℕ) → j ≡ k → getD (set marks k 0) j 0 ≡ markAt levels block first last flags j =
+        λ j s. rw s (getD-set-same marks k 0 0 (omega (arith, w .same, w .flagged)) ∙ sym flag-no ∙ mark k false (sym (w .ahead k (omega arith)) ∙ walk-before (isSet flags) levels block last (w .some) on k (omega arith))) in
+        record {
+          some = w .some;
+          heard = w .heard;
+          flagged = w .flagged;
+          after = omega (arith, w .after);
+          within = l;
+          same = length-set marks k 0 ∙ w .same;
+          rest = λ (j : ℕ) (h : suc k ≤ j). getD-set-other marks k j 0 0 (λ (s : j ≡ k). omega arith) ∙ w .rest j (omega arith);
+          points = w .points;
+          walk = on;
+          ahead = λ (j : ℕ) (h : suc k ≤ j). w .ahead j (omega arith);
+          behind = λ (j : ℕ) (h : first < j) (m : j < suc k). elim (lt-or-le j k) [
+            | inl q ↦ getD-set-other marks k j 0 0 (λ (s : j ≡ k). omega arith) ∙ w .behind j h q
+            | inr q ↦ here j (omega arith)
+          ];
+        }
 
     -- a block starts at k and ends at `end`, and `point` is its quietest boundary
     module _ (w : HalfMarked levels block first last flags marks k) (e : isSet flags k ≡ false) (end point : ℕ) (f : end ≡ blockEnd (isSet flags) block last k) (q : point ≡ quietestOf levels k end) where
@@ -159,7 +154,7 @@ module _ (levels : List Float) (block first last : ℕ) (flags : List ℕ) where
           clear j a m = eqb-true (getD flags j 0) 0 (not-false (eqb (getD flags j 0) 0) (end-open (isSet flags) block last k j a (omega (arith, f))))
 
           alone : (j : ℕ) → k ≤ j → j < end → isPoint (isSet flags) levels block first last j ≡ eqb point j
-          alone j a m = sym (now j a) ∙ rw (none j m) (or-no (eqb point j))
+          alone j a m = sym (now j a) ∙ rw (none j m) (or-false (eqb point j))
 
           here : (j : ℕ) → k ≤ j → j < end → (b : Bool) → (b ≡ true → point ≡ j) → (b ≡ false → point ≡ j → ⊥) → eqb point j ≡ b → getD (set marks point 1) j 0 ≡ markAt levels block first last flags j
           here j a m true y n t = rw (← y refl) (getD-set-same marks point 1 0 (omega (arith, inside, f, end-within (isSet flags) block last k l, w .same, w .flagged)) ∙ sym flag-yes ∙ mark point true (alone point (inside .0) (inside .1) ∙ eq-eqb point point refl))
@@ -230,3 +225,71 @@ module _ (levels : List Float) (block first last : ℕ) (flags : List ℕ) where
         ]
         | inr l ↦ rw b (put-in last end 0 marks′ to (omega arith) j 0 l (omega (arith, size′))) ∙ none j (walk-beyond (isSet flags) levels block last (r .some) points j l)
       ]
+
+-- ---- a flag
+
+module _ (flags : List ℕ) (k : ℕ) where
+  set-yes : (getD flags k 0 ≡ 0 → ⊥) → isSet flags k ≡ true
+  set-yes h = rw (ne-eqb (getD flags k 0) 0 h)
+
+  set-no : getD flags k 0 ≡ 0 → isSet flags k ≡ false
+  set-no h = rw (eq-eqb (getD flags k 0) 0 h)
+
+-- ---- a block's end
+
+-- what holds while a loop that ends at `most` looks at one flag after another
+pub record Opening (flags : List ℕ) (block last k most end : ℕ) : Type 0 where
+  pub is : most ≡ min (k + block) last
+  pub after : k ≤ end
+  pub within : end ≤ most
+  pub left : openTo (isSet flags) (most - end) end ≡ blockEnd (isSet flags) block last k
+
+module _ (flags : List ℕ) (block last k most : ℕ) where
+  pub opening-start : k < last → most ≡ min (k + block) last → Opening flags block last k most k
+  opening-start h e = record { is = e; after = omega arith; within = omega arith; left = unfold blockEnd in rw e }
+
+  module _ (end : ℕ) (o : Opening flags block last k most end) where
+    pub opening-next : end < most → getD flags end 0 ≡ 0 → Opening flags block last k most (end + 1)
+    opening-next h e =
+        let more : most - end ≡ suc (most - suc end) = omega arith in
+        let passed : openTo (isSet flags) (most - end) end ≡ openTo (isSet flags) (most - suc end) (suc end) =
+        rw more (open-pass (isSet flags) (most - suc end) end (set-no flags end e)) in
+        record { is = o .is; after = omega (arith, o .after); within = omega arith; left = rw add-one (sym passed ∙ o .left) }
+
+    pub opening-shut : (getD flags end 0 ≡ 0 → ⊥) → end ≡ blockEnd (isSet flags) block last k
+    opening-shut e = sym (open-shut (isSet flags) (most - end) end (set-yes flags end e)) ∙ o .left
+
+    pub opening-done : most ≤ end → end ≡ blockEnd (isSet flags) block last k
+    opening-done h =
+        let whole : (left : ℕ) → left ≡ 0 → openTo (isSet flags) left end ≡ end = λ left e. unfold openTo in rw e in
+        sym (whole (most - end) (omega arith)) ∙ o .left
+
+-- ---- a step
+
+module _ (block last k : ℕ) (levels : List Float) (marks : List ℕ) where
+  -- k is blocked
+  pub step-shut : (getD marks k 0 ≡ 0 → ⊥) → (k + 1 ≡ nextOf (isSet marks) block last k) × (set marks k 0 ≡ stepped levels block last k marks)
+  unfolding nextOf stepped
+  step-shut h = (rw (set-yes marks k h, add-one), rw (set-yes marks k h))
+
+  -- a block starts at k
+  pub step-open : getD marks k 0 ≡ 0 → (end at : ℕ) → end ≡ blockEnd (isSet marks) block last k → at ≡ quietestOf levels k end
+      → (end ≡ nextOf (isSet marks) block last k) × (set marks at 1 ≡ stepped levels block last k marks)
+  unfolding nextOf stepped
+  step-open h end at e f = (rw (set-no marks k h) e, rw (set-no marks k h, f, e))
+
+  module _ (r : SpanFlagged block k last levels marks) (h : getD marks k 0 ≡ 0) (end : ℕ) (e : end ≡ blockEnd (isSet marks) block last k) where
+    -- it has a boundary at least, and ends inside the list
+    pub step-some : (k < end) × (end ≤ last)
+    step-some = (omega (arith, e, end-after (isSet marks) block last k (r .some) (r .order) (set-no marks k h)), omega (arith, e, end-within (isSet marks) block last k (r .order)))
+
+    pub step-inside : (at : ℕ) → at ≡ quietestOf levels k end → at < last
+    step-inside at f = omega (arith, f, quietest-within levels k end (step-some .0), step-some)
+
+-- it goes on
+pub step-after : (block last k : ℕ) (levels : List Float) (marks : List ℕ) → SpanFlagged block k last levels marks → k < nextOf (isSet marks) block last k
+unfolding nextOf
+step-after block last k levels marks r = elim (tested (isSet marks k)) [
+  | inl e ↦ rw e (omega arith)
+  | inr e ↦ rw e (end-after (isSet marks) block last k (r .some) (r .order) e)
+]

@@ -1,7 +1,7 @@
 -- What holds of the grid points: where they lie, that they are the quietest of their blocks, and that every open boundary has one near.
 use mathlib.Core.Path.{_≡_, refl, sym, subst, _∙_}
 use mathlib.Core.Logic.{inl, inr}
-use mathlib.Core.Bool.{Bool, true, false, not, _||_}
+use mathlib.Core.Bool.{Bool, true, false, not, _||_, or-true}
 use mathlib.Core.List.{List, _∷_}
 use Prim.Native.Nat.{ℕ, suc, _+_, _≤_, _<_}
 use native.Mathlib.Omega.{arith}
@@ -12,10 +12,9 @@ use borrow.Author.Tests.{eqb-true, eq-eqb}
 use Rattle.base_laws.specs.Tests.{lt-or-le, holds}
 use Rattle.candidate_costs.specs.Quietest.{quietestOf}
 use Rattle.candidate_costs.specs.QuietestLaws.{Quietest, quietest-within, quietest-is}
-use Rattle.candidate_points.specs.FlagsLaws.{or-yes, not-both}
+use Rattle.candidate_points.specs.FlagsLaws.{not-both}
 use Rattle.candidate_points.specs.Points.{blockEnd, gridPoints, isIn, isPoint}
-use Rattle.candidate_points.specs.BlocksLaws.{end-within, end-after, end-open}
-use Rattle.candidate_points.specs.Starts.{StartsAt, here, past, next, starts-inside, starts-open, starts-from, starts-apart}
+use Rattle.candidate_points.specs.BlocksLaws.{end-within, end-after, end-open, StartsAt, here, past, next, starts-inside, starts-open, starts-from, starts-apart}
 use Rattle.candidate_points.specs.PointsLaws.{PointWalk, ended, passed, opened, points-walk}
 
 -- the level at each boundary up to n is a number
@@ -111,7 +110,7 @@ module _ (blocked : ℕ → Bool) (levels : List Float) (block last : ℕ) (some
     start = r .start;
     point = r .point;
     own = record { starts = next h f (r .own .starts); point = r .own .point };
-    listed = rw (r .listed) (or-yes (eqb q (r .point)));
+    listed = rw (r .listed) (or-true (eqb q (r .point)));
     inside = r .inside;
   }
 

@@ -1,11 +1,12 @@
 -- The padded bounds of a silence are inside it, and inside the recording.
-use mathlib.Core.Path.{_≡_, refl}
-use mathlib.Core.Bool.{Bool, true, false, not, cond}
-use Prim.Native.Nat.{ℕ, _+_, _-_, _≤_, min}
+use mathlib.Core.Path.{_≡_}
+use mathlib.Core.Logic.{inl, inr}
+use mathlib.Core.Bool.{true, not}
+use Prim.Native.Nat.{ℕ, _-_, _≤_}
 use native.Mathlib.Omega.{arith}
 use lib.Dec.{eqb}
 use borrow.Author.Tests.{eqb-true, eqb-false, ne-eqb, not-true}
-use Rattle.base_laws.specs.Tests.{both}
+use Rattle.base_laws.specs.Tests.{both, tested}
 use Rattle.candidate_span.specs.Bounds.{lowOf, highOf, isInner}
 
 -- ---- an inner silence
@@ -25,17 +26,9 @@ inner-is n start end h k = rw (ne-eqb start 0 h, ne-eqb end n k)
 -- the lower bound is not before the silence's start, and within the frame count
 pub low-within : (n tail start : ℕ) → start ≤ n → (start ≤ lowOf n tail start) × (lowOf n tail start ≤ n)
 unfolding lowOf
-low-within n tail start h = go (eqb start 0) (eqb-true start 0)
-  where
-    go : (b : Bool) → (b ≡ true → start ≡ 0) → (start ≤ cond b 0 (min (start + tail) n)) × (cond b 0 (min (start + tail) n) ≤ n)
-    go true f = (omega (arith, f refl), omega arith)
-    go false f = (omega arith, omega arith)
+low-within n tail start h = elim (tested (eqb start 0)) [ inl e ↦ rw e (omega (arith, eqb-true start 0 e), omega arith) | inr e ↦ rw e (omega arith, omega arith) ]
 
 -- the upper bound is not after the silence's end
 pub high-within : (n pre end : ℕ) → highOf n pre end ≤ end
 unfolding highOf
-high-within n pre end = go (eqb end n) (eqb-true end n)
-  where
-    go : (b : Bool) → (b ≡ true → end ≡ n) → cond b n (end - pre) ≤ end
-    go true f = omega (arith, f refl)
-    go false f = omega arith
+high-within n pre end = elim (tested (eqb end n)) [ inl e ↦ rw e (omega (arith, eqb-true end n e)) | inr e ↦ rw e (omega arith) ]

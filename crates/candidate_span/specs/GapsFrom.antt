@@ -1,9 +1,11 @@
 -- Each dropped gap is what is left of an inner silence, and each inner silence of which something is left gives one.
 use mathlib.Core.Path.{_≡_, refl}
-use mathlib.Core.Bool.{Bool, true, false, cond}
-use mathlib.Core.List.{List, [], _∷_, List·Memᴰ, List·Memᴰ·head, List·Memᴰ·tail, List·Memᴰ·not-nil}
+use mathlib.Core.Logic.{inl, inr}
+use mathlib.Core.Bool.{true}
+use mathlib.Core.List.{List, [], _∷_, List·Memᴰ, List·Memᴰ·head, List·Memᴰ·tail, List·Memᴰ·not-nil, List·Memᴰ·cases-cons}
 use Prim.Native.Nat.{ℕ, zero, suc, _<_}
 use native.Mathlib.Omega.{arith}
+use Rattle.base_laws.specs.Tests.{tested}
 use Rattle.candidate_span.specs.Listed.{count, startAt, endAt}
 use Rattle.silence_runs.specs.SilencesLaws.{start-after, end-after}
 use Rattle.candidate_span.specs.Gaps.{Cut, isGap, silenceGap, innerGaps}
@@ -29,13 +31,13 @@ module _ (n pre tail : ℕ) where
   unfolding innerGaps
   gap-from [] g m = absurd (List·Memᴰ·not-nil m)
   gap-from (s ∷ []) g m = absurd (List·Memᴰ·not-nil m)
-  gap-from (s ∷ (e ∷ ss)) g m = go (isGap n pre tail s e) refl m (gap-from ss g)
-    where
-      go : (b : Bool) → isGap n pre tail s e ≡ b → List·Memᴰ g (cond b (silenceGap n pre tail s e ∷ innerGaps n pre tail ss) (innerGaps n pre tail ss))
-          → (List·Memᴰ g (innerGaps n pre tail ss) → GapAt ss g) → GapAt (s ∷ (e ∷ ss)) g
-      go true t (List·Memᴰ·head q) f = record { number = 0; listed = omega arith; left = t; is = q }
-      go true t (List·Memᴰ·tail i) f = behind s e ss g (f i)
-      go false t i f = behind s e ss g (f i)
+  gap-from (s ∷ (e ∷ ss)) g m = elim (tested (isGap n pre tail s e)) [
+    | inl t ↦ elim (List·Memᴰ·cases-cons (rw t at m)) [
+      | inl q ↦ record { number = 0; listed = omega arith; left = t; is = q }
+      | inr i ↦ behind s e ss g (gap-from ss g i)
+    ]
+    | inr t ↦ behind s e ss g (gap-from ss g (rw t at m))
+  ]
 
   pub gap-in : (ss : List ℕ) (i : ℕ) → i < count ss → isGap n pre tail (startAt ss i) (endAt ss i) ≡ true
       → List·Memᴰ (silenceGap n pre tail (startAt ss i) (endAt ss i)) (innerGaps n pre tail ss)
@@ -45,9 +47,7 @@ module _ (n pre tail : ℕ) where
   gap-in (s ∷ (e ∷ ss)) zero h t = rw t (List·Memᴰ·head refl)
   gap-in (s ∷ (e ∷ ss)) (suc i) h t =
       rw (start-after s e ss i, end-after s e ss i)
-      (later (isGap n pre tail s e) (gap-in ss i (omega arith) (rw (start-after s e ss i, end-after s e ss i) at t)))
-    where
-      later : (b : Bool) → List·Memᴰ (silenceGap n pre tail (startAt ss i) (endAt ss i)) (innerGaps n pre tail ss)
-          → List·Memᴰ (silenceGap n pre tail (startAt ss i) (endAt ss i)) (cond b (silenceGap n pre tail s e ∷ innerGaps n pre tail ss) (innerGaps n pre tail ss))
-      later true m = List·Memᴰ·tail m
-      later false m = m
+      (elim (tested (isGap n pre tail s e)) [
+        | inl f ↦ rw f (List·Memᴰ·tail (gap-in ss i (omega arith) (rw (start-after s e ss i, end-after s e ss i) at t)))
+        | inr f ↦ rw f (gap-in ss i (omega arith) (rw (start-after s e ss i, end-after s e ss i) at t))
+      ])

@@ -1,13 +1,14 @@
 -- A gap lies inside its silence, silences are apart, and inner silences lie strictly inside the span: so the gaps do, with a frame at least between them.
-use mathlib.Core.Path.{_≡_, refl, sym, ap, subst, _∙_}
-use mathlib.Core.Bool.{Bool, true, false, _&&_, cond}
+use mathlib.Core.Path.{_≡_, sym, ap, subst, _∙_}
+use mathlib.Core.Logic.{inl, inr}
+use mathlib.Core.Bool.{true}
 use mathlib.Core.List.{List, [], _∷_, List·Memᴰ, List·Memᴰ·head, List·Memᴰ·tail}
 use Prim.Native.Nat.{ℕ, zero, suc, _+_, _-_, _*_, _≤_, _<_}
 use native.Mathlib.Omega.{arith}
 use lib.Dec.{ltb}
 use lib.ListN.{length, getD}
 use borrow.Author.Tests.{ltb-true, ltb-false}
-use Rattle.base_laws.specs.Tests.{both}
+use Rattle.base_laws.specs.Tests.{tested, both}
 use Rattle.silence_runs.specs.SilencesLaws.{Rising, rising-least, start-after, end-after}
 use Rattle.candidate_settings.specs.declared.config.Gap.{Gap}
 use Rattle.candidate_settings.specs.declared.config.Gap.the-variants.{Keep, Drop}
@@ -16,7 +17,7 @@ use Rattle.candidate_span.specs.Bounds.{lowOf, highOf, isInner}
 use Rattle.candidate_span.specs.BoundsLaws.{inner-parts, low-within, high-within}
 use Rattle.candidate_span.specs.Span.{firstOf, lastOf}
 use Rattle.candidate_span.specs.SpanLaws.{Spanned, ends-order, inner-first, inner-last}
-use Rattle.candidate_span.specs.Gaps.{Cut, isGap, silenceGap, gapWidth, innerGaps, gapsOf, dropped, Spread}
+use Rattle.candidate_span.specs.Gaps.{Cut, isGap, gapWidth, innerGaps, gapsOf, dropped, Spread}
 
 -- ---- one gap
 
@@ -53,17 +54,17 @@ spread-from : (n pre tail a z lo : ℕ) (ss : List ℕ) → Rising lo n ss → a
 unfolding innerGaps
 spread-from n pre tail a z lo [] r h f g = h
 spread-from n pre tail a z lo (s ∷ []) r h f g = h
-spread-from n pre tail a z lo (s ∷ (e ∷ ss)) r h f g =
-    go (isGap n pre tail s e) (gap-parts n pre tail s e) (spread-from n pre tail a z (suc e) ss (r .2 .2) h (starts-rest a s e ss f) (ends-rest n z s e ss g))
-    (λ t. spread-from n pre tail (highOf n pre e) z (suc e) ss (r .2 .2) t (starts-next (highOf n pre e) e n ss (high-within n pre e) (r .2 .2)) (ends-rest n z s e ss g))
-  where
-    go : (b : Bool) → (b ≡ true → (s ≡ 0 → ⊥) × (e ≡ n → ⊥) × (lowOf n tail s < highOf n pre e)) → Spread a (innerGaps n pre tail ss) z
-        → (highOf n pre e < z → Spread (highOf n pre e) (innerGaps n pre tail ss) z)
-        → Spread a (cond b (silenceGap n pre tail s e ∷ innerGaps n pre tail ss) (innerGaps n pre tail ss)) z
-    go true p w k =
-        let q = p refl in
-        (omega (arith, f 0 (omega arith) (q .0), low-within n tail s (r .1) .0), q .2, k (omega (arith, g 0 (omega arith) (q .1), high-within n pre e)))
-    go false p w k = w
+spread-from n pre tail a z lo (s ∷ (e ∷ ss)) r h f g = elim (tested (isGap n pre tail s e)) [
+  | inl t ↦
+      let q = gap-parts n pre tail s e t in
+      let k : highOf n pre e < z = omega (arith, g 0 (omega arith) (q .1), high-within n pre e) in
+      rw t (
+        omega (arith, f 0 (omega arith) (q .0), low-within n tail s (r .1) .0),
+        q .2,
+        spread-from n pre tail (highOf n pre e) z (suc e) ss (r .2 .2) k (starts-next (highOf n pre e) e n ss (high-within n pre e) (r .2 .2)) (ends-rest n z s e ss g),
+      )
+  | inr t ↦ rw t (spread-from n pre tail a z (suc e) ss (r .2 .2) h (starts-rest a s e ss f) (ends-rest n z s e ss g))
+]
 
 -- document 01's dropped gaps lie strictly inside the span, with a frame at least between them
 pub gaps-spread : (gap : Gap) (n pre tail : ℕ) (ss : List ℕ) → Spanned gap n ss → Spread (firstOf gap pre ss) (gapsOf gap n pre tail ss) (lastOf gap n tail ss)
@@ -108,10 +109,7 @@ module _ (gap : Gap) (n pre tail : ℕ) (ss : List ℕ) (p : Spanned gap n ss) w
 -- those of the first silence's gap, and those of the others
 pub dropped-first : (n pre tail s e : ℕ) (ss : List ℕ) → dropped (innerGaps n pre tail (s ∷ (e ∷ ss))) ≡ gapWidth n pre tail s e + dropped (innerGaps n pre tail ss)
 unfolding innerGaps isGap gapWidth dropped
-dropped-first n pre tail s e ss = go (isInner n s e) (ltb (lowOf n tail s) (highOf n pre e)) (ltb-false (lowOf n tail s) (highOf n pre e))
-  where
-    go : (a b : Bool) → (b ≡ false → highOf n pre e ≤ lowOf n tail s)
-        → dropped (cond (a && b) (silenceGap n pre tail s e ∷ innerGaps n pre tail ss) (innerGaps n pre tail ss)) ≡ cond a (highOf n pre e - lowOf n tail s) 0 + dropped (innerGaps n pre tail ss)
-    go true true f = refl
-    go true false f = omega (arith, f refl)
-    go false b f = omega arith
+dropped-first n pre tail s e ss = elim (tested (isInner n s e)) [
+  | inl f ↦ elim (tested (ltb (lowOf n tail s) (highOf n pre e))) [ inl t ↦ rw (f, t) | inr t ↦ rw (f, t) (omega (arith, ltb-false (lowOf n tail s) (highOf n pre e) t)) ]
+  | inr f ↦ rw f (omega arith)
+]

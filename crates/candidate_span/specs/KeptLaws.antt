@@ -1,11 +1,13 @@
 -- Kept boundaries and gaps together are one fewer than the kept frames: before each gap and after the last stand runs of kept frames with a boundary between any two.
 use mathlib.Core.Path.{_≡_, refl, ap, _∙_}
-use mathlib.Core.Bool.{Bool, true, false, cond}
+use mathlib.Core.Logic.{inl, inr}
+use mathlib.Core.Bool.{Bool, true, false}
 use mathlib.Core.List.{List, [], _∷_, _++_}
 use Prim.Native.Nat.{ℕ, zero, suc, _+_, _-_, _≤_, _<_}
 use native.Mathlib.Omega.{arith}
 use lib.ListN.{length, length-append}
 use borrow.Author.Tests.{le-leb, lt-leb}
+use Rattle.base_laws.specs.Tests.{tested}
 use Rattle.candidate_settings.specs.declared.config.Gap.{Gap}
 use Rattle.candidate_span.specs.Span.{firstOf, lastOf}
 use Rattle.candidate_span.specs.SpanLaws.{Spanned}
@@ -29,12 +31,7 @@ boundaries-split a (suc m) n =
 passing-append : (p : ℕ → Bool) (xs ys : List ℕ) → passing p (xs ++ ys) ≡ passing p xs ++ passing p ys
 unfolding passing
 passing-append p [] ys = refl
-passing-append p (x ∷ xs) ys = go (p x) (passing-append p xs ys)
-  where
-    go : (b : Bool) → passing p (xs ++ ys) ≡ passing p xs ++ passing p ys
-        → cond b (x ∷ passing p (xs ++ ys)) (passing p (xs ++ ys)) ≡ cond b (x ∷ passing p xs) (passing p xs) ++ passing p ys
-    go true e = ap (λ (l : List ℕ). x ∷ l) e
-    go false e = e
+passing-append p (x ∷ xs) ys = elim (tested (p x)) [ inl e ↦ rw e (ap (λ (l : List ℕ). x ∷ l) (passing-append p xs ys)) | inr e ↦ rw e (passing-append p xs ys) ]
 
 -- how many of a run pass: all of it, none, or as many as pass an equal test
 all-pass : (p : ℕ → Bool) (a n : ℕ) → ((k : ℕ) → a < k → k ≤ a + n → p k ≡ true) → length (passing p (boundaries a n)) ≡ n

@@ -1,9 +1,9 @@
 -- Numbers that rise strictly are apart, so silences of a list are not empty, are apart, and are within the frame count.
 use mathlib.Core.Path.{_≡_}
-use mathlib.Core.List.{List, [], _∷_}
-use Prim.Native.Nat.{ℕ, zero, suc, _+_, _*_, _≤_, _<_}
+use mathlib.Core.List.{List}
+use Prim.Native.Nat.{ℕ, _+_, _*_, _≤_, _<_}
 use native.Mathlib.Omega.{arith}
-use lib.ListN.{length, getD}
+use lib.ListN.{length}
 use Rattle.silence_runs.specs.Silences.{silencesOf}
 use Rattle.silence_runs.specs.SilencesLaws.{Rising, rising-most, rising-apart, silences-rise, silences-length}
 use Rattle.candidate_span.specs.Listed.{count, startAt, endAt}

@@ -8,7 +8,7 @@ use Rattle.grid.specs.declared.boundary.FrameGrid.{FrameGrid}
 use Rattle.candidate_span.specs.declared.spacing.Spacing.{Spacing}
 
 -- the block's duration: half of maximum less minimum, an eighth of the maximum at least, a second at most
-unfoldable pub blockTime : ℕ → ℕ → ℕ
+abbrev pub blockTime : ℕ → ℕ → ℕ
 blockTime least most = min (max ((most - least) / 2) (most / 8)) nanosPerSec
 
 -- a duration in whole frames of a grid, rounded down
@@ -20,7 +20,7 @@ unfoldable pub blockOf : FrameGrid → ℕ → ℕ → ℕ
 blockOf g least most = max 1 (floorIn g (blockTime least most))
 
 -- the cap of the padding: the maximum less two blocks
-unfoldable pub paddingCap : FrameGrid → ℕ → ℕ → ℕ
+abbrev pub paddingCap : FrameGrid → ℕ → ℕ → ℕ
 paddingCap g block most = floorIn g most - 2 * block
 
 -- the padding: silence kept beside sound, in frames, rounded half up, and at most the cap

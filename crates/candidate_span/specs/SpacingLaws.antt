@@ -36,7 +36,6 @@ passed-spaced r values flags levels p ns h =
 
 -- a block lasts a second at most
 pub block-time-most : (least most : ℕ) → blockTime least most ≤ nanosPerSec
-unfolding blockTime
 block-time-most least most = omega arith
 
 pub spaced-block : {g : FrameGrid} {ns : ℕ} (least most : ℕ) → Spaced g ns → InFrames (g .«frame_rate») (g .hop) (blockTime least most)

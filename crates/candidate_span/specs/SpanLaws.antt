@@ -1,20 +1,21 @@
 -- The ends of a span that is not empty are in order, and each inner silence lies strictly inside it.
 use mathlib.Core.Path.{_≡_, refl, sym, ap, subst, _∙_}
 use mathlib.Core.Logic.{inl, inr}
-use mathlib.Core.Bool.{Bool, true, false, _&&_, _||_, cond}
+use mathlib.Core.Bool.{Bool, true, false, _&&_, _||_, cond, true≢false}
 use mathlib.Core.List.{List}
 use Prim.Native.Nat.{ℕ, zero, suc, _+_, _-_, _≤_, _<_, min}
 use native.Mathlib.Omega.{arith}
 use lib.Dec.{eqb, ltb}
-use borrow.Author.Tests.{ltb-true, ltb-false, eqb-true, eqb-false, lt-ltb, eq-eqb}
-use Rattle.base_laws.specs.Tests.{holds, lt-or-le}
+use borrow.Author.Tests.{ltb-true, eqb-true, eqb-false, lt-ltb, eq-eqb}
+use native.Mathlib.Nat.{pos-of-ne-zero}
+use native.Mathlib.Numerals.{lt-of-le-of-ne}
+use Rattle.base_laws.specs.Tests.{both, holds, lt-or-le, tested}
 use Rattle.candidate_settings.specs.declared.config.Gap.{Gap}
 use Rattle.candidate_settings.specs.declared.config.Gap.the-variants.{Keep, Drop}
 use Rattle.candidate_span.specs.declared.ends.SpanEnds.{SpanEnds}
 use Rattle.candidate_span.specs.declared.ends.SpanEnds.the-variants.{Empty, Between}
 use Rattle.candidate_span.specs.Listed.{count, startAt, endAt}
-use Rattle.candidate_span.specs.ListedLaws.{Listed}
-use Rattle.candidate_span.specs.ListedLaws.{listed-own, listed-apart, listed-within}
+use Rattle.candidate_span.specs.ListedLaws.{Listed, listed-own, listed-apart, listed-within}
 use Rattle.candidate_span.specs.Span.{isLeading, isTrailing, allSilent, emptySpan, firstOf, lastOf, endsOf}
 
 -- a span of n frames that is not empty, over a list of silences
@@ -28,9 +29,12 @@ neither : (a b : Bool) → (a || b) ≡ false → (a ≡ false) × (b ≡ false)
 neither true b e = absurd (holds (sym e))
 neither false b e = (refl, e)
 
-missing : (a b : Bool) → (a && b) ≡ false → a ≡ true → b ≡ false
-missing true b e h = e
-missing false b e h = absurd (holds h)
+-- there is a silence, and its end stands where it is sought; or not so
+pub by-end : (count at end : ℕ) (P : Bool → Type 0) → (0 < count → at ≡ end → P true) → ((0 < count → at ≡ end → ⊥) → P false) → P (ltb 0 count && eqb at end)
+by-end count at end P there elsewhere = elim (tested (ltb 0 count && eqb at end)) [
+  | inl e ↦ let p = both (ltb 0 count) (eqb at end) e in rw e (there (ltb-true 0 count (p .0)) (eqb-true at end (p .1)))
+  | inr e ↦ rw e (elsewhere (λ h q. true≢false (rw (lt-ltb 0 count h, eq-eqb at end q) at e)))
+]
 
 -- the first silence starts with the recording, or the first frame sounds
 pub data Leading (ss : List ℕ) (pre first : ℕ) : Type 0 where
@@ -39,13 +43,7 @@ pub data Leading (ss : List ℕ) (pre first : ℕ) : Type 0 where
 
 pub leading : (pre : ℕ) (ss : List ℕ) → Leading ss pre (firstOf Drop pre ss)
 unfolding firstOf isLeading
-leading pre ss = go (ltb 0 (count ss)) (eqb (startAt ss 0) 0) (ltb-true 0 (count ss)) (ltb-false 0 (count ss)) (eqb-true (startAt ss 0) 0) (eqb-false (startAt ss 0) 0)
-  where
-    go : (a b : Bool) → (a ≡ true → 0 < count ss) → (a ≡ false → count ss ≤ 0) → (b ≡ true → startAt ss 0 ≡ 0) → (b ≡ false → startAt ss 0 ≡ 0 → ⊥)
-        → Leading ss pre (cond (a && b) (endAt ss 0 - pre) 0)
-    go true true f f′ g g′ = led (f refl) (g refl) refl
-    go true false f f′ g g′ = unled (λ h e. g′ refl e) refl
-    go false b f f′ g g′ = unled (λ h e. absurd (omega (arith, f′ refl))) refl
+leading pre ss = by-end (count ss) (startAt ss 0) 0 (λ t. Leading ss pre (cond t (endAt ss 0 - pre) 0)) (λ h e. led h e refl) (λ n. unled n refl)
 
 -- the last silence ends with the recording, or the last frame sounds
 pub data Trailing (ss : List ℕ) (n tail last : ℕ) : Type 0 where
@@ -55,38 +53,24 @@ pub data Trailing (ss : List ℕ) (n tail last : ℕ) : Type 0 where
 pub trailing : (n tail : ℕ) (ss : List ℕ) → Trailing ss n tail (lastOf Drop n tail ss)
 unfolding lastOf isTrailing
 trailing n tail ss =
-    go (ltb 0 (count ss)) (eqb (endAt ss (count ss - 1)) n) (ltb-true 0 (count ss)) (ltb-false 0 (count ss)) (eqb-true (endAt ss (count ss - 1)) n) (eqb-false (endAt ss (count ss - 1)) n)
-  where
-    go : (a b : Bool) → (a ≡ true → 0 < count ss) → (a ≡ false → count ss ≤ 0) → (b ≡ true → endAt ss (count ss - 1) ≡ n) → (b ≡ false → endAt ss (count ss - 1) ≡ n → ⊥)
-        → Trailing ss n tail (cond (a && b) (min (startAt ss (count ss - 1) + tail) n) n)
-    go true true f f′ g g′ = trailed (f refl) (g refl) refl
-    go true false f f′ g g′ = untrailed (λ h e. g′ refl e) refl
-    go false b f f′ g g′ = untrailed (λ h e. absurd (omega (arith, f′ refl))) refl
+    by-end (count ss) (endAt ss (count ss - 1)) n (λ t. Trailing ss n tail (cond t (min (startAt ss (count ss - 1) + tail) n) n))
+    (λ h e. trailed h e refl) (λ s. untrailed s refl)
 
 -- ---- what a span that is not empty has
-
-above-zero : (m : ℕ) → (m ≡ 0 → ⊥) → 0 < m
-above-zero zero f = absurd (f refl)
-above-zero (suc m) f = omega arith
 
 -- frames
 pub span-frames : (gap : Gap) (n : ℕ) (ss : List ℕ) → emptySpan gap n ss ≡ false → 0 < n
 unfolding emptySpan
-span-frames Keep n ss e = above-zero n (eqb-false n 0 e)
-span-frames Drop n ss e = above-zero n (eqb-false n 0 (neither (eqb n 0) (allSilent n ss) e .0))
+span-frames Keep n ss e = pos-of-ne-zero (eqb-false n 0 e)
+span-frames Drop n ss e = pos-of-ne-zero (eqb-false n 0 (neither (eqb n 0) (allSilent n ss) e .0))
 
 -- with gaps dropped, sound
 pub span-sounds : (n : ℕ) (ss : List ℕ) → emptySpan Drop n ss ≡ false → 0 < count ss → startAt ss 0 ≡ 0 → endAt ss 0 ≡ n → ⊥
 unfolding emptySpan allSilent isLeading
-span-sounds n ss e h s t = holds-not (rw (lt-ltb 0 (count ss) h, eq-eqb (startAt ss 0) 0 s, eq-eqb (endAt ss 0) n t) at (neither (eqb n 0) (allSilent n ss) e .1))
-  where
-    holds-not : true ≡ false → ⊥
-    holds-not q = holds (sym q)
+span-sounds n ss e h s t =
+    true≢false (rw (lt-ltb 0 (count ss) h, eq-eqb (startAt ss 0) 0 s, eq-eqb (endAt ss 0) n t) at (neither (eqb n 0) (allSilent n ss) e .1))
 
 -- ---- the ends
-
-below : (x m : ℕ) → x ≤ m → (x ≡ m → ⊥) → x < m
-below x m l d = elim (lt-or-le x m) [ inl q ↦ q | inr q ↦ absurd (d (omega arith)) ]
 
 zero-is : (i : ℕ) → i ≤ 0 → i ≡ 0
 zero-is i l = omega arith
@@ -103,7 +87,7 @@ module _ (n : ℕ) (ss : List ℕ) (p : Spanned Drop n ss) where
   after-sound : 0 < count ss → (startAt ss 0 ≡ 0 → ⊥) → 0 < startAt ss (count ss - 1)
   after-sound h s = elim (lt-or-le 0 (count ss - 1)) [
     | inl q ↦ omega (arith, listed-apart (p .listed) 0 (count ss - 1) q (omega arith))
-    | inr q ↦ above-zero (startAt ss (count ss - 1)) (λ e. s (subst (λ (i : ℕ). startAt ss i ≡ 0) (zero-is (count ss - 1) q) e))
+    | inr q ↦ pos-of-ne-zero {n = startAt ss (count ss - 1)} (λ e. s (subst (λ (i : ℕ). startAt ss i ≡ 0) (zero-is (count ss - 1) q) e))
   ]
 
   last-own : 0 < count ss → startAt ss (count ss - 1) < endAt ss (count ss - 1)
@@ -111,26 +95,23 @@ module _ (n : ℕ) (ss : List ℕ) (p : Spanned Drop n ss) where
 
   order : (pre tail first last : ℕ) → Leading ss pre first → Trailing ss n tail last → (first < last) × (last ≤ n)
   order pre tail first last (led h s e) (trailed k t f) = (omega (arith, after-leading h s t, last-own h), omega arith)
-  order pre tail first last (led h s e) (untrailed t f) = (omega (arith, below (endAt ss 0) n (listed-within (p .listed) 0 h) (span-sounds n ss (p .some) h s)), omega arith)
+  order pre tail first last (led h s e) (untrailed t f) = (omega (arith, lt-of-le-of-ne (listed-within (p .listed) 0 h) (span-sounds n ss (p .some) h s)), omega arith)
   order pre tail first last (unled h e) (trailed k t f) = (omega (arith, after-sound k (h k), last-own k), omega arith)
   order pre tail first last (unled h e) (untrailed t f) = (omega (arith, span-frames Drop n ss (p .some)), omega arith)
 
   -- an inner silence starts after the span's first boundary
   starts-inside : (pre first i : ℕ) → Leading ss pre first → i < count ss → (startAt ss i ≡ 0 → ⊥) → first < startAt ss i
-  starts-inside pre first i (unled h e) l s = omega (arith, above-zero (startAt ss i) s)
+  starts-inside pre first i (unled h e) l s = omega (arith, pos-of-ne-zero s)
   starts-inside pre first zero (led h t e) l s = absurd (s t)
   starts-inside pre first (suc i) (led h t e) l s = omega (arith, listed-apart (p .listed) 0 (suc i) (omega arith) l)
 
   -- and ends before its last
   ends-inside : (tail last i : ℕ) → Trailing ss n tail last → i < count ss → (endAt ss i ≡ n → ⊥) → endAt ss i < last
-  ends-inside tail last i (untrailed h e) l s = omega (arith, below (endAt ss i) n (listed-within (p .listed) i l) s)
+  ends-inside tail last i (untrailed h e) l s = omega (arith, lt-of-le-of-ne (listed-within (p .listed) i l) s)
   ends-inside tail last i (trailed h t e) l s = elim (lt-or-le i (count ss - 1)) [
     | inl q ↦ omega (arith, listed-apart (p .listed) i (count ss - 1) q (omega arith), last-own h)
-    | inr q ↦ absurd (s (subst (λ (j : ℕ). endAt ss j ≡ n) (last-is i (count ss) l q) t))
+    | inr q ↦ absurd (s (subst (λ (j : ℕ). endAt ss j ≡ n) (omega arith) t))
   ]
-    where
-      last-is : (j m : ℕ) → j < m → m - 1 ≤ j → m - 1 ≡ j
-      last-is j m a b = omega arith
 
 -- the ends of a span are in order, and within the frame count
 pub ends-order : (gap : Gap) (n pre tail : ℕ) (ss : List ℕ) → Spanned gap n ss → (firstOf gap pre ss < lastOf gap n tail ss) × (lastOf gap n tail ss ≤ n)
@@ -141,12 +122,12 @@ ends-order Drop n pre tail ss p = order n ss p pre tail (firstOf Drop pre ss) (l
 -- an inner silence lies strictly inside the span
 pub inner-first : (gap : Gap) (n pre : ℕ) (ss : List ℕ) → Spanned gap n ss → (i : ℕ) → i < count ss → (startAt ss i ≡ 0 → ⊥) → firstOf gap pre ss < startAt ss i
 unfolding firstOf
-inner-first Keep n pre ss p i h s = above-zero (startAt ss i) s
+inner-first Keep n pre ss p i h s = pos-of-ne-zero s
 inner-first Drop n pre ss p i h s = starts-inside n ss p pre (firstOf Drop pre ss) i (leading pre ss) h s
 
 pub inner-last : (gap : Gap) (n tail : ℕ) (ss : List ℕ) → Spanned gap n ss → (i : ℕ) → i < count ss → (endAt ss i ≡ n → ⊥) → endAt ss i < lastOf gap n tail ss
 unfolding lastOf
-inner-last Keep n tail ss p i h s = below (endAt ss i) n (listed-within (p .listed) i h) s
+inner-last Keep n tail ss p i h s = lt-of-le-of-ne (listed-within (p .listed) i h) s
 inner-last Drop n tail ss p i h s = ends-inside n ss p tail (lastOf Drop n tail ss) i (trailing n tail ss) h s
 
 -- ---- the answer
@@ -174,11 +155,7 @@ module _ (gap : Gap) (n pre tail : ℕ) (ss : List ℕ) where
 
   empty-is : isEmpty (endsOf gap n pre tail ss) ≡ emptySpan gap n ss
   unfolding endsOf
-  empty-is = go (emptySpan gap n ss)
-    where
-      go : (b : Bool) → isEmpty (cond b Empty (Between (firstOf gap pre ss) (lastOf gap n tail ss))) ≡ b
-      go true = refl
-      go false = refl
+  empty-is = elim (tested (emptySpan gap n ss)) [ inl e ↦ rw e | inr e ↦ rw e ]
 
   -- what an answer says
   pub ends-none : Empty ≡ endsOf gap n pre tail ss → emptySpan gap n ss ≡ true

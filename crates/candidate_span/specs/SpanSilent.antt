@@ -1,5 +1,6 @@
 -- Document 01's "silence all through": the first silence is the whole recording exactly where no frame sounds.
 use mathlib.Core.Path.{_≡_, refl, sym, _∙_}
+use mathlib.Core.Logic.{inl, inr}
 use mathlib.Core.Bool.{Bool, true, false, not, _&&_}
 use mathlib.Core.List.{List, [], _∷_}
 use Prim.Native.Nat.{ℕ, zero, suc, _+_, _<_}
@@ -7,14 +8,13 @@ use native.Mathlib.Omega.{arith}
 use lib.Dec.{eqb, ltb, eqb·suc-zero}
 use lib.ListN.{length, getD}
 use borrow.Author.Tests.{lt-ltb, eq-eqb, ne-eqb, le-leb, ltb-true, eqb-true}
-use Rattle.base_laws.specs.Tests.{both, holds}
+use Rattle.base_laws.specs.Tests.{both, holds, tested}
 use Rattle.base_terms.specs.Lists.{allOf}
 use Rattle.silence_runs.specs.Silences.{silencesOf}
 use Rattle.silence_runs.specs.SilencesLaws.{edges, isEdge, silences-edges, silences-exact, inSilence}
 use Rattle.silence_runs.specs.Sounds.{isSilent, anySound}
 use Rattle.candidate_span.specs.Listed.{count, startAt, endAt}
-use Rattle.candidate_span.specs.ListedLaws.{Listed}
-use Rattle.candidate_span.specs.ListedLaws.{listed-own, silences-listed}
+use Rattle.candidate_span.specs.ListedLaws.{Listed, listed-own, silences-listed}
 use Rattle.candidate_span.specs.Span.{isLeading, allSilent}
 
 -- ---- the first frame is silent
@@ -65,10 +65,9 @@ fails false f = refl
 silent-is : (sound : List ℕ) → 0 < length sound → allSilent (length sound) (silencesOf sound) ≡ allOf isSilent sound
 unfolding edges isEdge allOf isSilent
 silent-is [] h = absurd (omega arith)
-silent-is (zero ∷ xs) h = rw (silences-edges (zero ∷ xs)) (pair (edges 1 0 xs) (suc (length xs)) (some-edge xs 1) ∙ rw one (first-edge xs 1))
-  where
-    one : suc (length xs) ≡ 1 + length xs
-    one = omega arith
+silent-is (zero ∷ xs) h =
+    let one : suc (length xs) ≡ 1 + length xs = omega arith in
+    rw (silences-edges (zero ∷ xs)) (pair (edges 1 0 xs) (suc (length xs)) (some-edge xs 1) ∙ rw one (first-edge xs 1))
 silent-is (suc x ∷ xs) h =
     rw (eqb·suc-zero x)
     (fails (allSilent (suc (length xs)) (silencesOf (suc x ∷ xs)))
@@ -77,8 +76,4 @@ silent-is (suc x ∷ xs) h =
 -- a recording with frames is silent all through exactly where no frame sounds
 pub silent-all : (sound : List ℕ) → 0 < length sound → allSilent (length sound) (silencesOf sound) ≡ not (anySound sound)
 unfolding anySound
-silent-all sound h = silent-is sound h ∙ twice (allOf isSilent sound)
-  where
-    twice : (b : Bool) → b ≡ not (not b)
-    twice true = refl
-    twice false = refl
+silent-all sound h = silent-is sound h ∙ elim (tested (allOf isSilent sound)) [ inl e ↦ rw e | inr e ↦ rw e ]

@@ -1,11 +1,12 @@
 -- One law for each end of the functions that find a span's ends.
-use mathlib.Core.Path.{_≡_, refl, sym, ap, _∙_}
+use mathlib.Core.Path.{_≡_, sym, ap, _∙_}
 use mathlib.Core.Bool.{true, false}
 use mathlib.Core.List.{List}
-use Prim.Native.Nat.{ℕ, zero, suc, _+_, _-_, _<_, min}
+use Prim.Native.Nat.{ℕ, _+_, _-_, min}
 use native.Mathlib.Omega.{arith}
 use lib.Dec.{eqb}
 use borrow.Author.Tests.{lt-ltb, le-ltb, eq-eqb, ne-eqb}
+use native.Mathlib.Nat.{pos-of-ne-zero}
 use Rattle.candidate_settings.specs.declared.config.Gap.{Gap}
 use Rattle.candidate_settings.specs.declared.config.Gap.the-variants.{Keep, Drop}
 use Rattle.candidate_span.specs.declared.ends.SpanEnds.the-variants.{Empty, Between}
@@ -37,18 +38,14 @@ module _ (ss : List ℕ) (none : count ss ≡ 0) where
 
 -- ---- some silence is listed: s is the start of the first, or of the last, and e its end
 
-some-is : (c : ℕ) → (c ≡ 0 → ⊥) → 0 < c
-some-is zero f = absurd (f refl)
-some-is (suc c) f = omega arith
-
 module _ (ss : List ℕ) (some : count ss ≡ 0 → ⊥) where
   leading-is : isLeading ss ≡ eqb (startAt ss 0) 0
   unfolding isLeading
-  leading-is = rw (lt-ltb 0 (count ss) (some-is (count ss) some))
+  leading-is = rw (lt-ltb 0 (count ss) (pos-of-ne-zero some))
 
   trailing-is : (n : ℕ) → isTrailing n ss ≡ eqb (endAt ss (count ss - 1)) n
   unfolding isTrailing
-  trailing-is n = rw (lt-ltb 0 (count ss) (some-is (count ss) some))
+  trailing-is n = rw (lt-ltb 0 (count ss) (pos-of-ne-zero some))
 
   unled : (s : ℕ) → s ≡ startAt ss 0 → (s ≡ 0 → ⊥) → isLeading ss ≡ false
   unled s p d = leading-is ∙ ne-eqb (startAt ss 0) 0 (λ e. d (p ∙ e))

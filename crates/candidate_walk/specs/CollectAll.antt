@@ -1,26 +1,70 @@
+-- What stands in work memory once both ends of the span are written beside its survivors.
 -- The whole of `collect`: what its last steps need, and what they leave.
-use mathlib.Core.Path.{_≡_, _∙_}
-use mathlib.Core.List.{List, [], _∷_}
-use Prim.Native.Nat.{ℕ, suc, _+_, _-_, _*_, _≤_, _<_}
+use mathlib.Core.Path.{_≡_, sym, ap, _∙_}
+use mathlib.Core.List.{List, [], _∷_, _++_, append-assoc}
+use Prim.Native.Nat.{ℕ, _+_, _*_, _≤_, suc, _-_, _<_}
 use native.Mathlib.Omega.{arith}
 use lib.Ieee.{Float}
-use lib.ListN.{length}
+use lib.ListN.{length, take, drop, length-append}
+use lib.Seq.{length-take-le, drop-at}
 use Rattle.candidate_points.specs.Placed.{placed}
-use Rattle.candidate_points.specs.PlacedLaws.{placed-length}
-use Rattle.candidate_cuts.specs.CutsLaws.{inner-cut}
+use Rattle.candidate_points.specs.PlacedLaws.{placed-take, placed-length}
 use Rattle.candidates.specs.declared.candidate.Candidate.{Candidate}
+use Rattle.candidates.specs.Entries.{entriesOf, costsOf}
+use Rattle.candidate_walk.specs.Held.{heldAt, costsAt, silencesHeld, levelsHeld}
+use Rattle.candidates.specs.EntriesLaws.{entries-length, costs-length, entries-append, costs-append}
+use Rattle.candidate_walk.specs.HeldLaws.{placed-more, Puttable}
+use Rattle.candidate_cuts.specs.CutsLaws.{inner-cut}
 use Rattle.candidates.specs.declared.context.Context.{Context}
 use Rattle.candidates.specs.Candidates.{node, candidatesOf}
 use Rattle.candidates.specs.Row.{survivors-few}
-use Rattle.candidates.specs.Entries.{entriesOf, costsOf}
-use Rattle.candidate_walk.specs.Held.{silencesHeld, levelsHeld, heldAt, costsAt}
-use Rattle.candidates.specs.EntriesLaws.{entries-length, costs-length}
-use Rattle.candidate_walk.specs.PutLaws.{Puttable}
 use Rattle.candidate_walk.specs.Collect.{innerFrom, innerTo, collected}
 use Rattle.candidate_walk.specs.CollectLaws.{AtSilence, Collectable}
 use Rattle.candidate_walk.specs.CollectStep.{Ranged, between, listed, last-in, first-below}
 use Rattle.candidate_walk.specs.CollectDone.{held-ranged}
-use Rattle.candidate_walk.specs.CollectEnds.{ends-number, ends-entries, ends-costs}
+
+-- what is placed right before what was placed
+placed-front : {A : Type 0} (base : ℕ) (p q xs : List A) (at : ℕ) → at ≡ base + length p → at + length q ≤ length xs → placed base p (placed at q xs) ≡ placed base (p ++ q) xs
+unfolding placed
+placed-front {A = A} base p q xs at e h =
+    let before : take base (take at xs ++ (q ++ drop (at + length q) xs)) ≡ take base xs = placed-take at q xs h base (omega (arith, e)) in
+    let after : drop at (take at xs ++ (q ++ drop (at + length q) xs)) ≡ q ++ drop (at + length q) xs =
+    drop-at (take at xs) (q ++ drop (at + length q) xs) at (length-take-le at xs (omega arith)) in
+    let far : at + length q ≡ base + length (p ++ q) = simp length-append (omega (arith, e)) in
+    let ends : drop (at + length q) xs ≡ drop (base + length (p ++ q)) xs = ap (λ (k : ℕ). drop k xs) far in
+    rw (before, ← e, after, append-assoc p q, ends)
+
+-- three parts side by side, the middle one placed first
+beside : {A : Type 0} (base : ℕ) (p q r xs : List A) (one two three : ℕ) → one ≡ base + length p → two ≡ base → three ≡ base + length p + length q → three + length r ≤ length xs
+    → placed three r (placed two p (placed one q xs)) ≡ placed base (p ++ (q ++ r)) xs
+beside base p q r xs one two three a b c h =
+    rw b
+    (ap (placed three r) (placed-front base p q xs one a (omega (arith, a, c)))
+    ∙ placed-more base (p ++ q) r xs three (simp length-append (omega (arith, c))) (omega arith) ∙ ap (λ (l : List _). placed base l xs) (append-assoc p q r))
+
+-- the candidates of the span: its first end, the survivors, its last end
+module _ (n : ℕ) (first last : Candidate) (cs : List Candidate) (few : length cs + 2 ≤ n + 1) where
+  abbrev all : List Candidate
+  all = first ∷ (cs ++ (last ∷ []))
+
+  pub ends-number : length cs + 1 + 1 ≡ length all
+  ends-number = simp length-append (omega arith)
+
+  pub ends-entries : (work work₁ work₂ work₃ : List ℕ) → 6 * (n + 1) ≤ length work → work₁ ≡ placed (heldAt n + 3) (entriesOf cs) work → work₂ ≡ placed (heldAt n + 3 * 0) (entriesOf (first ∷ [])) work₁
+      → work₃ ≡ placed (heldAt n + 3 * (length cs + 1)) (entriesOf (last ∷ [])) work₂ → work₃ ≡ placed (heldAt n) (entriesOf all) work
+  ends-entries work work₁ work₂ work₃ room e f g =
+      rw (g, f, e)
+      (beside (heldAt n) (entriesOf (first ∷ [])) (entriesOf cs) (entriesOf (last ∷ [])) work (heldAt n + 3) (heldAt n + 3 * 0) (heldAt n + 3 * (length cs + 1))
+      (omega (arith, entries-length (first ∷ []))) (omega arith) (omega (arith, entries-length (first ∷ []), entries-length cs)) (omega (arith, entries-length (last ∷ [])))
+      ∙ ap (λ (l : List ℕ). placed (heldAt n) l work) (ap (λ (l : List ℕ). entriesOf (first ∷ []) ++ l) (sym (entries-append cs (last ∷ []))) ∙ sym (entries-append (first ∷ []) (cs ++ (last ∷ [])))))
+
+  pub ends-costs : (work work₁ work₂ work₃ : List Float) → 2 * (n + 1) ≤ length work → work₁ ≡ placed (costsAt n + 1) (costsOf cs) work → work₂ ≡ placed (costsAt n + 0) (costsOf (first ∷ [])) work₁
+      → work₃ ≡ placed (costsAt n + (length cs + 1)) (costsOf (last ∷ [])) work₂ → work₃ ≡ placed (costsAt n) (costsOf all) work
+  ends-costs work work₁ work₂ work₃ room e f g =
+      rw (g, f, e)
+      (beside (costsAt n) (costsOf (first ∷ [])) (costsOf cs) (costsOf (last ∷ [])) work (costsAt n + 1) (costsAt n + 0) (costsAt n + (length cs + 1))
+      (omega (arith, costs-length (first ∷ []))) (omega arith) (omega (arith, costs-length (first ∷ []), costs-length cs)) (omega (arith, costs-length (last ∷ [])))
+      ∙ ap (λ (l : List Float). placed (costsAt n) l work) (ap (λ (l : List Float). costsOf (first ∷ []) ++ l) (sym (costs-append cs (last ∷ []))) ∙ sym (costs-append (first ∷ []) (cs ++ (last ∷ [])))))
 
 module _ {x : Context} {count first last from stop : ℕ} {work : List ℕ} {workf : List Float} (c : Collectable x count first last work workf) (begins : from ≡ innerFrom count work)
     (ends : stop ≡ innerTo (x .frames) count work) where
@@ -73,14 +117,7 @@ module _ {x : Context} {count first last from stop : ℕ} {work : List ℕ} {wor
       size₂f = rw costs₂ (placed-length (costsAt (x .frames) + 0) (costsOf (d ∷ [])) workf₁ (omega (arith, sizef, costs-length (d ∷ []), c .holding .roomf))) ∙ sizef
 
       pub last-puttable : {e : Candidate} → e ≡ node last → Puttable e written (x .frames) work₂ workf₂
-      last-puttable q = record {
-        few = c .holding .few;
-        inside = omega (arith, number, few);
-        left-in = rw q within;
-        right-in = rw q within;
-        room = omega (arith, size₂, c .holding .room);
-        roomf = omega (arith, size₂f, c .holding .roomf);
-      }
+      last-puttable q = search (arith, c .holding .few, number, few, q, within, size₂, c .holding .room, size₂f, c .holding .roomf)
 
       pub all-fits : written + 1 ≤ x .frames + 1
       all-fits = omega (arith, number, few)

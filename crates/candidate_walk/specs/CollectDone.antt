@@ -1,18 +1,17 @@
 -- Which silences the walk looks at: all that have sound on both sides.
 use mathlib.Core.Path.{_≡_, refl, sym, ap, _∙_}
 use mathlib.Core.Logic.{_⊎_, inl, inr}
-use mathlib.Core.Bool.{Bool, true, false, _&&_, cond}
+use mathlib.Core.Bool.{cond}
 use mathlib.Core.List.{List}
 use Prim.Native.Nat.{ℕ, suc, _+_, _-_, _*_, _≤_, _<_}
 use native.Mathlib.Omega.{arith}
-use lib.Dec.{ltb, eqb}
 use lib.Ieee.{Float}
 use lib.ListN.{length, getD}
 use lib.Seq.{length-take-le, getD-take}
-use borrow.Author.Tests.{ltb-true, ltb-false, eqb-true, eqb-false}
 use Rattle.base_laws.specs.Tests.{lt-or-le}
 use Rattle.candidate_span.specs.Listed as silences
 use Rattle.candidate_span.specs.ListedLaws.{listed-own, listed-apart, listed-within}
+use Rattle.candidate_span.specs.SpanLaws.{by-end}
 use Rattle.candidate_span.specs.BoundsLaws.{inner-parts, inner-is}
 use Rattle.candidate_cuts.specs.CutsLaws.{InnerAt}
 use Rattle.candidates.specs.declared.context.Context.{Context}
@@ -26,24 +25,18 @@ use Rattle.candidate_walk.specs.CollectStep.{Ranged}
 -- only the first can lack sound before it
 from-cases : (count : ℕ) (work : List ℕ) → ((innerFrom count work ≡ 0) × (0 < count → silences.startAt work 0 ≡ 0 → ⊥)) ⊎ ((innerFrom count work ≡ 1) × (0 < count) × (silences.startAt work 0 ≡ 0))
 unfolding innerFrom
-from-cases count work = go (ltb 0 count) (eqb (silences.startAt work 0) 0) (ltb-true 0 count) (ltb-false 0 count) (eqb-true (silences.startAt work 0) 0) (eqb-false (silences.startAt work 0) 0)
-  where
-    go : (a b : Bool) → (a ≡ true → 0 < count) → (a ≡ false → count ≤ 0) → (b ≡ true → silences.startAt work 0 ≡ 0) → (b ≡ false → silences.startAt work 0 ≡ 0 → ⊥)
-        → ((_≡_ {A = ℕ} (cond (a && b) 1 0) 0) × (0 < count → silences.startAt work 0 ≡ 0 → ⊥)) ⊎ ((_≡_ {A = ℕ} (cond (a && b) 1 0) 1) × (0 < count) × (silences.startAt work 0 ≡ 0))
-    go true true p q r s = inr (refl, p refl, r refl)
-    go true false p q r s = inl (refl, λ h. s refl)
-    go false b p q r s = inl (refl, λ h e. absurd (omega (arith, h, q refl)))
+from-cases count work =
+    by-end count (silences.startAt work 0) 0
+    (λ t. ((_≡_ {A = ℕ} (cond t 1 0) 0) × (0 < count → silences.startAt work 0 ≡ 0 → ⊥)) ⊎ ((_≡_ {A = ℕ} (cond t 1 0) 1) × (0 < count) × (silences.startAt work 0 ≡ 0)))
+    (λ h e. inr (refl, h, e)) (λ n. inl (refl, n))
 
 -- only the last can lack sound after it
 to-cases : (n count : ℕ) (work : List ℕ) → ((innerTo n count work ≡ count) × (0 < count → silences.endAt work (count - 1) ≡ n → ⊥)) ⊎ ((innerTo n count work ≡ count - 1) × (0 < count) × (silences.endAt work (count - 1) ≡ n))
 unfolding innerTo
-to-cases n count work = go (ltb 0 count) (eqb (silences.endAt work (count - 1)) n) (ltb-true 0 count) (ltb-false 0 count) (eqb-true (silences.endAt work (count - 1)) n) (eqb-false (silences.endAt work (count - 1)) n)
-  where
-    go : (a b : Bool) → (a ≡ true → 0 < count) → (a ≡ false → count ≤ 0) → (b ≡ true → silences.endAt work (count - 1) ≡ n) → (b ≡ false → silences.endAt work (count - 1) ≡ n → ⊥)
-        → ((cond (a && b) (count - 1) count ≡ count) × (0 < count → silences.endAt work (count - 1) ≡ n → ⊥)) ⊎ ((cond (a && b) (count - 1) count ≡ count - 1) × (0 < count) × (silences.endAt work (count - 1) ≡ n))
-    go true true p q r s = inr (refl, p refl, r refl)
-    go true false p q r s = inl (refl, λ h. s refl)
-    go false b p q r s = inl (refl, λ h e. absurd (omega (arith, h, q refl)))
+to-cases n count work =
+    by-end count (silences.endAt work (count - 1)) n
+    (λ t. ((cond t (count - 1) count ≡ count) × (0 < count → silences.endAt work (count - 1) ≡ n → ⊥)) ⊎ ((cond t (count - 1) count ≡ count - 1) × (0 < count) × (silences.endAt work (count - 1) ≡ n)))
+    (λ h e. inr (refl, h, e)) (λ s. inl (refl, s))
 
 module _ (x : Context) (count : ℕ) (work : List ℕ) (workf : List Float) (h : Holding x count work workf) where
   abbrev ss : List ℕ

@@ -1,14 +1,14 @@
 -- A step of the walk keeps what holds of it; where it starts and ends.
 use mathlib.Core.Path.{_≡_, refl, sym, ap, _∙_}
 use mathlib.Core.Logic.{inl, inr}
-use mathlib.Core.Bool.{Bool, true, false, cond}
+use mathlib.Core.Bool.{true, false}
 use mathlib.Core.List.{List, [], _∷_, _++_, append-assoc, append-nil}
 use Prim.Native.Nat.{ℕ, suc, _+_, _-_, _*_, _≤_, _<_}
 use native.Mathlib.Nat.{eq-or-lt-of-le}
 use native.Mathlib.Omega.{arith}
 use lib.Ieee.{Float}
 use lib.ListN.{length, length-append}
-use Rattle.base_laws.specs.Tests.{lt-or-le}
+use Rattle.base_laws.specs.Tests.{lt-or-le, tested}
 use Rattle.candidate_span.specs.Kept.{boundaries}
 use Rattle.candidate_points.specs.Placed.{placed}
 use Rattle.candidate_cuts.specs.CutsLaws.{InnerAt}
@@ -21,41 +21,28 @@ use Rattle.candidates.specs.Entries.{entriesOf, costsOf}
 use Rattle.candidate_walk.specs.Held.{silencesHeld, levelsHeld, marked, heldAt, costsAt}
 use Rattle.candidates.specs.EntriesLaws.{entries-length, costs-length, entries-append, costs-append}
 use Rattle.candidate_walk.specs.HeldLaws.{placed-more, placed-none}
-use Rattle.candidate_walk.specs.Collect.{ownHere, withPoint, pointHeld, nextOwn, hereOf, walkOf}
-use Rattle.candidate_walk.specs.CollectLaws.{Collectable}
-use Rattle.candidate_walk.specs.PassLaws.{own-parts}
+use Rattle.candidate_walk.specs.Collect.{ownHere, nextOwn, hereOf, walkOf}
+use Rattle.candidate_walk.specs.CollectLaws.{Collectable, own-parts}
 use Rattle.candidate_walk.specs.CollectStep.{Ranged, WalkHolds, between, listed, last-in, first-below, own-after, here-is, own-same, own-starts, later, next-inner, none-own}
 
 -- ---- what a step changes
 
 module _ (x : Context) (count stop k : ℕ) (w : Walk) (work : List ℕ) (workf : List Float) where
-  one-more : (a b : Bool) (c d : Candidate) (v u : Walk) → v .written ≡ w .written + 1 → u .written ≡ w .written + 1
-      → (cond a v (cond b u w) .written ≡ w .written + length (cond a (c ∷ []) (cond b (d ∷ []) []))) × (length (cond a (c ∷ []) (cond b (d ∷ []) [])) ≤ 1)
-  one-more true b c d v u e f = (e, omega arith)
-  one-more false true c d v u e f = (f, omega arith)
-  one-more false false c d v u e f = (omega arith, omega arith)
-
   -- one candidate more, or none
   pub step-written : (walkOf x count stop k w work workf .written ≡ w .written + length (hereOf x count stop k w work workf)) × (length (hereOf x count stop k w work workf) ≤ 1)
   unfolding walkOf hereOf
-  step-written =
-      one-more (ownHere w stop k) (marked (x .frames) work k) (withPoint (marked (x .frames) work k) (w .own) (pointHeld x count work workf k)) (pointHeld x count work workf k)
-      (record { silence = w .silence + 1; own = nextOwn x count stop work workf (w .silence + 1); written = w .written + 1 })
-      (record { silence = w .silence; own = w .own; written = w .written + 1 }) refl refl
+  step-written = elim (tested (ownHere w stop k)) [
+    | inl e ↦ rw e (refl, omega arith)
+    | inr e ↦ rw e (elim (tested (marked (x .frames) work k)) [ inl f ↦ rw f (refl, omega arith) | inr f ↦ rw f (omega arith, omega arith) ])
+  ]
 
   pub step-own : ownHere w stop k ≡ true → (walkOf x count stop k w work workf .silence ≡ w .silence + 1) × (walkOf x count stop k w work workf .own ≡ nextOwn x count stop work workf (w .silence + 1))
   unfolding walkOf
   step-own o = (rw o, rw o)
 
-  stays : (b : Bool) (u : Walk) → u .silence ≡ w .silence → u .own ≡ w .own → (cond b u w .silence ≡ w .silence) × (cond b u w .own ≡ w .own)
-  stays true u e f = (e, f)
-  stays false u e f = (refl, refl)
-
   pub step-other : ownHere w stop k ≡ false → (walkOf x count stop k w work workf .silence ≡ w .silence) × (walkOf x count stop k w work workf .own ≡ w .own)
   unfolding walkOf
-  step-other o =
-      let p = stays (marked (x .frames) work k) (record { silence = w .silence; own = w .own; written = w .written + 1 }) refl refl in
-      (rw o (p .0), rw o (p .1))
+  step-other o = rw o (elim (tested (marked (x .frames) work k)) [ inl f ↦ rw f (refl, refl) | inr f ↦ rw f (refl, refl) ])
 
 -- ---- the next boundary
 
@@ -74,25 +61,18 @@ module _ (x : Context) (count stop first last from : ℕ) (work₀ : List ℕ) (
   listed′ = listed x count stop first last from work₀ workf₀
 
   survives : here ≡ cheapest (withLeft k listed′)
-  survives = here-is x count stop first last from work₀ workf₀ c r k w work workf g more (ownHere w stop k) refl
+  survives = here-is x count stop first last from work₀ workf₀ c r k w work workf g more
 
   steps : boundaries (k - 1) (last - k) ≡ k ∷ boundaries k (last - suc k)
   unfolding boundaries
-  steps = go (k - 1) (last - suc k) (omega (arith, g .after)) (omega arith)
-    where
-      go : (b m : ℕ) → k ≡ suc b → last - k ≡ suc m → boundaries b (last - k) ≡ k ∷ boundaries k m
-      go b m e f = rw (f, e)
+  steps = let e : k ≡ suc (k - 1) = omega (arith, g .after) in let f : last - k ≡ suc (last - suc k) = omega arith in rw (f, ← e)
 
   moved : (g .soFar ++ here) ++ survivors listed′ (boundaries (k + 1 - 1) (last - (k + 1))) ≡ between x count stop first last from work₀ workf₀
   moved =
+      let ends : cheapest (withLeft k listed′) ++ survivors listed′ (boundaries (k + 1 - 1) (last - (k + 1))) ≡ survivors listed′ (boundaries (k - 1) (last - k)) =
+      let e : k + 1 - 1 ≡ k = omega arith in let f : last - (k + 1) ≡ last - suc k = omega arith in rw (steps, e, f) (unfold survivors in refl) in
       append-assoc (g .soFar) here (survivors listed′ (boundaries (k + 1 - 1) (last - (k + 1))))
       ∙ ap (λ (t : List Candidate). g .soFar ++ t) (ap (λ (h : List Candidate). h ++ survivors listed′ (boundaries (k + 1 - 1) (last - (k + 1)))) survives ∙ ends) ∙ g .rest
-    where
-      go : (a b : ℕ) → a ≡ k → b ≡ last - suc k → cheapest (withLeft k listed′) ++ survivors listed′ (boundaries a b) ≡ survivors listed′ (boundaries (k - 1) (last - k))
-      go a b e f = rw (steps, e, f) (unfold survivors in refl)
-
-      ends : cheapest (withLeft k listed′) ++ survivors listed′ (boundaries (k + 1 - 1) (last - (k + 1))) ≡ survivors listed′ (boundaries (k - 1) (last - k))
-      ends = go (k + 1 - 1) (last - (k + 1)) (omega arith) (omega arith)
 
   size : length (g .soFar ++ here) ≡ length (g .soFar) + length here
   size = length-append (g .soFar) here
@@ -119,6 +99,24 @@ module _ (x : Context) (count stop first last from : ℕ) (work₀ : List ℕ) (
     few′ : length (g .soFar ++ here) + first < k + 1
     few′ = rw size (omega (arith, step-written x count stop k w work workf .1, g .few))
 
+    next-holds : from ≤ w′ .silence → ((j : ℕ) → j < w′ .silence → InnerAt (x .frames) ss j → leftAt x ss levels j < k + 1)
+        → ((j : ℕ) → w′ .silence ≤ j → InnerAt (x .frames) ss j → k + 1 ≤ leftAt x ss levels j) → w′ .own ≡ nextOwn x count stop work₀ workf₀ (w′ .silence)
+        → WalkHolds x count stop first last from work₀ workf₀ (k + 1) w′ work′ workf′
+    next-holds b before ahead own = record {
+      soFar = g .soFar ++ here;
+      after = omega (arith, g .after);
+      within = omega arith;
+      held = held′;
+      costs = costs′;
+      number = number′;
+      few = few′;
+      rest = moved;
+      begun = b;
+      before = before;
+      ahead = ahead;
+      own = own;
+    }
+
     -- the next silence's own candidate stood here
     module _ (o : ownHere w stop k ≡ true) where
       passed : w′ .silence ≡ w .silence + 1
@@ -140,20 +138,10 @@ module _ (x : Context) (count stop first last from : ℕ) (work₀ : List ℕ) (
       ahead-own j h a = omega (arith, starts, later x count stop first last from work₀ workf₀ c r k w work workf g more (w .silence) j (omega (arith, passed)) inner a)
 
       next-own : WalkHolds x count stop first last from work₀ workf₀ (k + 1) w′ work′ workf′
-      next-own = record {
-        soFar = g .soFar ++ here;
-        after = omega (arith, g .after);
-        within = omega arith;
-        held = held′;
-        costs = costs′;
-        number = number′;
-        few = few′;
-        rest = moved;
-        begun = omega (arith, passed, g .begun);
-        before = before-own;
-        ahead = ahead-own;
-        own = rw is (step-own x count stop k w work workf o .1) ∙ own-same x count stop first last from work₀ workf₀ c r k w work workf g more (w .silence + 1) ∙ ap (nextOwn x count stop work₀ workf₀) (sym passed);
-      }
+      next-own =
+          next-holds (omega (arith, passed, g .begun)) before-own ahead-own
+          (rw is (step-own x count stop k w work workf o .1) ∙ own-same x count stop first last from work₀ workf₀ c r k w work workf g more (w .silence + 1)
+          ∙ ap (nextOwn x count stop work₀ workf₀) (sym passed))
 
     -- it did not
     module _ (o : ownHere w stop k ≡ false) where
@@ -167,27 +155,12 @@ module _ (x : Context) (count stop first last from : ℕ) (work₀ : List ℕ) (
       ]
 
       next-other : WalkHolds x count stop first last from work₀ workf₀ (k + 1) w′ work′ workf′
-      next-other = record {
-        soFar = g .soFar ++ here;
-        after = omega (arith, g .after);
-        within = omega arith;
-        held = held′;
-        costs = costs′;
-        number = number′;
-        few = few′;
-        rest = moved;
-        begun = omega (arith, waits, g .begun);
-        before = λ (j : ℕ) (h : j < w′ .silence) (a : InnerAt (x .frames) ss j). omega (arith, g .before j (omega (arith, waits)) a);
-        ahead = ahead-other;
-        own = rw is (step-other x count stop k w work workf o .1) ∙ g .own ∙ ap (nextOwn x count stop work₀ workf₀) (sym waits);
-      }
+      next-other =
+          next-holds (omega (arith, waits, g .begun)) (λ j h a. omega (arith, g .before j (omega (arith, waits)) a)) ahead-other
+          (rw is (step-other x count stop k w work workf o .1) ∙ g .own ∙ ap (nextOwn x count stop work₀ workf₀) (sym waits))
 
     pub walk-next : WalkHolds x count stop first last from work₀ workf₀ (k + 1) w′ work′ workf′
-    walk-next = go (ownHere w stop k) refl
-      where
-        go : (b : Bool) → ownHere w stop k ≡ b → WalkHolds x count stop first last from work₀ workf₀ (k + 1) w′ work′ workf′
-        go true o = next-own o
-        go false o = next-other o
+    walk-next = elim (tested (ownHere w stop k)) [ inl o ↦ next-own o | inr o ↦ next-other o ]
 
 -- ---- start and end
 
@@ -220,10 +193,8 @@ module _ (x : Context) (count stop first last from : ℕ) (work₀ : List ℕ) (
       → (w .written ≡ length (between x count stop first last from work₀ workf₀) + 1)
       × (work ≡ placed (heldAt (x .frames) + 3) (entriesOf (between x count stop first last from work₀ workf₀)) work₀)
       × (workf ≡ placed (costsAt (x .frames) + 1) (costsOf (between x count stop first last from work₀ workf₀)) workf₀)
-  walk-done k w work workf h g = (rw (← all) (g .number), rw (← all) (g .held), rw (← all) (g .costs))
-    where
-      none : (a b : ℕ) → b ≡ 0 → survivors all-listed (boundaries a b) ≡ []
-      none a b e = rw e (unfold boundaries in unfold survivors in refl)
-
-      all : g .soFar ≡ between x count stop first last from work₀ workf₀
-      all = sym (append-nil (g .soFar)) ∙ ap (λ (t : List Candidate). g .soFar ++ t) (sym (none (k - 1) (last - k) (omega arith))) ∙ g .rest
+  walk-done k w work workf h g =
+      let none : (a b : ℕ) → b ≡ 0 → survivors all-listed (boundaries a b) ≡ [] = λ a b e. rw e (unfold boundaries in unfold survivors in refl) in
+      let all : g .soFar ≡ between x count stop first last from work₀ workf₀ =
+      sym (append-nil (g .soFar)) ∙ ap (λ (t : List Candidate). g .soFar ++ t) (sym (none (k - 1) (last - k) (omega arith))) ∙ g .rest in
+      (rw (← all) (g .number), rw (← all) (g .held), rw (← all) (g .costs))

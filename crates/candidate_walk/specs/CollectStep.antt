@@ -1,23 +1,24 @@
+-- A boundary is among the marked ones exactly where it is marked.
 -- What holds of the walk at each boundary, and that a step keeps it: so far the survivors at the boundaries before are written, and the next silence is the first whose own candidate does not start before.
-use mathlib.Core.Path.{_≡_, sym, ap, subst, _∙_}
+use mathlib.Core.Path.{_≡_, refl, sym, ap, subst, _∙_}
 use mathlib.Core.Logic.{inl, inr}
-use mathlib.Core.Bool.{Bool, true, false}
-use mathlib.Core.List.{List, [], _++_}
-use Prim.Native.Nat.{ℕ, suc, _+_, _-_, _*_, _≤_, _<_}
-use native.Mathlib.Nat.{eq-or-lt-of-le}
+use mathlib.Core.Bool.{Bool, true, false, cond}
+use mathlib.Core.List.{List, _∷_, [], _++_}
+use Prim.Native.Nat.{ℕ, zero, suc, _+_, _≤_, _<_, _-_, _*_}
 use native.Mathlib.Omega.{arith}
+use borrow.Author.Tests.{eq-eqb, ne-eqb, lt-ltb}
+use native.Mathlib.Nat.{eq-or-lt-of-le}
 use lib.Ieee.{Float}
 use lib.ListN.{length}
 use lib.Seq.{length-take-le}
-use borrow.Author.Tests.{lt-ltb, eq-eqb}
-use Rattle.base_laws.specs.Tests.{lt-or-le, holds}
+use Rattle.base_laws.specs.Tests.{lt-or-le, tested, holds}
 use Rattle.candidate_span.specs.Kept.{boundaries, passing}
+use Rattle.candidate_points.specs.Points.{isIn}
 use Rattle.candidate_span.specs.Listed as silences
 use Rattle.candidate_span.specs.ListedLaws.{Listed}
 use Rattle.candidate_span.specs.SpanLaws.{ends-order}
 use Rattle.candidate_points.specs.Placed.{placed}
 use Rattle.candidate_points.specs.PlacedLaws.{placed-length}
-use Rattle.candidate_points.specs.Points.{isIn}
 use Rattle.candidate_cuts.specs.CutsLaws.{InnerAt, inner-cut}
 use Rattle.candidates.specs.declared.candidate.Candidate.{Candidate}
 use Rattle.candidates.specs.declared.context.Context.{Context}
@@ -30,9 +31,34 @@ use Rattle.candidate_walk.specs.Held.{silencesHeld, runsHeld, levelsHeld
 use Rattle.candidates.specs.EntriesLaws.{entries-length, costs-length}
 use Rattle.candidate_walk.specs.HeldLaws.{silences-stay, marks-stay, runs-stay, levels-stay}
 use Rattle.candidate_walk.specs.Collect.{ownHere, withPoint, pointHeld, nextOwn, hereOf}
-use Rattle.candidate_walk.specs.CollectLaws.{AtSilence, Passing, Collectable}
-use Rattle.candidate_walk.specs.PassLaws.{own-parts}
-use Rattle.candidate_walk.specs.Marked.{marked-in}
+use Rattle.candidate_walk.specs.CollectLaws.{AtSilence, Passing, Collectable, own-parts}
+
+module _ (p : ℕ → Bool) where
+  before-step : (b c : Bool) (k j : ℕ) (ks : List ℕ) → (j ≡ k → ⊥) → isIn ks k ≡ c → isIn (cond b (j ∷ ks) ks) k ≡ c
+  unfolding isIn
+  before-step true c k j ks n e = rw (ne-eqb j k n) e
+  before-step false c k j ks n e = e
+
+  marked-before : (a m k : ℕ) → k ≤ a → isIn (passing p (boundaries a m)) k ≡ false
+  unfolding boundaries passing
+  marked-before a zero k h = unfold isIn in refl
+  marked-before a (suc m) k h = before-step (p (suc a)) false k (suc a) (passing p (boundaries (suc a) m)) (λ e. omega arith) (marked-before (suc a) m k (omega arith))
+
+  here-step : (b : Bool) (k : ℕ) (ks : List ℕ) → isIn ks k ≡ false → isIn (cond b (k ∷ ks) ks) k ≡ b
+  unfolding isIn
+  here-step true k ks e = rw (eq-eqb k k refl)
+  here-step false k ks e = e
+
+  -- a boundary is among those that pass a test where it passes
+  pub marked-in : (a m k : ℕ) → a < k → k ≤ a + m → isIn (passing p (boundaries a m)) k ≡ p k
+  unfolding boundaries passing
+  marked-in a zero k h l = absurd (omega arith)
+  marked-in a (suc m) k h l = elim (lt-or-le (suc a) k) [
+    | inl q ↦ before-step (p (suc a)) (p k) k (suc a) (passing p (boundaries (suc a) m)) (λ e. omega arith) (marked-in (suc a) m k q (omega arith))
+    | inr q ↦
+        let e : k ≡ suc a = omega arith in
+        rw e (here-step (p (suc a)) (suc a) (passing p (boundaries (suc a) m)) (marked-before (suc a) m (suc a) (omega arith)))
+  ]
 
 -- the silences with sound on both sides are those from `from` up to `stop`
 pub record Ranged (x : Context) (ss : List ℕ) (from stop : ℕ) : Type 0 where
@@ -195,13 +221,8 @@ module _ (x : Context) (count stop first last from : ℕ) (work₀ : List ℕ) (
       -- it does not
       module _ (o : ownHere w stop k ≡ false) where
         not-next : w .silence < stop → leftAt x ss levels (w .silence) ≡ k → ⊥
-        not-next h e = holds (sym o ∙ taken)
-          where
-            left : w .own .left ≡ k
-            left = ap (λ (d : Candidate). d .left) (next-is h) ∙ e
-
-            taken : ownHere w stop k ≡ true
-            taken = unfold ownHere in rw (lt-ltb (w .silence) stop h, eq-eqb (w .own .left) k left)
+        unfolding ownHere
+        not-next h e = holds (sym o ∙ rw (lt-ltb (w .silence) stop h, eq-eqb (w .own .left) k (ap (λ (d : Candidate). d .left) (next-is h) ∙ e)))
 
         -- nor does any other
         pub none-own : (j : ℕ) → InnerAt (x .frames) ss j → leftAt x ss levels j ≡ k → ⊥
@@ -222,6 +243,5 @@ module _ (x : Context) (count stop first last from : ℕ) (work₀ : List ℕ) (
             rw (o, point-same, marks-same, ← mark-is)
             (sym (survivor-point x ss (runsHeld (x .frames) work₀) levels ks k (λ (j : ℕ) (l : j < silences.count ss) (t : IsOwn x ss levels j) (e : leftAt x ss levels j ≡ k). none-own j (inner-at j l t) e)))
 
-      pub here-is : (b : Bool) → ownHere w stop k ≡ b → hereOf x count stop k w work workf ≡ cheapest (withLeft k listed)
-      here-is true o = here-own o
-      here-is false o = here-other o
+      pub here-is : hereOf x count stop k w work workf ≡ cheapest (withLeft k listed)
+      here-is = elim (tested (ownHere w stop k)) [ inl o ↦ here-own o | inr o ↦ here-other o ]

@@ -7,7 +7,7 @@ ghost use Prim.Native.Nat.{_+_, _*_};
 ghost use Rattle.candidate_points.specs.Placed.{placed};
 ghost use Rattle.candidates.specs.Entries.{entriesOf, costsOf};
 ghost use Rattle.candidate_walk.specs.Held.{heldAt, costsAt};
-ghost use Rattle.candidate_walk.specs.PutLaws.{Puttable};
+ghost use Rattle.candidate_walk.specs.HeldLaws.{Puttable};
 
 // Candidate number `at` of a recording of so many frames.
 pub fn put(c: Candidate, at: usize, frames: usize, work_u32: &mut [u32], work_f64: &mut [f64])

@@ -62,19 +62,15 @@ module _ (cs : List Candidate) where
   unfolding survivors boundaries
   left-survivor zero a k h l = absurd (omega arith)
   left-survivor (suc n) a k h l =
+      let later : (c : Candidate) → List·Memᴰ c (survivors cs (boundaries (suc a) n)) → c .left ≡ suc a → ⊥ =
+      λ c m e. let i = of-boundaries (suc a) n (c .left) (survivor-of cs (boundaries (suc a) n) c m .1) in omega (arith, i .0) in
+      let here : suc a ≡ k → withLeft k (cheapest (withLeft (suc a) cs)) ++ withLeft k (survivors cs (boundaries (suc a) n)) ≡ cheapest (withLeft k cs) =
+      λ e. rw (sym e, left-here (suc a) cs (cheapest (withLeft (suc a) cs)) (survivor-at cs (suc a)), left-none (suc a) (survivors cs (boundaries (suc a) n)) later) (append-nil (cheapest (withLeft (suc a) cs))) in
       left-append k (cheapest (withLeft (suc a) cs)) (survivors cs (boundaries (suc a) n))
       ∙ elim (lt-or-le (suc a) k) [
         | inl q ↦ rw (left-other (suc a) k cs (cheapest (withLeft (suc a) cs)) (λ (e : suc a ≡ k). omega arith) (survivor-at cs (suc a))) (left-survivor n (suc a) k q (omega arith))
         | inr q ↦ here (omega arith)
       ]
-    where
-      later : (c : Candidate) → List·Memᴰ c (survivors cs (boundaries (suc a) n)) → c .left ≡ suc a → ⊥
-      later c m e = let i = of-boundaries (suc a) n (c .left) (survivor-of cs (boundaries (suc a) n) c m .1) in omega (arith, i .0)
-
-      here : suc a ≡ k → withLeft k (cheapest (withLeft (suc a) cs)) ++ withLeft k (survivors cs (boundaries (suc a) n)) ≡ cheapest (withLeft k cs)
-      here e =
-          rw (sym e, left-here (suc a) cs (cheapest (withLeft (suc a) cs)) (survivor-at cs (suc a)), left-none (suc a) (survivors cs (boundaries (suc a) n)) later)
-          (append-nil (cheapest (withLeft (suc a) cs)))
 
   cheapest-twice : (ds es : List Candidate) → cheapest (cheapest ds ++ es) ≡ cheapest (ds ++ es)
   unfolding cheapest
@@ -87,12 +83,10 @@ module _ (cs : List Candidate) where
         → survivors (survivors cs (boundaries first width) ++ ds) (boundaries a n) ≡ survivors (cs ++ ds) (boundaries a n)
     unfolding survivors boundaries
     survive-again zero a h l = refl
-    survive-again (suc n) a h l = rw (here, survive-again n (suc a) (omega arith) (omega arith))
-      where
-        here : cheapest (withLeft (suc a) (survivors cs (boundaries first width) ++ ds)) ≡ cheapest (withLeft (suc a) (cs ++ ds))
-        here =
-            rw (left-append (suc a) (survivors cs (boundaries first width)) ds, left-append (suc a) cs ds, left-survivor width first (suc a) (omega arith) (omega arith))
-            (cheapest-twice (withLeft (suc a) cs) (withLeft (suc a) ds))
+    survive-again (suc n) a h l =
+        let here : cheapest (withLeft (suc a) (survivors cs (boundaries first width) ++ ds)) ≡ cheapest (withLeft (suc a) (cs ++ ds)) =
+        rw (left-append (suc a) (survivors cs (boundaries first width)) ds, left-append (suc a) cs ds, left-survivor width first (suc a) (omega arith) (omega arith)) (cheapest-twice (withLeft (suc a) cs) (withLeft (suc a) ds)) in
+        rw (here, survive-again n (suc a) (omega arith) (omega arith))
 
 -- ---- merging
 

@@ -1,13 +1,13 @@
 -- Document 01's "One candidate survives for each left end: the cheapest, the earlier listed on equal cost", in words: `Cheapest` says it without the walk that finds it.
 use mathlib.Core.Path.{_≡_, refl, sym, ap, subst, _∙_}
 use mathlib.Core.Logic.{_⊎_, inl, inr}
-use mathlib.Core.Bool.{Bool, true, false, not, cond}
-use mathlib.Core.List.{List, [], _∷_, List·Memᴰ, List·Memᴰ·head, List·Memᴰ·tail, List·Memᴰ·not-nil, List·Memᴰ·eq-of-singleton, List·Memᴰ·append-cases}
+use mathlib.Core.Bool.{Bool, not, cond}
+use mathlib.Core.List.{List, [], _∷_, List·Memᴰ, List·Memᴰ·head, List·Memᴰ·tail, List·Memᴰ·not-nil, List·Memᴰ·cases-cons, List·Memᴰ·eq-of-singleton, List·Memᴰ·append-cases}
 use Prim.Native.Nat.{ℕ, suc, _-_, _<_}
 use lib.Dec.{T}
 use lib.Ieee.{Float, lt, le, isNan}
 use lib.ListN.{length}
-use Rattle.base_laws.specs.Tests.{holds}
+use Rattle.base_laws.specs.Tests.{tested, holds}
 use Rattle.base_laws.specs.Nonneg.{nonneg-number}
 use Rattle.base_laws.specs.Order.{float-le-refl, float-lt-le, float-not-lt, float-lt-le-trans}
 use Rattle.grid.specs.declared.boundary.FrameGrid.{FrameGrid}
@@ -17,7 +17,6 @@ use Rattle.candidates.specs.declared.context.Context.{Context}
 use Rattle.candidates.specs.Candidates.{allListed, withLeft, cheaper, cheapestOf, cheapest, survivors, candidatesOf}
 use Rattle.candidates.specs.Members.{candidateAt, left-of, Survivor, none, one, survivor-at, survivor-of}
 use Rattle.candidates.specs.Sources.{Planned, listed-source}
-use Rattle.candidates.specs.Order.{between}
 use Rattle.candidates.specs.Found.{inside-span, inner-survives}
 use Rattle.candidates.specs.Costs.{Costed, source-cost}
 
@@ -32,35 +31,28 @@ Priced ds = (d : Candidate) → List·Memᴰ d ds → T (not (isNan (d .cost)))
 
 -- one more behind the first
 more : (c d r : Candidate) (ds : List Candidate) → T (le (c .cost) (d .cost)) → Cheapest (c ∷ ds) r → Cheapest (c ∷ (d ∷ ds)) r
-more c d r ds h (inl p) = inl (p .0, each)
-  where
-    each : (e : Candidate) → List·Memᴰ e (d ∷ ds) → T (le (r .cost) (e .cost))
-    each e (List·Memᴰ·head q) = rw (p .0, q) h
-    each e (List·Memᴰ·tail m) = p .1 e m
+more c d r ds h (inl p) = inl (p .0, λ e i. elim (List·Memᴰ·cases-cons i) [ inl q ↦ rw (p .0, q) h | inr m ↦ p .1 e m ])
 more c d r ds h (inr p) = inr (p .0, inr (float-lt-le-trans (r .cost) (c .cost) (d .cost) (p .0) h, p .1))
 
 -- one more before the first
 before : (c d r : Candidate) (ds : List Candidate) → T (lt (d .cost) (c .cost)) → Cheapest (d ∷ ds) r → Cheapest (c ∷ (d ∷ ds)) r
-before c d r ds h p = inr (below p, p)
-  where
-    below : Cheapest (d ∷ ds) r → T (lt (r .cost) (c .cost))
-    below (inl q) = subst (λ (a : Candidate). T (lt (a .cost) (c .cost))) (sym (q .0)) h
-    below (inr q) = float-lt-le-trans (r .cost) (d .cost) (c .cost) (q .0) (float-lt-le (d .cost) (c .cost) h)
+before c d r ds h p =
+    let below : T (lt (r .cost) (c .cost)) = elim p [ inl q ↦ rw (q .0) h | inr q ↦ float-lt-le-trans (r .cost) (d .cost) (c .cost) (q .0) (float-lt-le (d .cost) (c .cost) h) ] in
+    inr (below, p)
 
 -- what the walk finds is it
 pub cheapest-is : (c : Candidate) (ds : List Candidate) → Priced (c ∷ ds) → Cheapest (c ∷ ds) (cheapestOf c ds)
 unfolding cheapestOf cheaper
 cheapest-is c [] n = inl (refl, λ (e : Candidate) (m : List·Memᴰ e []). absurd (List·Memᴰ·not-nil m))
-cheapest-is c (d ∷ ds) n = go (lt (d .cost) (c .cost)) refl (cheapest-is c ds without) (cheapest-is d ds (λ (e : Candidate) (m : List·Memᴰ e (d ∷ ds)). n e (List·Memᴰ·tail m)))
-  where
-    without : Priced (c ∷ ds)
-    without e (List·Memᴰ·head q) = n e (List·Memᴰ·head q)
-    without e (List·Memᴰ·tail m) = n e (List·Memᴰ·tail (List·Memᴰ·tail m))
-
-    go : (b : Bool) → lt (d .cost) (c .cost) ≡ b → Cheapest (c ∷ ds) (cheapestOf c ds) → Cheapest (d ∷ ds) (cheapestOf d ds) → Cheapest (c ∷ (d ∷ ds)) (cheapestOf (cond b d c) ds)
-    go true e p q = before c d (cheapestOf d ds) ds (holds e) q
-    go false e p q =
-        more c d (cheapestOf c ds) ds (float-not-lt (d .cost) (c .cost) (n d (List·Memᴰ·tail (List·Memᴰ·head refl))) (n c (List·Memᴰ·head refl)) (subst (λ (b : Bool). T (not b)) (sym e) tt)) p
+cheapest-is c (d ∷ ds) n =
+    let without : Priced (c ∷ ds) = λ e i. elim (List·Memᴰ·cases-cons i) [ inl q ↦ n e (List·Memᴰ·head q) | inr m ↦ n e (List·Memᴰ·tail (List·Memᴰ·tail m)) ] in
+    let by : Bool → Type 0 = λ t. Cheapest (c ∷ (d ∷ ds)) (cheapestOf (cond t d c) ds) in
+    elim (tested (lt (d .cost) (c .cost))) [
+      | inl e ↦ subst by (sym e) (before c d (cheapestOf d ds) ds (holds e) (cheapest-is d ds (λ e m. n e (List·Memᴰ·tail m))))
+      | inr e ↦
+          let not-above = float-not-lt (d .cost) (c .cost) (n d (List·Memᴰ·tail (List·Memᴰ·head refl))) (n c (List·Memᴰ·head refl)) (rw e tt) in
+          subst by (sym e) (more c d (cheapestOf c ds) ds not-above (cheapest-is c ds without))
+    ]
 
 -- none is cheaper than the cheapest
 pub cheapest-least : (ds : List Candidate) (r : Candidate) → Priced ds → Cheapest ds r → (e : Candidate) → List·Memᴰ e ds → T (le (r .cost) (e .cost))
@@ -81,35 +73,25 @@ one-cheapest (d ∷ ds) c n m = rw (List·Memᴰ·eq-of-singleton m) (cheapest-i
 survives-here : (cs : List Candidate) (ks : List ℕ) (c : Candidate) → List·Memᴰ c (survivors cs ks) → List·Memᴰ c (cheapest (withLeft (c .left) cs))
 unfolding survivors
 survives-here cs [] c m = absurd (List·Memᴰ·not-nil m)
-survives-here cs (k ∷ ks) c m = go (List·Memᴰ·append-cases (cheapest (withLeft k cs)) m) (survives-here cs ks c)
+survives-here cs (k ∷ ks) c m = elim (List·Memᴰ·append-cases (cheapest (withLeft k cs)) m) [
+  | inl i ↦ subst (λ (j : ℕ). List·Memᴰ c (cheapest (withLeft j cs))) (sym (here (survivor-at cs k) i)) i
+  | inr i ↦ survives-here cs ks c i
+]
   where
     here : Survivor cs k (cheapest (withLeft k cs)) → List·Memᴰ c (cheapest (withLeft k cs)) → c .left ≡ k
     here (none e n) i = absurd (List·Memᴰ·not-nil (subst (λ (ds : List Candidate). List·Memᴰ c ds) e i))
     here (one d e o l) i = ap (λ (a : Candidate). a .left) (List·Memᴰ·eq-of-singleton (subst (λ (ds : List Candidate). List·Memᴰ c ds) e i)) ∙ l
-
-    go : List·Memᴰ c (cheapest (withLeft k cs)) ⊎ List·Memᴰ c (survivors cs ks) → (List·Memᴰ c (survivors cs ks) → List·Memᴰ c (cheapest (withLeft (c .left) cs)))
-        → List·Memᴰ c (cheapest (withLeft (c .left) cs))
-    go (inl i) f = subst (λ (j : ℕ). List·Memᴰ c (cheapest (withLeft j cs))) (sym (here (survivor-at cs k) i)) i
-    go (inr i) f = f i
 
 module _ (x : Context) (g : FrameGrid) (runs : List ℕ) (levels : List Float) (q : Costed x g runs levels) (ss ks : List ℕ) (first last : ℕ) (p : Planned x ss levels ks first last) where
   -- each candidate between the ends is the cheapest of those listed with its left end, the earliest of equals
   pub candidate-cheapest : (i : ℕ) → 0 < i → suc i < length (candidatesOf x ss runs levels ks first last)
       → Cheapest (withLeft (candidateAt (candidatesOf x ss runs levels ks first last) i .left) (allListed x ss runs levels ks)) (candidateAt (candidatesOf x ss runs levels ks first last) i)
   candidate-cheapest i s h =
+      let c = candidateAt (candidatesOf x ss runs levels ks first last) i in
+      let cs = allListed x ss runs levels ks in
+      let m = inner-survives x ss runs levels ks first last i s h in
+      let b = inside-span x ss runs levels ks first last (c .left) (survivor-of cs (boundaries first (last - suc first)) c m .1) in
+      let priced : Priced (withLeft (c .left) cs) = λ d n.
+      let l = left-of (c .left) cs d n in
+      nonneg-number (d .cost) (source-cost x g runs levels q ss ks first last p d (listed-source x ss runs levels ks d (l .0)) (rw (l .1) (b .1))) in
       one-cheapest (withLeft (c .left) cs) c priced (survives-here cs (boundaries first (last - suc first)) c m)
-    where
-      c : Candidate
-      c = candidateAt (candidatesOf x ss runs levels ks first last) i
-
-      cs : List Candidate
-      cs = allListed x ss runs levels ks
-
-      m : List·Memᴰ c (between x ss runs levels ks first last)
-      m = inner-survives x ss runs levels ks first last i s h
-
-      priced : Priced (withLeft (c .left) cs)
-      priced d n =
-          let l = left-of (c .left) cs d n in
-          let b = inside-span x ss runs levels ks first last (c .left) (survivor-of cs (boundaries first (last - suc first)) c m .1) in
-          nonneg-number (d .cost) (source-cost x g runs levels q ss ks first last p d (listed-source x ss runs levels ks d (l .0)) (rw (l .1) (b .1)))

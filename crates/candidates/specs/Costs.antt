@@ -3,7 +3,7 @@ use mathlib.Core.Path.{_≡_, subst}
 use mathlib.Core.Logic.{inl, inr}
 use mathlib.Core.Bool.{true}
 use mathlib.Core.List.{List}
-use Prim.Native.Nat.{ℕ, zero, suc, _-_, _≤_, _<_, max}
+use Prim.Native.Nat.{ℕ, zero, suc, _-_, _≤_, _<_}
 use native.Mathlib.Nat.{eq-or-lt-of-le}
 use native.Mathlib.Omega.{arith}
 use lib.Dec.{T}
@@ -57,11 +57,8 @@ module _ (x : Context) (g : FrameGrid) (runs : List ℕ) (levels : List Float) (
     | inl e ↦ subst (λ (n : ℕ). n < 4294967296) (stretch-last runs (suc k) (omega arith) (omega (arith, q .stretches))) (q .counted (suc k - 1))
     | inr l ↦
         subst (λ (n : ℕ). n < 4294967296) (stretch-inner runs (suc k) (omega arith) (omega (arith, q .stretches)))
-        (most (getD runs (suc k - 1) 0) (getD runs (suc k) 0) (q .counted (suc k - 1)) (q .counted (suc k)))
+        (omega (arith, q .counted (suc k - 1), q .counted (suc k)))
   ]
-    where
-      most : (a b : ℕ) → a < 4294967296 → b < 4294967296 → max a b < 4294967296
-      most a b i j = omega arith
 
   -- what holds of every cost of a cut on the scale holds of what is listed, and of what survives of it
   module _ (P : Float → Type 0) (f : (level time : Float) → OnScale level → T (nonneg time) → P (cutCost (x .weights) level time)) where

@@ -2,7 +2,7 @@
 use mathlib.Core.Path.{_≡_, refl, sym, ap, subst, _∙_}
 use mathlib.Core.Logic.{_⊎_, inl, inr}
 use mathlib.Core.Bool.{true}
-use mathlib.Core.List.{List, [], _∷_, _++_, List·Memᴰ, List·Memᴰ·tail, List·Memᴰ·cases-cons, List·Memᴰ·eq-of-singleton, Memᴰ·append-left, List·Memᴰ·append-cases}
+use mathlib.Core.List.{List, [], _∷_, List·Memᴰ, List·Memᴰ·tail, List·Memᴰ·cases-cons, List·Memᴰ·eq-of-singleton, Memᴰ·append-left, List·Memᴰ·append-cases}
 use Prim.Native.Nat.{ℕ, zero, suc, _-_, _<_}
 use native.Mathlib.Omega.{arith}
 use lib.Ieee.{Float}
@@ -30,7 +30,7 @@ module _ (x : Context) (ss runs : List ℕ) (levels : List Float) (ks : List ℕ
   pub every : (P : Candidate → Type 0) → P (node first) → P (node last) → ((c : Candidate) → Source x ss runs levels ks c → first < c .left → c .left < last → P c)
       → (c : Candidate) → List·Memᴰ c cs → P c
   unfolding candidatesOf
-  every P a z f c m = go (List·Memᴰ·cases-cons m)
+  every P a z f c m = elim (List·Memᴰ·cases-cons m) [ inl e ↦ subst P (sym e) a | inr i ↦ rest (List·Memᴰ·append-cases (between x ss runs levels ks first last) i) ]
     where
       inner : List·Memᴰ c (between x ss runs levels ks first last) → P c
       inner i =
@@ -41,10 +41,6 @@ module _ (x : Context) (ss runs : List ℕ) (levels : List Float) (ks : List ℕ
       rest : List·Memᴰ c (between x ss runs levels ks first last) ⊎ List·Memᴰ c (node last ∷ []) → P c
       rest (inl i) = inner i
       rest (inr i) = subst P (sym (List·Memᴰ·eq-of-singleton i)) z
-
-      go : (c ≡ node first) ⊎ List·Memᴰ c (between x ss runs levels ks first last ++ (node last ∷ [])) → P c
-      go (inl e) = subst P (sym e) a
-      go (inr i) = rest (List·Memᴰ·append-cases (between x ss runs levels ks first last) i)
 
   -- each candidate between the ends survived
   pub inner-survives : (i : ℕ) → 0 < i → suc i < length cs → List·Memᴰ (candidateAt cs i) (between x ss runs levels ks first last)
@@ -91,8 +87,7 @@ module _ (x : Context) (ss runs : List ℕ) (levels : List Float) (ks : List ℕ
   -- where each point lies strictly inside the span, all that is listed does: the Rust's `retain` removes nothing
   pub listed-inside : Planned x ss levels ks first last → ((k : ℕ) → isIn ks k ≡ true → (first < k) × (k < last))
       → (c : Candidate) → List·Memᴰ c (allListed x ss runs levels ks) → (first < c .left) × (c .right < last)
-  listed-inside p f c m = go (listed-source x ss runs levels ks c m)
-    where
-      go : Source x ss runs levels ks c → (first < c .left) × (c .right < last)
-      go (own i a e) = let w = own-inside x ss runs levels ks first last p i a in rw e (w .0, w .2)
-      go (point k t e) = rw (e, point-ends x ss runs levels ks k .0, point-ends x ss runs levels ks k .1) (f k t)
+  listed-inside p f c m = elim (listed-source x ss runs levels ks c m) [
+    | own i a e ↦ let w = own-inside x ss runs levels ks first last p i a in rw e (w .0, w .2)
+    | point k t e ↦ rw (e, point-ends x ss runs levels ks k .0, point-ends x ss runs levels ks k .1) (f k t)
+  ]

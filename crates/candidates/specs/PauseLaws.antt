@@ -1,7 +1,7 @@
 -- Of all silences only the first that does not end before a boundary can hold it: what a search for that one keeps, and what it decides.
 use mathlib.Core.Path.{_≡_, refl, _∙_}
 use mathlib.Core.Logic.{inl, inr}
-use mathlib.Core.Bool.{Bool, false, _&&_}
+use mathlib.Core.Bool.{Bool, false, _&&_, or-false}
 use mathlib.Core.List.{List}
 use Prim.Native.Nat.{ℕ, zero, suc, _+_, _≤_, _<_}
 use native.Mathlib.Omega.{arith}
@@ -12,11 +12,9 @@ use Rattle.candidate_span.specs.declared.bounds.Bounds.{Bounds}
 use Rattle.candidate_span.specs.Bounds.{lowOf, highOf, boundsOf}
 use Rattle.candidate_span.specs.BoundsLaws.{low-within, high-within}
 use Rattle.candidate_span.specs.Listed.{count, startAt, endAt}
-use Rattle.candidate_span.specs.ListedLaws.{Listed}
-use Rattle.candidate_span.specs.ListedLaws.{listed-own, listed-apart, listed-within}
+use Rattle.candidate_span.specs.ListedLaws.{Listed, listed-own, listed-apart, listed-within}
 use Rattle.candidate_points.specs.Blocked.{touches}
 use Rattle.candidate_points.specs.BlockedLaws.{touches-out}
-use Rattle.candidate_points.specs.FlagsLaws.{or-no}
 use Rattle.candidates.specs.declared.context.Context.{Context}
 use Rattle.candidates.specs.Candidates.{pausesBy, inPause}
 
@@ -84,7 +82,7 @@ module _ (x : Context) (ss : List ℕ) (k : ℕ) where
   unfolding pausesBy
   by-one i zero h f g = absurd (omega arith)
   by-one i (suc m) h f g = elim (lt-or-le i m) [
-    | inl l ↦ rw (by-one i m l f (λ (j : ℕ) (a : i < j) (b : j < m). g j a (omega arith)), g m l (omega arith)) (or-no (at i))
+    | inl l ↦ rw (by-one i m l f (λ (j : ℕ) (a : i < j) (b : j < m). g j a (omega arith)), g m l (omega arith)) (or-false (at i))
     | inr l ↦ let e : i ≡ m = omega arith in rw (by-none m (λ (j : ℕ) (a : j < m). f j (omega arith)), e)
   ]
 

@@ -1,5 +1,4 @@
 -- Candidates in a row, each apart from the next: `InRow` by recursion, which survivors fulfil, and what it says of each by its number.
-use mathlib.Core.Path.{_≡_}
 use mathlib.Core.List.{List, [], _∷_, _++_, List·Memᴰ}
 use Prim.Native.Nat.{ℕ, zero, suc, _+_, _-_, _≤_, _<_}
 use native.Mathlib.Omega.{arith}
@@ -32,19 +31,13 @@ module _ (cs : List Candidate) (first last : ℕ) (p : Apart cs first last) wher
   row-from (suc n) a r f h l b =
       go (cheapest (withLeft (suc a) cs)) (survivor-at cs (suc a)) (λ (q : ℕ) (s : q < last) (d : Beyond q (suc a)). row-from n (suc a) q (omega arith) (omega arith) s d)
     where
-      above : (c : Candidate) → c .left ≡ suc a → first < c .left
-      above c e = omega arith
-
-      before : (c : Candidate) → c .left ≡ suc a → c .left < last
-      before c e = omega arith
-
       go : (ds : List Candidate) → Survivor cs (suc a) ds → ((q : ℕ) → q < last → Beyond q (suc a) → InRow q (survivors cs (boundaries (suc a) n)) last)
           → InRow r (ds ++ survivors cs (boundaries (suc a) n)) last
       go ds (none e s) k = rw e (k r l (λ (d : Candidate) (m : List·Memᴰ d cs) (i : suc a < d .left) (j : d .left < last). b d m (omega arith) j))
       go ds (one c e m t) k =
-          let i = p .inside c m (above c t) (before c t) in
-          let q : r < c .left = b c m (omega arith) (before c t) in
-          rw e (q, i .0, k (c .right) (i .1) (λ (d : Candidate) (o : List·Memᴰ d cs) (g : suc a < d .left) (j : d .left < last). p .later c d m o (above c t) (omega arith) j))
+          let i = p .inside c m (omega arith) (omega arith) in
+          let q : r < c .left = b c m (omega arith) (omega arith) in
+          rw e (q, i .0, k (c .right) (i .1) (λ (d : Candidate) (o : List·Memᴰ d cs) (g : suc a < d .left) (j : d .left < last). p .later c d m o (omega arith) (omega arith) j))
 
   pub survivors-in-row : first < last → InRow first (survivors cs (boundaries first (last - suc first))) last
   survivors-in-row h = row-from (last - suc first) first first (omega arith) (omega arith) h (λ (d : Candidate) (m : List·Memᴰ d cs) (i : first < d .left) (j : d .left < last). i)

@@ -69,11 +69,10 @@ module _ (x : Context) (ss runs : List ℕ) (levels : List Float) (ks : List ℕ
   -- every listed candidate has a source
   pub listed-source : (c : Candidate) → List·Memᴰ c (allListed x ss runs levels ks) → Source c
   unfolding allListed
-  listed-source c m = go (List·Memᴰ·append-cases (ownFrom x ss levels (count ss) 0) m)
-    where
-      go : List·Memᴰ c (ownFrom x ss levels (count ss) 0) ⊎ List·Memᴰ c (map (pointAt x ss runs levels) ks) → Source c
-      go (inl i) = own-from (count ss) 0 c (omega arith) i
-      go (inr i) = let p = Memᴰ·of-map (pointAt x ss runs levels) ks i in point (p .0) (in-is ks (p .0) (p .1)) (sym (p .2))
+  listed-source c m = elim (List·Memᴰ·append-cases (ownFrom x ss levels (count ss) 0) m) [
+    | inl i ↦ own-from (count ss) 0 c (omega arith) i
+    | inr i ↦ let p = Memᴰ·of-map (pointAt x ss runs levels) ks i in point (p .0) (in-is ks (p .0) (p .1)) (sym (p .2))
+  ]
 
   -- and whatever has one is listed
   pub source-listed : (c : Candidate) → Source c → List·Memᴰ c (allListed x ss runs levels ks)
@@ -122,12 +121,9 @@ module _ (x : Context) (ss runs : List ℕ) (levels : List Float) (ks : List ℕ
       | inr q ↦
           elim (eq-or-lt-of-le q) [
             | inl e ↦ absurd (lt-irrefl (ownAt x ss levels j .left) (subst (λ (n : ℕ). ownAt x ss levels n .left < ownAt x ss levels j .left) (sym e) h))
-            | inr l ↦ absurd (below (own-inside j b .1) (own-apart j i l b a) h)
+            | inr l ↦ absurd (omega (arith, own-inside j b .1, own-apart j i l b a))
           ]
     ]
-      where
-        below : {a b c : ℕ} → a ≤ b → b < c → c < a → ⊥
-        below f g k = omega arith
 
     -- an own candidate ends before a point that lies after its left end
     own-before : (i k : ℕ) → InnerAt (x .frames) ss i → isIn ks k ≡ true → first < k → k < last → ownAt x ss levels i .left < k → ownAt x ss levels i .right < k
@@ -148,19 +144,13 @@ module _ (x : Context) (ss runs : List ℕ) (levels : List Float) (ks : List ℕ
     pub own-only : (i : ℕ) (c : Candidate) → InnerAt (x .frames) ss i → ownAt x ss levels i .left < ownAt x ss levels i .right → Source c → c .left ≡ ownAt x ss levels i .left
         → c ≡ ownAt x ss levels i
     own-only i c a h (own j b q) e = elim (lt-or-le i j) [
-      | inl l ↦ absurd (crossed h (own-apart i j l a b) (ap (λ (d : Candidate). d .left) (sym q) ∙ e))
+      | inl l ↦ absurd (omega (arith, own-apart i j l a b, ap (λ (d : Candidate). d .left) (sym q) ∙ e))
       | inr l ↦
           elim (eq-or-lt-of-le l) [
             | inl g ↦ q ∙ ap (ownAt x ss levels) g
-            | inr g ↦ absurd (crossing (own-inside j b .1) (own-apart j i g b a) (ap (λ (d : Candidate). d .left) (sym q) ∙ e))
+            | inr g ↦ absurd (omega (arith, own-inside j b .1, own-apart j i g b a, ap (λ (d : Candidate). d .left) (sym q) ∙ e))
           ]
     ]
-      where
-        crossed : {a b c : ℕ} → a < b → b < c → c ≡ a → ⊥
-        crossed f g k = omega arith
-
-        crossing : {a b c : ℕ} → a ≤ b → b < c → a ≡ c → ⊥
-        crossing f g k = omega arith
     own-only i c a h (point k t q) e =
         let r : k ≡ ownAt x ss levels i .left = sym (point-ends k .0) ∙ ap (λ (d : Candidate). d .left) (sym q) ∙ e in
         let w = own-inside i a in

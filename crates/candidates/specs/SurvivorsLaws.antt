@@ -1,5 +1,6 @@
 -- The survivor at a boundary, told by the one silence whose own candidate may have its left end there and by whether a point stands there.
 use mathlib.Core.Path.{_≡_, refl, sym, ap, _∙_}
+use mathlib.Core.Logic.{inl, inr}
 use mathlib.Core.Bool.{Bool, true, false, _||_, cond}
 use mathlib.Core.List.{List, [], _∷_, _++_, map}
 use Prim.Native.Nat.{ℕ, zero, suc, _+_, _-_, _≤_, _<_}
@@ -7,6 +8,7 @@ use native.Mathlib.Omega.{arith}
 use lib.Dec.{eqb}
 use lib.Ieee.{Float, lt}
 use borrow.Author.Tests.{eq-eqb, ne-eqb, eqb-true}
+use Rattle.base_laws.specs.Tests.{tested}
 use Rattle.candidate_span.specs.Bounds.{isInner}
 use Rattle.candidate_span.specs.Listed.{count, startAt, endAt}
 use Rattle.candidate_points.specs.Points.{isIn}
@@ -51,11 +53,10 @@ module _ (x : Context) (ss runs : List ℕ) (levels : List Float) (k : ℕ) wher
   points-step : (b : Bool) (j : ℕ) (ks : List ℕ) (c : Candidate) → (b ≡ true → j ≡ k)
       → ((d : Candidate) → cheapestOf d (withLeft k (map point ks)) ≡ cond (isIn ks k) (cheaper d (point k)) d)
       → cheapestOf c (cond b (point j ∷ withLeft k (map point ks)) (withLeft k (map point ks))) ≡ cond (b || isIn ks k) (cheaper c (point k)) c
-  points-step true j ks c e f = unfold cheapestOf in rw (e refl) (f (cheaper c (point k)) ∙ go (isIn ks k))
-    where
-      go : (b : Bool) → cond b (cheaper (cheaper c (point k)) (point k)) (cheaper c (point k)) ≡ cheaper c (point k)
-      go true = cheaper-twice c (point k)
-      go false = refl
+  points-step true j ks c e f = unfold cheapestOf in rw (e refl) (f (cheaper c (point k)) ∙ elim (tested (isIn ks k)) [
+    | inl t ↦ rw t (cheaper-twice c (point k))
+    | inr t ↦ rw t
+  ])
   points-step false j ks c e f = f c
 
   -- equal points beside another candidate
@@ -66,11 +67,10 @@ module _ (x : Context) (ss runs : List ℕ) (levels : List Float) (k : ℕ) wher
 
   points-first : (b : Bool) (j : ℕ) (ks : List ℕ) → (b ≡ true → j ≡ k) → cheapest (withLeft k (map point ks)) ≡ cond (isIn ks k) (point k ∷ []) []
       → cheapest (cond b (point j ∷ withLeft k (map point ks)) (withLeft k (map point ks))) ≡ cond (b || isIn ks k) (point k ∷ []) []
-  points-first true j ks e f = unfold cheapest in rw (e refl) (ap (λ (c : Candidate). c ∷ []) (points-beside ks (point k) ∙ go (isIn ks k)))
-    where
-      go : (b : Bool) → cond b (cheaper (point k) (point k)) (point k) ≡ point k
-      go true = cheaper-same (point k)
-      go false = refl
+  points-first true j ks e f = unfold cheapest in rw (e refl) (ap (λ (c : Candidate). c ∷ []) (points-beside ks (point k) ∙ elim (tested (isIn ks k)) [
+    | inl t ↦ rw t (cheaper-same (point k))
+    | inr t ↦ rw t
+  ]))
   points-first false j ks e f = f
 
   -- and alone

@@ -1,9 +1,10 @@
 -- Numbers that pass the tests of the exported conversions meet what the conversions ask for.
-use Prim.Native.Nat.{ℕ, _≤_}
+use Prim.Native.Nat.{ℕ}
 use mathlib.Core.Bool.{true, _&&_}
 use mathlib.Core.Path.{_≡_}
-use lib.Dec.{leb, leb→le}
-use Rattle.base_laws.specs.Tests.{holds, both}
+use lib.Dec.{leb}
+use borrow.Author.Tests.{leb-true}
+use Rattle.base_laws.specs.Tests.{both}
 use Rattle.base_terms.specs.Limits.{maxLen}
 use Rattle.grid.specs.Limits.{maxRate, maxFrameRate, maxHop, maxFrames, maxDuration}
 use Rattle.grid.specs.Boundary.{Bounded}
@@ -12,9 +13,6 @@ use Rattle.grid.specs.Validate.{rateOk, frameStepOk}
 use Rattle.grid.specs.ValidateLaws.{within-most, within-pos, step-parts}
 use Rattle.grid.specs.declared.boundary.FrameGrid.{FrameGrid}
 use Rattle.capi.specs.Grid.{framesArgs, samplesArgs, gridArgs}
-
-below : (n most : ℕ) → leb n most ≡ true → n ≤ most
-below n most e = leb→le n most (holds e)
 
 pub frames-args : (frameRate hop ns : ℕ) → framesArgs frameRate hop ns ≡ true → InFrames frameRate hop ns
 unfolding framesArgs
@@ -25,14 +23,14 @@ frames-args frameRate hop ns e =
       rate = within-most frameRate maxFrameRate (q .0);
       step = within-pos hop maxHop (q .1);
       most = within-most hop maxHop (q .1);
-      time = below ns maxDuration (p .1);
+      time = leb-true ns maxDuration (p .1);
     }
 
 pub samples-args : (rate ns : ℕ) → samplesArgs rate ns ≡ true → InSamples rate ns
 unfolding samplesArgs
 samples-args rate ns e =
     let p = both (rateOk rate) (durationOk ns) e in
-    record { rate = within-most rate maxRate (p .0); time = below ns maxDuration (p .1) }
+    record { rate = within-most rate maxRate (p .0); time = leb-true ns maxDuration (p .1) }
 
 pub grid-args : (g : FrameGrid) → gridArgs g ≡ true → Bounded g
 unfolding gridArgs
@@ -45,5 +43,5 @@ grid-args g e =
       rate = within-most (g .«sample_rate») maxRate (s .0);
       divisor = within-pos (g .«frame_rate») maxFrameRate (t .0);
       hop = within-most (g .hop) maxHop (t .1);
-      frames = below (g .frames) maxFrames (q .1);
+      frames = leb-true (g .frames) maxFrames (q .1);
     }

@@ -1,7 +1,7 @@
 -- Boundaries rise strictly up to the frame count in an accepted recording: each frame holds a sample at least, and the last one starts before the length.
 use mathlib.Core.Path.{_≡_, sym, ap, subst, _∙_}
 use mathlib.Core.Logic.{inl, inr}
-use mathlib.Core.Bool.{Bool, true, false, not, _&&_, cond}
+use mathlib.Core.Bool.{Bool, true, false, _&&_, cond}
 use Prim.Native.Nat.{ℕ, zero, suc, _+_, _-_, _*_, _/_, _≤_, _<_}
 use native.Mathlib.Nat.{le-refl, le-of-lt, lt-trans, eq-or-lt-of-le, add-le-add, le-of-eq, not-le-of-lt, suc-mul, div-mul-le-self, le-div-iff-mul-le, zero-mul, zero-div}
 use native.Mathlib.Numerals.{add-one}
@@ -56,21 +56,16 @@ boundary-zero g h = boundary-inner g 0 h ∙ rw (zero-mul, zero-div)
 
 -- document 01: "in an accepted recording each boundary up to the frame count is above the one before"
 pub boundary-rises : (g : FrameGrid) → Accepted g → (k : ℕ) → k < g .frames → boundaryOf g k < boundaryOf g (k + 1)
-boundary-rises g a k h = elim (eq-or-lt-of-le (next k (g .frames) h)) [
-  | inl e ↦
-      rw (boundary-inner g k h, boundary-last g (k + 1) (le-of-eq (sym e)))
-      (subst (λ (j : ℕ). startOf g j < g .len) (before-last k (g .frames) e) (last-start g a (some k (g .frames) h)))
-  | inr l ↦ rw (boundary-inner g k h, boundary-inner g (k + 1) l) (start-rises g a k)
-]
-  where
-    next : (j n : ℕ) → j < n → j + 1 ≤ n
-    next j n l = omega arith
-
-    some : (j n : ℕ) → j < n → 0 < n
-    some j n l = omega arith
-
-    before-last : (j n : ℕ) → j + 1 ≡ n → n - 1 ≡ j
-    before-last j n e = omega arith
+boundary-rises g a k h =
+    let next : (j n : ℕ) → j < n → j + 1 ≤ n = λ j n l. omega arith in
+    let some : (j n : ℕ) → j < n → 0 < n = λ j n l. omega arith in
+    let before-last : (j n : ℕ) → j + 1 ≡ n → n - 1 ≡ j = λ j n e. omega arith in
+    elim (eq-or-lt-of-le (next k (g .frames) h)) [
+      | inl e ↦
+          rw (boundary-inner g k h, boundary-last g (k + 1) (le-of-eq (sym e)))
+          (subst (λ (j : ℕ). startOf g j < g .len) (before-last k (g .frames) e) (last-start g a (some k (g .frames) h)))
+      | inr l ↦ rw (boundary-inner g k h, boundary-inner g (k + 1) l) (start-rises g a k)
+    ]
 
 -- a later boundary is above an earlier one, up to the frame count
 pub boundary-above : (g : FrameGrid) → Accepted g → (j k : ℕ) → j < k → k ≤ g .frames → boundaryOf g j < boundaryOf g k
@@ -80,20 +75,12 @@ boundary-above g a j k h l =
     there : (i m : ℕ) → i < m → i + suc (m - (i + 1)) ≡ m
     there i m d = omega arith
 
-    less : (i d n : ℕ) → i + suc (suc d) ≤ n → i + suc d < n
-    less i d n e = omega arith
-
-    further : (i d : ℕ) → i + suc d + 1 ≡ i + suc (suc d)
-    further i d = omega arith
-
     climb : (d : ℕ) → j + suc d ≤ g .frames → boundaryOf g j < boundaryOf g (j + suc d)
-    climb zero e = boundary-rises g a j (less-one j (g .frames) e)
-      where
-        less-one : (i n : ℕ) → i + 1 ≤ n → i < n
-        less-one i n m = omega arith
+    climb zero e = boundary-rises g a j (omega arith)
     climb (suc d) e =
-        let f = less j d (g .frames) e in
-        lt-trans (climb d (le-of-lt f)) (subst (λ (m : ℕ). boundaryOf g (j + suc d) < boundaryOf g m) (further j d) (boundary-rises g a (j + suc d) f))
+        let f : j + suc d < g .frames = omega arith in
+        let further : j + suc d + 1 ≡ j + suc (suc d) = omega arith in
+        lt-trans (climb d (le-of-lt f)) (rw further at (boundary-rises g a (j + suc d) f))
 
 -- no boundary is above the length
 pub boundary-le-len : (g : FrameGrid) → Accepted g → (k : ℕ) → boundaryOf g k ≤ g .len

@@ -1,10 +1,9 @@
 -- Refusal 5's ranges, for one element each. A NaN is outside every one of them: every comparison with it is false.
 use Prim.Native.Nat.{ℕ}
-use mathlib.Core.Bool.{Bool, _&&_}
+use mathlib.Core.Bool.{Bool, _&&_, true, false}
 use lib.Dec.{leb, eqb}
 use lib.IntN.{pos}
 use lib.Ieee.{Float, inf, fin, le, lt}
-use mathlib.Core.Bool.{true, false}
 
 -- a score lies within 0 to 1
 unfoldable pub isScore : Float → Bool

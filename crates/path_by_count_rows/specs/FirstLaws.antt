@@ -1,29 +1,22 @@
 -- Laws of the first start: what stands before it is over the limit, all from it on may start, and it rises with the candidate where the piece ends.
-use mathlib.Core.Path.{_≡_, refl, sym, _∙_}
-use mathlib.Core.Logic.{_⊎_, inl, inr}
-use mathlib.Core.Bool.{Bool, true, false, not, cond}
+use mathlib.Core.Path.{_≡_, _∙_}
+use mathlib.Core.Logic.{inl, inr}
+use mathlib.Core.Bool.{Bool, not}
 use mathlib.Core.List.{List}
 use Prim.Native.Nat.{ℕ, zero, suc, _+_, _-_, _≤_, _<_}
 use native.Mathlib.Nat.{le-refl, le-trans, lt-of-lt-of-le}
 use native.Mathlib.Numerals.{add-one}
 use native.Mathlib.Omega.{arith}
-use lib.Dec.{T, not-T, leb, leb→le, nleb→lt, le→leb}
+use lib.Ieee.Bits.{is-true, is-false}
+use lib.Dec.{T, not-T, leb, leb→le, nleb→lt}
 use lib.ListN.{length, getD, set, length-set}
 use lib.Seq.{getD-set-same, getD-set-other}
 use Rattle.base_laws.specs.Tests.{passes, lt-or-le}
 use Rattle.path_pieces.specs.Pieces.{pieceLength, isWithin, mayStart}
 use Rattle.path_pieces.specs.Domain.{Candidates}
 use Rattle.path_pieces.specs.DomainLaws.{piece-longer}
-use Rattle.path_pieces.specs.PredecessorLaws.{within-yes, within-is, start-next, start-within, start-none}
+use Rattle.path_pieces.specs.PredecessorLaws.{within-is, start-next, start-within, start-none}
 use Rattle.path_by_count_rows.specs.First.{firstPassing, firstStart, FirstStarts}
-
-pick-yes : (b : Bool) (x y : ℕ) → T b → cond b x y ≡ x
-pick-yes true x y t = refl
-pick-yes false x y t = absurd t
-
-pick-no : (b : Bool) (x y : ℕ) → T (not b) → cond b x y ≡ y
-pick-no true x y t = absurd t
-pick-no false x y t = refl
 
 -- ---- the first that passes
 
@@ -38,14 +31,14 @@ module _ (test : ℕ → Bool) where
   unfolding firstPassing
   first-here i to h t =
       let e : to - i ≡ suc (to - suc i) = omega arith in
-      rw e (sym (pick-yes (test i) i (firstPassing test (suc i) (to - suc i)) t))
+      rw (e, is-true (test i) t)
 
   -- it does not
   pub first-after : (i to : ℕ) → i < to → T (not (test i)) → firstPassing test (suc i) (to - suc i) ≡ firstPassing test i (to - i)
   unfolding firstPassing
   first-after i to h t =
       let e : to - i ≡ suc (to - suc i) = omega arith in
-      rw e (sym (pick-no (test i) i (firstPassing test (suc i) (to - suc i)) t))
+      rw (e, is-false (test i) t)
 
   -- any number do not
   pub first-skip : (i to : ℕ) → i ≤ to → ((k : ℕ) → k < i → T (not (test k))) → firstPassing test i (to - i) ≡ firstPassing test 0 to
@@ -60,10 +53,10 @@ module _ (test : ℕ → Bool) where
   go (suc n) from =
       let after = firstPassing test (suc from) n in
       elim (passes (test from)) [
-        | inl t ↦ rw (pick-yes (test from) from after t) (le-refl from, omega arith, (λ k a b. absurd (omega arith)), λ h. t)
+        | inl t ↦ rw (is-true (test from) t) (le-refl from, omega arith, (λ k a b. absurd (omega arith)), λ h. t)
         | inr t ↦
             let g = go n (suc from) in
-            rw (pick-no (test from) from after t) (
+            rw (is-false (test from) t) (
               omega (arith, g .0),
               omega (arith, g .1),
               (λ k a b. elim (lt-or-le from k) [ inl m ↦ g .2 k m b | inr m ↦ let e : from ≡ k = omega arith in rw e at t ]),

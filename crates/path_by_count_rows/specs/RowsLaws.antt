@@ -14,9 +14,9 @@ use Rattle.base_laws.specs.Tests.{lt-or-le, same-test}
 use Rattle.base_terms.specs.Floats.{nonneg}
 use Rattle.base_laws.specs.Nonneg.{nought-is, nought-nonneg}
 use Rattle.path_pieces.specs.Limits.{maxIndex}
-use Rattle.path_pieces.specs.Pieces.{pieceLength, mayStart, noScore, withPiece, withCutAt, arrival}
+use Rattle.path_pieces.specs.Pieces.{pieceLength, mayStart, noScore, withPiece, withCutAt}
 use Rattle.path_pieces.specs.PiecesLaws.{over-one, cut-at-over}
-use Rattle.path_pieces.specs.Domain.{Candidates, Preferred, Searchable}
+use Rattle.path_pieces.specs.Domain.{Candidates, Searchable}
 use Rattle.path_pieces.specs.DomainLaws.{rights-rise, ends-rise, left-bounded, piece-bounded, piece-nonneg, cut-at-nonneg}
 use Rattle.path_pieces.specs.Least.{heldOf, foundScore, foundIndex, predecessorOf}
 use Rattle.path_pieces.specs.LeastLaws.{least-same, least-skip}
@@ -117,12 +117,6 @@ module _ {l : Lengths} {left right : List ℕ} {leaves : ℕ} {over : List ℕ} 
         few = λ i a. le-trans (x .few i a) (omega (arith, ok .few, x .inside));
         fine = λ i a. x .fine i a;
       }
-
-module _ {l : Lengths} {left right : List ℕ} (ok : Candidates left right) (likes : Preferred l) where
-  -- the score through a candidate is not negative
-  pub arrival-fine : (own : ℕ → Score) {n : ℕ} → ((i : ℕ) → i < n → T (nonneg (own i .cost))) → (j i : ℕ) → j < length left → i < n
-      → T (nonneg (arrival l left right own j i .cost))
-  arrival-fine own fine j i h g = piece-nonneg likes (own i) (pieceLength left right i j) (piece-bounded ok i j h) (fine i g)
 
 -- the best predecessor comes before the candidate
 pub predecessor-high : {l : Lengths} {left right : List ℕ} {leaves : ℕ} {over : List ℕ} {cost : List Float} {k j : ℕ} (b : Best) → RowReady l left right leaves over cost k j

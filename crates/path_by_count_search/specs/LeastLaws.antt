@@ -1,10 +1,11 @@
 -- Laws of the lowest least where every candidate may be chosen: how it goes from a range to a longer one, and the order of candidates behind it.
 use mathlib.Core.Path.{_≡_, refl, sym, subst}
 use mathlib.Core.Logic.{inl, inr}
-use mathlib.Core.Bool.{Bool, true, false, not, _&&_, _||_}
+use mathlib.Core.Bool.{not, _&&_, _||_}
 use Prim.Native.Nat.{ℕ, _+_, _≤_, _<_}
 use native.Mathlib.Nat.{le-refl, le-trans, le-of-lt, lt-trans}
 use native.Mathlib.Omega.{arith}
+use lib.Ieee.Bits.{is-true, is-false}
 use lib.Dec.{T, T-not, not-T, ltb, ltb→lt, nltb→le}
 use lib.Ieee.Fits.{and-l, and-r, and-i}
 use Rattle.base_terms.specs.Floats.{nonneg}
@@ -15,14 +16,6 @@ use Rattle.path_pieces.specs.DomainLaws.{at-most-refl, at-most-trans, less-than
 use Rattle.path_pieces.specs.declared.score.Score.{Score}
 use Rattle.path_pieces.specs.declared.best.Best.{Best}
 use Rattle.path_by_count_search.specs.Least.{entry, pickBest, IsLeast, aheadOf, Before}
-
-pub pick-yes : (b : Bool) (x y : Best) → T b → pickBest b x y ≡ x
-pick-yes true x y t = refl
-pick-yes false x y t = absurd t
-
-pub pick-no : (b : Bool) (x y : Best) → T (not b) → pickBest b x y ≡ y
-pick-no true x y t = absurd t
-pick-no false x y t = refl
 
 -- ---- scores that are not negative
 
@@ -97,8 +90,8 @@ module _ (score : ℕ → Score) where
       let q : T (nonneg (b .score .cost)) =
       subst (λ (s : Score). T (nonneg (s .cost))) (sym (a .0)) (fine (b .at) (omega (arith, a .1 .high))) in
       elim (passes (lessThan (score to) (b .score))) [
-        | inl t ↦ rw (pick-yes (lessThan (score to) (b .score)) (entry score to) b t) (least-next from to b (omega (arith, a .1 .low, a .1 .high)) p t a)
-        | inr t ↦ rw (pick-no (lessThan (score to) (b .score)) (entry score to) b t)
+        | inl t ↦ rw (is-true (lessThan (score to) (b .score)) t) (least-next from to b (omega (arith, a .1 .low, a .1 .high)) p t a)
+        | inr t ↦ rw (is-false (lessThan (score to) (b .score)) t)
             (least-stays from to b (not-less (score to) (b .score) p q t) a)
       ]
 

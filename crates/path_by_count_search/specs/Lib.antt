@@ -17,14 +17,12 @@ pub mod Fill
 pub mod Bound
 --   it is at most every score of its range (`bound-least`)
 pub mod BoundLaws
--- Visit: what the search over the tree finds, and when it looks at a range (`FirstIn`, `Looks`, `outlookOf`)
+-- Visit: what the search over the tree finds, and when it looks at a range (`FirstIn`, `Looks`, `outlookOf`);
+-- the halves of a node's range, in the order of the visits (`halvesOf`, `Parts`)
 pub mod Visit
 --   a range that is left out has nothing better (`none-better`); one candidate, and two ranges (`one-first`, `join`)
+--   the halves hold the whole range (`halves-parts`), and the first of both is the first of the range (`join-parts`)
 pub mod VisitLaws
--- Halves: the halves of a node's range, in the order of the visits (`halvesOf`, `Parts`)
-pub mod Halves
---   they hold the whole range (`halves-parts`), and the first of both is the first of the range (`join-parts`)
-pub mod HalvesLaws
 -- Narrow: the place at which the search starts (`narrowerOf`, `Encloses`)
 pub mod Narrow
 --   it encloses the query (`encloses-narrower`)

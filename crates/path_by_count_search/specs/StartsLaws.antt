@@ -21,14 +21,7 @@ use Rattle.path_by_count_search.specs.Starts.{arrivalAt, Starts, Start}
 module _ {l : Lengths} {right over : List ℕ} {cost : List Float} {base to end : ℕ} (s : Starts l right over cost base to end) where
   -- one start
   pub start-at : (i : ℕ) → i < to → Start right over cost (base + i) i end
-  start-at i h = record {
-    in-right = omega (arith, s .rights);
-    in-over = omega (arith, s .overs);
-    in-cost = omega (arith, s .costs);
-    behind = s .behind i h;
-    bounded = s .bounded;
-    few = s .few i h;
-  }
+  start-at i h = search (arith, s .behind i h, s .few i h)
 
   -- the score through it is not negative
   pub arrival-nonneg : (i : ℕ) → i < to → T (nonneg (arrivalAt l right over cost base end i .cost))
@@ -38,17 +31,7 @@ module _ {l : Lengths} {right over : List ℕ} {cost : List Float} {base to end 
   -- the same for the preferences that a search holds, without the weights of a cut
   pub starts-held : Starts (record { min = l .min; target = l .target; limit = l .limit; weights = lengthWeights (l .weights .target) (l .weights .short) })
       right over cost base to end
-  starts-held = record {
-    preferred = record { preferences = s .preferred .preferences };
-    rights = s .rights;
-    rise = s .rise;
-    behind = s .behind;
-    bounded = s .bounded;
-    overs = s .overs;
-    costs = s .costs;
-    few = s .few;
-    fine = s .fine;
-  }
+  starts-held = search
 
   -- ---- the plain search from `from` on, score by score
 

@@ -10,7 +10,7 @@ use lib.Dec.{T}
 use lib.Ieee.{Float, nan}
 use lib.ListN.{length, getD}
 use Rattle.base_terms.specs.Floats.{nonneg}
-use Rattle.base_laws.specs.Tests.{passes, lt-or-le}
+use Rattle.base_laws.specs.Tests.{passes, lt-or-le, tested}
 use Rattle.path_pieces.specs.Limits.{maxIndex}
 use Rattle.path_pieces.specs.Pieces.{atMost, scoreAt}
 use Rattle.path_pieces.specs.DomainLaws.{at-most-refl, at-most-total, at-most-trans}
@@ -28,11 +28,7 @@ power-positive (twice p e) = omega (arith, power-positive p)
 -- a property of both is one of the lesser
 pub lesser-either : (P : Score → Type 0) (a b : Score) → P a → P b → P (lesserScore a b)
 unfolding lesserScore
-lesser-either P a b x y = go (atMost a b)
-  where
-    go : (t : Bool) → P (pickScore t a b)
-    go true = x
-    go false = y
+lesser-either P a b x y = elim (tested (atMost a b)) [ inl e ↦ rw e x | inr e ↦ rw e y ]
 
 -- it is at most both
 pub lesser-below : (a b : Score) → T (nonneg (a .cost)) → T (nonneg (b .cost)) → T (atMost (lesserScore a b) a) × T (atMost (lesserScore a b) b)

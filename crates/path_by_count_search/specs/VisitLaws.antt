@@ -1,30 +1,34 @@
 -- Why the pruned search finds the first: a range is left out only where its bound is not ahead of the best so far, and the bound is at most each of its scores.
+-- Laws of the halves: in either order they are parts that hold the whole range, and what is the first of both is the first of the range.
 use mathlib.Core.Path.{_≡_, refl, sym, ap, subst, _∙_}
 use mathlib.Core.Logic.{_⊎_, inl, inr}
 use mathlib.Core.Bool.{Bool, false, not}
 use mathlib.Core.List.{List}
-use Prim.Native.Nat.{ℕ, _+_, _-_, _≤_, _<_, max, min}
+use Prim.Native.Nat.{ℕ, _+_, _-_, _≤_, _<_, max, min, _*_, _/_}
 use native.Mathlib.Nat.{le-trans}
 use native.Mathlib.Omega.{arith}
+use lib.Ieee.Bits.{is-true, is-false}
 use lib.Dec.{T}
 use lib.Ieee.{Float}
 use lib.ListN.{getD}
 use borrow.Author.Tests.{lt-ltb, le-ltb}
 use Rattle.base_terms.specs.Floats.{nonneg}
-use Rattle.base_laws.specs.Tests.{passes, lt-or-le}
+use Rattle.base_laws.specs.Tests.{passes, lt-or-le, tested}
 use Rattle.base_terms.specs.Limits.{maxLen}
-use Rattle.path_pieces.specs.Pieces.{atMost, scoreAt}
+use Rattle.path_pieces.specs.Pieces.{atMost, scoreAt, lessThan}
 use Rattle.path_pieces.specs.declared.score.Score.{Score}
 use Rattle.path_pieces.specs.declared.best.Best.{Best}
 use Rattle.path_by_count_search.specs.declared.visit.Query.{Query}
 use Rattle.path_by_count_search.specs.Least.{entry, aheadOf, firstOf, Before}
-use Rattle.path_by_count_search.specs.LeastLaws.{pick-yes, pick-no, before-refl, before-trans, ahead-before, not-ahead-before}
+use Rattle.path_by_count_search.specs.LeastLaws.{before-refl, before-trans, ahead-before, not-ahead-before}
 use Rattle.path_by_count_search.specs.Starts.{Starts}
 use Rattle.path_by_count_search.specs.Tree.{noLeaf, Bound, Covers}
-use Rattle.path_by_count_search.specs.TreeLaws.{bound-of}
+use Rattle.path_by_count_search.specs.TreeLaws.{bound-of, lower-half, upper-half}
 use Rattle.path_by_count_search.specs.Bound.{boundOf}
 use Rattle.path_by_count_search.specs.BoundLaws.{bound-nonneg, bound-least}
-use Rattle.path_by_count_search.specs.Visit.{lengthsOf, Ranged, Looks, OneOf, FirstIn, through, activeBound, outlookOf}
+use Rattle.path_by_count_search.specs.Visit.{lengthsOf, Ranged, Looks, OneOf, FirstIn, through, activeBound, outlookOf, inOrder, halfOf, halvesOf, Halved, Part, Parts}
+use Rattle.path_by_count_search.specs.declared.halves.Half.{Half}
+use Rattle.path_by_count_search.specs.declared.halves.Ordered.{Ordered}
 
 -- ---- reading a bound
 
@@ -102,12 +106,12 @@ module _ (score : ℕ → Score) where
   pub one-first : (lo hi from to : ℕ) (b r : Best) → hi ≡ lo + 1 → from ≤ lo → lo < to → T (nonneg (score lo .cost)) → T (nonneg (b .score .cost))
       → r ≡ firstOf (entry score lo) b → FirstIn score lo hi from to b r
   one-first lo hi from to b r e f t p q h = subst (λ (x : Best). FirstIn score lo hi from to b x) (sym h) (elim (passes (aheadOf (entry score lo) b)) [
-    | inl y ↦ rw (pick-yes (aheadOf (entry score lo) b) (entry score lo) b y) (record {
+    | inl y ↦ rw (is-true (aheadOf (entry score lo) b) y) (record {
       source = inr (record { low = omega arith; high = omega arith; first = f; last = t; is = refl });
       under = ahead-before (entry score lo) b p q y;
       all = λ i a z g u. let k : lo ≡ i = omega arith in subst (λ (j : ℕ). Before (entry score lo) (entry score j)) k (before-refl (entry score lo) p);
     })
-    | inr n ↦ rw (pick-no (aheadOf (entry score lo) b) (entry score lo) b n) (record {
+    | inr n ↦ rw (is-false (aheadOf (entry score lo) b) n) (record {
       source = inl refl;
       under = before-refl b q;
       all = λ i a z g u. let k : lo ≡ i = omega arith in
@@ -181,3 +185,44 @@ module _ (score : ℕ → Score) where
     | inl e ↦ subst (λ (y : Best). T (nonneg (y .score .cost))) (sym e) p
     | inr f ↦ subst (λ (y : Score). T (nonneg (y .cost))) (sym (f .is)) (fine (r .at) (f .last))
   ]
+
+-- what holds in both orders holds in the one that is chosen
+either-order : (P : Ordered → Type 0) (lower upper : Half) → P (record { first = lower; second = upper }) → P (record { first = upper; second = lower })
+    → P (inOrder lower upper)
+unfolding inOrder
+either-order P lower upper x y = elim (tested (lessThan (upper .outlook .score) (lower .outlook .score))) [ inl e ↦ rw e y | inr e ↦ rw e x ]
+
+module _ (q : Query) {right over : List ℕ} {cost : List Float} {node lo hi : ℕ} (c : Covers (q .leaves) (q .to) over cost node lo hi) (h : 1 < hi - lo) where
+  -- they can be read
+  pub halved : Starts (lengthsOf q) right over cost (q .leaves) (q .to) (q .end) → Halved right over cost q node lo hi
+  halved s =
+      let low = lower-half c (λ (e : hi - lo ≡ 1). omega arith) refl in
+      let up = upper-half c (λ (e : hi - lo ≡ 1). omega arith) refl in
+      record { some = omega arith; in-over = bound-of up .in-over; low = looks q s (bound-of low); up = looks q s (bound-of up) }
+
+  -- they are parts that hold all
+  pub halves-parts : {o : Ordered} → o ≡ halvesOf q right over cost node lo hi → Parts q right over cost lo hi o
+  halves-parts {o} e =
+      let mid = lo + (hi - lo) / 2 in
+      let lower : Half = halfOf q right over cost (node * 2) lo mid in
+      let upper : Half = halfOf q right over cost (node * 2 + 1) mid hi in
+      let low : Part q right over cost lo hi lower = search (arith, lower-half c (λ (e : hi - lo ≡ 1). omega arith) refl) in
+      let up : Part q right over cost lo hi upper = search (arith, upper-half c (λ (e : hi - lo ≡ 1). omega arith) refl) in
+      subst (λ (x : Ordered). Parts q right over cost lo hi x) (sym e) (either-order (λ (x : Ordered). Parts q right over cost lo hi x) lower upper
+      (record { one = low; other = up; all = λ i a z. elim (lt-or-le i mid) [ inl l ↦ inl (a, l) | inr l ↦ inr (l, z) ] })
+      (record { one = up; other = low; all = λ i a z. elim (lt-or-le i mid) [ inl l ↦ inr (a, l) | inr l ↦ inl (l, z) ] }))
+
+module _ (q : Query) {right over : List ℕ} {cost : List Float} {lo hi : ℕ} where
+  -- a part whose outlook is not ahead of the best so far has nothing better
+  pub left-out : {h : Half} {best : Best} → Starts (lengthsOf q) right over cost (q .leaves) (q .to) (q .end) → Part q right over cost lo hi h
+      → T (nonneg (best .score .cost)) → aheadOf (h .outlook) best ≡ false → FirstIn (through q right over cost) (h .lo) (h .hi) (q .from) (q .to) best best
+  left-out {h} {best} s p f x = none-better q s (p .covers) f (subst (λ (o : Best). aheadOf o best ≡ false) (p .seen) x)
+
+  -- one part and then the other
+  pub join-parts : {o : Ordered} (b m r : Best) → Parts q right over cost lo hi o
+      → FirstIn (through q right over cost) (o .first .lo) (o .first .hi) (q .from) (q .to) b m
+      → FirstIn (through q right over cost) (o .second .lo) (o .second .hi) (q .from) (q .to) m r
+      → FirstIn (through q right over cost) lo hi (q .from) (q .to) b r
+  join-parts {o} b m r p x y =
+      join (through q right over cost) (o .first .lo) (o .first .hi) (o .second .lo) (o .second .hi) lo hi (q .from) (q .to) b m r x y (p .all)
+      (p .one .low) (p .one .high) (p .other .low) (p .other .high)

@@ -9,8 +9,7 @@ use path_pieces::best::Best;
 use path_pieces::score;
 use path_pieces::score::Score;
 ghost use mathlib.Core.Path.{_≡_};
-ghost use Rattle.path_by_count_search.specs.Visit.{Looks, outlookOf};
-ghost use Rattle.path_by_count_search.specs.Halves.{inOrder, halvesOf, Halved};
+ghost use Rattle.path_by_count_search.specs.Visit.{Looks, outlookOf, inOrder, halvesOf, Halved};
 
 // A half: its node, its range, and its outlook.
 pub struct Half {

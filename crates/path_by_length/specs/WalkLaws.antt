@@ -28,9 +28,6 @@ module _ {parent : ℕ → ℕ} {last : ℕ} (falls : Falling parent last) where
 
   -- ---- counting
 
-  pub counting-start : Counting parent last 1 last
-  counting-start = (le-refl last, omega arith, omega arith)
-
   pub counting-next : (len j : ℕ) → 0 < j → Counting parent last len j → Counting parent last (len + 1) (parent j)
   counting-next len j h (a, b, e) =
       let f = falls j h a in

@@ -13,7 +13,7 @@ use Rattle.path_tests.specs.declared.refusal.Verdict.the-variants.{Fine, Fails}
 use Rattle.path_tests.specs.declared.refusal.Refusal.{Refusal}
 use Rattle.path_list.specs.declared.seek.Answer.{Answer}
 use Rattle.path_list.specs.declared.seek.Answer.the-variants.{Refused}
-use Rattle.path_list.specs.Operation.{Outcome, outcomeOf, soughtOf, End, endOf, pathOf}
+use Rattle.path_list.specs.Operation.{Outcome, outcomeOf, soughtOf, endOf, pathOf}
 
 module _ (l : Lengths) (left right : List ℕ) (cost : List Float) (mode : Mode) (path : List ℕ) (work : Work) (parent : List ℕ) where
   -- a refusal up to 13

@@ -2,7 +2,7 @@
 -- Past the minimum and the target the length cost rises: it is then the bound of all longer lengths.
 use mathlib.Core.Path.{_≡_, ap, subst}
 use mathlib.Core.Logic.{_⊎_, inl, inr}
-use mathlib.Core.Bool.{Bool, true, false, not, cond}
+use mathlib.Core.Bool.{true, false, not}
 use mathlib.Core.List.{List}
 use Prim.Native.Nat.{ℕ, zero, suc, _≤_, _<_}
 use native.Mathlib.Nat.{le-trans, le-of-eq, le-of-suc-le-suc}
@@ -12,7 +12,7 @@ use lib.Dec.{T, lit≤, ltb}
 use lib.IntN.{pos}
 use lib.Ieee.{Float, nan, binary64, le, lt, ofInt}
 use lib.ListN.{length, getD}
-use Rattle.base_laws.specs.Tests.{same-test, holds, lt-or-le}
+use Rattle.base_laws.specs.Tests.{same-test, holds, lt-or-le, tested}
 use Rattle.base_laws.specs.Order.{float-le-refl, float-le-lt-trans}
 use Rattle.base_laws.specs.Whole.{whole-mono}
 use Rattle.base_terms.specs.Floats.{nought, nonneg}
@@ -169,17 +169,9 @@ module _ {cut : List Float} {n : ℕ} (ok : Costs cut n) (j : ℕ) (h : j < n) w
   -- it keeps the cost from being negative
   pub cut-at-nonneg : (s : Score) → T (nonneg (s .cost)) → T (nonneg (withCutAt cut j s .cost))
   unfolding withCutAt
-  cut-at-nonneg s p = go (ltb (suc j) (length cut))
-    where
-      go : (b : Bool) → T (nonneg (cond b (withCut s (getD cut j nan)) s .cost))
-      go true = cut-nonneg s (getD cut j nan) p (ok .cost-nonneg j h)
-      go false = p
+  cut-at-nonneg s p = elim (tested (ltb (suc j) (length cut))) [ inl e ↦ rw e (cut-nonneg s (getD cut j nan) p (ok .cost-nonneg j h)) | inr e ↦ rw e p ]
 
   -- and keeps the order
   pub cut-at-keeps : (s t : Score) → T (nonneg (s .cost)) → T (atMost s t) → T (atMost (withCutAt cut j s) (withCutAt cut j t))
   unfolding withCutAt
-  cut-at-keeps s t p k = go (ltb (suc j) (length cut))
-    where
-      go : (b : Bool) → T (atMost (cond b (withCut s (getD cut j nan)) s) (cond b (withCut t (getD cut j nan)) t))
-      go true = cut-keeps s t (getD cut j nan) p (ok .cost-nonneg j h) k
-      go false = k
+  cut-at-keeps s t p k = elim (tested (ltb (suc j) (length cut))) [ inl e ↦ rw e (cut-keeps s t (getD cut j nan) p (ok .cost-nonneg j h) k) | inr e ↦ rw e k ]

@@ -1,13 +1,14 @@
 -- Laws of the lowest least: how it goes from a range to a longer one, that it looks at nothing outside its range, and that it is what its name says.
 use mathlib.Core.Path.{_≡_, refl, sym, ap, subst, _∙_}
 use mathlib.Core.Logic.{_⊎_, inl, inr}
-use mathlib.Core.Bool.{Bool, true, false, not}
-use Prim.Native.Nat.{ℕ, zero, suc, _+_, _-_, _≤_, _<_, min}
+use mathlib.Core.Bool.{Bool, not}
+use Prim.Native.Nat.{ℕ, zero, suc, _+_, _-_, _≤_, _<_}
 use native.Mathlib.Nat.{le-refl}
 use native.Mathlib.Omega.{arith}
+use lib.Ieee.Bits.{is-true, is-false}
 use lib.Dec.{T, T-not}
 use Rattle.base_terms.specs.Floats.{nonneg}
-use Rattle.base_laws.specs.Tests.{passes, lt-or-le}
+use Rattle.base_laws.specs.Tests.{passes, tested, lt-or-le}
 use Rattle.base_laws.specs.Scores.{score-lt-le-trans, score-le-lt-trans}
 use Rattle.path_pieces.specs.Pieces.{atMost, lessThan}
 use Rattle.path_pieces.specs.DomainLaws.{at-most-refl, at-most-trans, at-most-total, less-than-is}
@@ -15,17 +16,9 @@ use Rattle.path_pieces.specs.declared.score.Score.{Score}
 use Rattle.path_pieces.specs.declared.best.Best.{Best}
 use Rattle.path_pieces.specs.declared.best.Found.{Found}
 use Rattle.path_pieces.specs.declared.best.Found.the-variants.{At, Nothing}
-use Rattle.path_pieces.specs.Least.{heldOf, foundScore, foundIndex, pickFound, orBetter, lowestLeast, LowestLeast, Answers, BestSoFar}
+use Rattle.path_pieces.specs.Least.{heldOf, foundScore, foundIndex, orBetter, lowestLeast, LowestLeast, Answers, BestSoFar}
 
 -- ---- from a range to a longer one
-
-pick-yes : (b : Bool) (x y : Found) → T b → pickFound b x y ≡ x
-pick-yes true x y t = refl
-pick-yes false x y t = absurd t
-
-pick-no : (b : Bool) (x y : Found) → T (not b) → pickFound b x y ≡ y
-pick-no true x y t = absurd t
-pick-no false x y t = refl
 
 module _ (test : ℕ → Bool) (score : ℕ → Score) where
   -- the range is empty
@@ -42,14 +35,14 @@ module _ (test : ℕ → Bool) (score : ℕ → Score) where
   unfolding lowestLeast
   least-front i j h t =
       let after = lowestLeast test score (suc i) (j - suc i) in
-      step-eq i j h ∙ pick-yes (test i) (orBetter (score i) i after) after t
+      step-eq i j h ∙ rw (is-true (test i) t)
 
   -- one that does not
   pub least-past : (i j : ℕ) → i < j → T (not (test i)) → lowestLeast test score i (j - i) ≡ lowestLeast test score (suc i) (j - suc i)
   unfolding lowestLeast
   least-past i j h t =
       let after = lowestLeast test score (suc i) (j - suc i) in
-      step-eq i j h ∙ pick-no (test i) (orBetter (score i) i after) after t
+      step-eq i j h ∙ rw (is-false (test i) t)
 
   -- any number of them
   pub least-skip : (from i j : ℕ) → from ≤ i → i ≤ j → ((k : ℕ) → from ≤ k → k < i → T (not (test k)))
@@ -74,19 +67,17 @@ module _ (test : ℕ → Bool) (score : ℕ → Score) where
           let after = go d (suc from) (omega arith) (λ k a l. worse k (omega arith) l) in
           elim (passes (test from)) [
             | inl t ↦
-                sym (least-front from j (omega arith) t ∙ rw (← after)
-                (pick-no (atMost (score from) s) (At (score from) from) (At s b) (worse from (le-refl from) (omega arith))))
+                sym (least-front from j (omega arith) t ∙ rw (← after, is-false (atMost (score from) s) (worse from (le-refl from) (omega arith))))
             | inr t ↦ after ∙ sym (least-past from j (omega arith) t)
           ]
 
 -- nothing is found only where none passes
 never : (f : Found) (s : Score) (i : ℕ) → orBetter s i f ≡ Nothing → ⊥
 never Nothing s i e = let z : _≡_ {A = ℕ} 0 1 = cc in omega arith
-never (At t k) s i e = go (atMost s t) e
-  where
-    go : (b : Bool) → pickFound b (At s i) (At t k) ≡ Nothing → ⊥
-    go true e = let z : _≡_ {A = ℕ} 0 1 = cc in omega arith
-    go false e = let z : _≡_ {A = ℕ} 0 1 = cc in omega arith
+never (At t k) s i e = elim (tested (atMost s t)) [
+  | inl b ↦ let z : _≡_ {A = ℕ} 0 1 = cc (rw b at e) in omega arith
+  | inr b ↦ let z : _≡_ {A = ℕ} 0 1 = cc (rw b at e) in omega arith
+]
 
 pub least-nothing : (test : ℕ → Bool) (score : ℕ → Score) (from j : ℕ) → lowestLeast test score from (j - from) ≡ Nothing
     → (k : ℕ) → from ≤ k → k < j → T (not (test k))
@@ -98,9 +89,9 @@ least-nothing test score from j e k h g = go (j - from) from e h (omega arith)
     go (suc n) from e h g =
         let after = lowestLeast test score (suc from) n in
         elim (passes (test from)) [
-          | inl t ↦ absurd (never after (score from) from (sym (pick-yes (test from) (orBetter (score from) from after) after t) ∙ e))
+          | inl t ↦ absurd (never after (score from) from (rw (is-true (test from) t) at e))
           | inr t ↦ elim (lt-or-le from k) [
-            | inl l ↦ go n (suc from) (sym (pick-no (test from) (orBetter (score from) from after) after t) ∙ e) l (omega arith)
+            | inl l ↦ go n (suc from) (rw (is-false (test from) t) at e) l (omega arith)
             | inr m ↦ let q : from ≡ k = omega arith in subst (λ (i : ℕ). T (not (test i))) q t
           ]
         ]
@@ -128,13 +119,12 @@ module _ (test : ℕ → Bool) (score : ℕ → Score) (from j : ℕ) where
   -- no candidate is left
   pub so-far-done : (best : Found) (i : ℕ) → i ≤ from → BestSoFar test score from j best i → best ≡ lowestLeast test score from (j - from)
   unfolding lowestLeast
-  so-far-done best i h (a, b, e) = elim (lt-or-le j from) [
-    | inl l ↦ let q : j - i ≡ j - from = omega arith in let z : j - from ≡ 0 = omega arith in e ∙ rw q (rw z (empty i))
-    | inr g ↦ let q : i ≡ from = omega arith in e ∙ rw q
-  ]
-    where
-      empty : (i : ℕ) → lowestLeast test score i 0 ≡ lowestLeast test score from 0
-      empty i = refl
+  so-far-done best i h (a, b, e) =
+      let empty : (i : ℕ) → lowestLeast test score i 0 ≡ lowestLeast test score from 0 = λ i. refl in
+      elim (lt-or-le j from) [
+        | inl l ↦ let q : j - i ≡ j - from = omega arith in let z : j - from ≡ 0 = omega arith in e ∙ rw q (rw z (empty i))
+        | inr g ↦ let q : i ≡ from = omega arith in e ∙ rw q
+      ]
 
 -- ---- it looks at nothing outside its range
 
@@ -223,9 +213,9 @@ module _ (test : ℕ → Bool) (score : ℕ → Score) (to : ℕ) where
         → Answers test score from to (orBetter (score from) from f)
     front from Nothing h t a = (refl, front-best from h t (λ k g l u. absurd (T-not (test k) (a k g l) u)))
     front from (At s i) h t (e, a) = elim (passes (atMost (score from) s)) [
-      | inl y ↦ rw (pick-yes (atMost (score from) s) (At (score from) from) (At s i) y)
+      | inl y ↦ rw (is-true (atMost (score from) s) y)
           (refl, front-best from h t (λ k g l u. at-most-trans (score from) (score i) (score k) (rw e at y) (a .least k g l u)))
-      | inr n ↦ rw (pick-no (atMost (score from) s) (At (score from) from) (At s i) n) (e, after-best from i h t (rw e at n) a)
+      | inr n ↦ rw (is-false (atMost (score from) s) n) (e, after-best from i h t (rw e at n) a)
     ]
 
     -- the definition gives the lowest candidate of the least score, and nothing only where none passes
@@ -239,8 +229,8 @@ module _ (test : ℕ → Bool) (score : ℕ → Score) (to : ℕ) where
             let after = lowestLeast test score (suc from) n in
             let a : Answers test score (suc from) to after = go n (suc from) (omega arith) in
             elim (passes (test from)) [
-              | inl t ↦ rw (pick-yes (test from) (orBetter (score from) from after) after t) (front from after (omega arith) t a)
-              | inr t ↦ rw (pick-no (test from) (orBetter (score from) from after) after t) (past from after t a)
+              | inl t ↦ rw (is-true (test from) t) (front from after (omega arith) t a)
+              | inr t ↦ rw (is-false (test from) t) (past from after t a)
             ]
 
 -- what is found where some candidate passes

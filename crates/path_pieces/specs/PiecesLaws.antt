@@ -1,6 +1,5 @@
 -- Laws of a piece over the limit, what the test says and that it counts at most one, and of the cut at a candidate.
-use mathlib.Core.Path.{_≡_, refl}
-use mathlib.Core.Bool.{Bool, true, false, cond}
+use mathlib.Core.Path.{_≡_}
 use mathlib.Core.List.{List}
 use Prim.Native.Nat.{ℕ, suc, _≤_, _<_}
 use native.Mathlib.Omega.{arith}
@@ -9,7 +8,7 @@ use mathlib.Core.Logic.{inl, inr}
 use lib.Dec.{ltb}
 use lib.Ieee.{Float, nan}
 use lib.ListN.{length, getD}
-use Rattle.base_laws.specs.Tests.{lt-or-le}
+use Rattle.base_laws.specs.Tests.{lt-or-le, tested}
 use Rattle.path_pieces.specs.Pieces.{overOf, withCut, withCutAt}
 use Rattle.path_pieces.specs.declared.score.Score.{Score}
 
@@ -26,11 +25,7 @@ over-within limit len h = rw (le-ltb limit len h)
 -- it counts once at most
 pub over-one : (limit len : ℕ) → overOf limit len ≤ 1
 unfolding overOf
-over-one limit len = go (ltb limit len)
-  where
-    go : (b : Bool) → cond b 1 0 ≤ 1
-    go true = omega arith
-    go false = omega arith
+over-one limit len = elim (tested (ltb limit len)) [ inl e ↦ rw e (omega arith) | inr e ↦ rw e (omega arith) ]
 
 -- and no less for a longer piece
 pub over-mono : (limit len more : ℕ) → len ≤ more → overOf limit len ≤ overOf limit more
@@ -54,8 +49,4 @@ cut-at-last cut j s h = rw (le-ltb (suc j) (length cut) h)
 -- it adds no piece
 pub cut-at-over : (cut : List Float) (j : ℕ) (s : Score) → withCutAt cut j s .over ≡ s .over
 unfolding withCutAt withCut
-cut-at-over cut j s = go (ltb (suc j) (length cut))
-  where
-    go : (b : Bool) → cond b (withCut s (getD cut j nan)) s .over ≡ s .over
-    go true = refl
-    go false = refl
+cut-at-over cut j s = elim (tested (ltb (suc j) (length cut))) [ inl e ↦ rw e | inr e ↦ rw e ]

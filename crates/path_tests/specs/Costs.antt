@@ -1,7 +1,7 @@
 -- Document 01's refusal 17: costs, length weights, target and minimum. A NaN is outside every range: every comparison with it is false.
 use mathlib.Core.Bool.{Bool, false, _&&_}
 use lib.IntN.{pos, negsuc}
-use lib.Ieee.{Float, inf, fin, binary64, le, lt}
+use lib.Ieee.{Float, inf, fin, le, lt}
 use Rattle.base_terms.specs.Floats.{nonneg}
 use Rattle.path_pieces.specs.declared.lengths.Lengths.{Lengths}
 

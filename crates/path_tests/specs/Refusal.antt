@@ -1,6 +1,6 @@
 -- Document 01's refusals of "path over lent candidates" before 14: 15, 16, 17, 8 and 13, in this order.
 use Prim.Native.Nat.{ℕ}
-use mathlib.Core.Bool.{Bool, true, false, _&&_, cond}
+use mathlib.Core.Bool.{Bool, true, _&&_, cond}
 use mathlib.Core.List.{List}
 use lib.Dec.{ltb, leb}
 use lib.Ieee.{Float}

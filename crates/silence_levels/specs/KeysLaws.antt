@@ -1,7 +1,7 @@
 -- A value comes back from its key, and collecting one frame after another gives the keys of the values with signal.
 use mathlib.Core.Path.{_≡_, refl, sym, ap, _∙_}
 use mathlib.Core.Logic.{inl, inr}
-use mathlib.Core.Bool.{Bool, true, false, not, cond, _&&_}
+use mathlib.Core.Bool.{Bool, true, false, cond}
 use mathlib.Core.List.{List, [], _∷_, _++_, map, map-append, append-assoc, append-nil}
 use Prim.Native.Nat.{ℕ, suc, _+_, _-_, _≤_, _<_}
 use native.Mathlib.Nat.{not-suc-le-zero}
@@ -12,8 +12,8 @@ use lib.Ieee.{Float, binary32, fits, toBits, ofBits, nan}
 use lib.Ieee.Bits.{ofBits-toBits, toBits-lt, toBits-ofBits, ofBits-fits, is-true}
 use lib.ListN.{length, getD, take, drop, set, length-map, length-set, length-append, length-drop}
 use lib.Seq.{take-suc, take-all, drop-cons, set-at, take-at, length-take-le}
-use borrow.Author.Tests.{lt-ltb, le-ltb, eq-eqb, ne-eqb}
-use Rattle.base_laws.specs.Tests.{lt-or-le, holds}
+use borrow.Author.Tests.{lt-ltb, le-ltb, eq-eqb, ne-eqb, not-true, not-false}
+use Rattle.base_laws.specs.Tests.{lt-or-le, holds, tested}
 use Rattle.base_terms.specs.Lists.{allOf}
 use Rattle.base_code.specs.Elements.{all-parts}
 use Rattle.grid.specs.Values.{isFinite}
@@ -84,21 +84,18 @@ unfolding withSignal
 with-signal-more [] [] v f e = refl
 with-signal-more [] (g ∷ fs) v f e = absurd (not-suc-le-zero {n = 0} (omega arith))
 with-signal-more (w ∷ vs) [] v f e = absurd (not-suc-le-zero {n = 0} (omega arith))
-with-signal-more (w ∷ vs) (g ∷ fs) v f e = go (eqb g 0) (withSignal vs fs) (cond (eqb f 0) (v ∷ []) []) (with-signal-more vs fs v f (omega arith))
-  where
-    go : (b : Bool) {k : List Float} (l m : List Float) → k ≡ l ++ m → cond b (w ∷ k) k ≡ cond b (w ∷ l) l ++ m
-    go true l m h = ap (λ (t : List Float). w ∷ t) h
-    go false l m h = h
+with-signal-more (w ∷ vs) (g ∷ fs) v f e =
+    let h = with-signal-more vs fs v f (omega arith) in
+    elim (tested (eqb g 0)) [ inl t ↦ rw t (ap (λ (k : List Float). w ∷ k) h) | inr t ↦ rw t h ]
 
 pub with-signal-length : (vs : List Float) (fs : List ℕ) → length (withSignal vs fs) ≤ length vs
 unfolding withSignal
 with-signal-length [] fs = omega arith
 with-signal-length (v ∷ vs) [] = omega arith
-with-signal-length (v ∷ vs) (f ∷ fs) = go (eqb f 0) (with-signal-length vs fs)
-  where
-    go : (b : Bool) → length (withSignal vs fs) ≤ length vs → length (cond b (v ∷ withSignal vs fs) (withSignal vs fs)) ≤ suc (length vs)
-    go true h = omega arith
-    go false h = omega arith
+with-signal-length (v ∷ vs) (f ∷ fs) = elim (tested (eqb f 0)) [
+  | inl e ↦ rw e (omega (arith, with-signal-length vs fs))
+  | inr e ↦ rw e (omega (arith, with-signal-length vs fs))
+]
 
 -- one key more
 put : (ks : List Float) (v : Float) (keys : List ℕ) (n : ℕ) → n ≡ length ks → n < length keys
@@ -159,51 +156,34 @@ none-with-signal : (vs : List Float) (fs : List ℕ) → allOf isLost fs ≡ tru
 unfolding withSignal allOf isLost
 none-with-signal [] fs h = refl
 none-with-signal (v ∷ vs) [] h = refl
-none-with-signal (v ∷ vs) (f ∷ fs) h = go (eqb f 0) h (none-with-signal vs fs)
-  where
-    go : (b : Bool) → (not b && allOf isLost fs) ≡ true → (allOf isLost fs ≡ true → length (withSignal vs fs) ≡ 0) → length (cond b (v ∷ withSignal vs fs) (withSignal vs fs)) ≡ 0
-    go true e k = absurd (holds e)
-    go false e k = k e
+none-with-signal (v ∷ vs) (f ∷ fs) h = elim (tested (eqb f 0)) [ inl e ↦ absurd (holds (rw e at h)) | inr e ↦ rw e (none-with-signal vs fs (rw e at h)) ]
 
 some-with-signal : (vs : List Float) (fs : List ℕ) → length fs ≡ length vs → allOf isLost fs ≡ false → 0 < length (withSignal vs fs)
 unfolding withSignal allOf isLost
 some-with-signal [] [] e h = absurd (holds (sym h))
 some-with-signal [] (f ∷ fs) e h = absurd (not-suc-le-zero {n = 0} (omega arith))
 some-with-signal (v ∷ vs) [] e h = absurd (not-suc-le-zero {n = 0} (omega arith))
-some-with-signal (v ∷ vs) (f ∷ fs) e h = go (eqb f 0) h (some-with-signal vs fs (omega arith))
-  where
-    go : (b : Bool) → (not b && allOf isLost fs) ≡ false → (allOf isLost fs ≡ false → 0 < length (withSignal vs fs)) → 0 < length (cond b (v ∷ withSignal vs fs) (withSignal vs fs))
-    go true d k = omega arith
-    go false d k = k d
+some-with-signal (v ∷ vs) (f ∷ fs) e h = elim (tested (eqb f 0)) [ inl t ↦ rw t (omega arith) | inr t ↦ rw t (some-with-signal vs fs (omega arith) (rw t at h)) ]
 
 -- no frame has signal: no value is left
 pub signal-none : (values : List Float) (flags : List ℕ) → anySignal flags ≡ false → length (withSignal values flags) ≡ 0
 unfolding anySignal
-signal-none values flags h = go (allOf isLost flags) refl h
-  where
-    go : (b : Bool) → allOf isLost flags ≡ b → not b ≡ false → length (withSignal values flags) ≡ 0
-    go true e d = none-with-signal values flags e
-    go false e d = absurd (holds (sym d))
+signal-none values flags h = none-with-signal values flags (not-false (allOf isLost flags) h)
 
 -- a frame has signal: a value is left
 pub signal-some : (values : List Float) (flags : List ℕ) → length flags ≡ length values → anySignal flags ≡ true → 0 < length (withSignal values flags)
 unfolding anySignal
-signal-some values flags l h = go (allOf isLost flags) refl h
-  where
-    go : (b : Bool) → allOf isLost flags ≡ b → not b ≡ true → 0 < length (withSignal values flags)
-    go true e d = absurd (holds d)
-    go false e d = some-with-signal values flags l e
+signal-some values flags l h = some-with-signal values flags l (not-true (allOf isLost flags) h)
 
 -- a test that every value passes is passed by every one with signal
 pub with-signal-all : (test : Float → Bool) (values : List Float) (flags : List ℕ) → allOf test values ≡ true → allOf test (withSignal values flags) ≡ true
 unfolding withSignal allOf
 with-signal-all test [] flags h = refl
 with-signal-all test (v ∷ vs) [] h = refl
-with-signal-all test (v ∷ vs) (f ∷ fs) h = let a = all-parts test v vs h in go (eqb f 0) (a .0) (with-signal-all test vs fs (a .1))
-  where
-    go : (b : Bool) → test v ≡ true → allOf test (withSignal vs fs) ≡ true → allOf test (cond b (v ∷ withSignal vs fs) (withSignal vs fs)) ≡ true
-    go true p q = rw (p, q)
-    go false p q = q
+with-signal-all test (v ∷ vs) (f ∷ fs) h = let a = all-parts test v vs h in elim (tested (eqb f 0)) [
+  | inl e ↦ rw (e, a .0, with-signal-all test vs fs (a .1))
+  | inr e ↦ rw e (with-signal-all test vs fs (a .1))
+]
 
 -- every value is an f32
 pub fits-all : (values : List Float) → ((i : ℕ) → T (fits binary32 (getD values i nan))) → allOf (fits binary32) values ≡ true
@@ -227,11 +207,10 @@ with-signal-same [] [] flags e = refl
 with-signal-same [] (w ∷ ws) flags e = absurd (not-suc-le-zero {n = 0} (omega arith))
 with-signal-same (v ∷ vs) [] flags e = absurd (not-suc-le-zero {n = 0} (omega arith))
 with-signal-same (v ∷ vs) (w ∷ ws) [] e = refl
-with-signal-same (v ∷ vs) (w ∷ ws) (f ∷ fs) e = go (eqb f 0) (with-signal-same vs ws fs (omega arith))
-  where
-    go : (b : Bool) → length (withSignal vs fs) ≡ length (withSignal ws fs) → length (cond b (v ∷ withSignal vs fs) (withSignal vs fs)) ≡ length (cond b (w ∷ withSignal ws fs) (withSignal ws fs))
-    go true h = ap suc h
-    go false h = h
+with-signal-same (v ∷ vs) (w ∷ ws) (f ∷ fs) e = elim (tested (eqb f 0)) [
+  | inl t ↦ rw t (ap suc (with-signal-same vs ws fs (omega arith)))
+  | inr t ↦ rw t (with-signal-same vs ws fs (omega arith))
+]
 
 -- ---- the list that collecting leaves
 

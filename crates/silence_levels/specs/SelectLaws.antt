@@ -12,7 +12,7 @@ use lib.ListN.{length, getD, take, drop, set, replicate, drop-of-length-le}
 use lib.Pow.{pow-pos, pow-add, shr-le}
 use lib.Seq.{set-getD, take-suc, take-all, length-take-le}
 use borrow.Author.Tests.{lt-ltb, le-ltb, eq-eqb, ne-eqb, eqb-true, eqb-false}
-use Rattle.base_laws.specs.Tests.{lt-or-le}
+use Rattle.base_laws.specs.Tests.{lt-or-le, tested}
 use Rattle.silence_levels.specs.declared.select.Place.{Place}
 use Rattle.silence_levels.specs.declared.select.Block.{Block}
 use Rattle.silence_levels.specs.Sorted.{sorted, countOf, belows}
@@ -162,14 +162,12 @@ module _ (keys : List ℕ) (shift prefix end : ℕ) where
   pub counting-adds : (counts : List ℕ) (i r : ℕ) → i < end → r ≡ cond (eqb (getD keys i 0 / 2 ^ shift / 2048) prefix) 1 0
       → Counting keys shift prefix end counts i
       → Counting keys shift prefix end (set counts (getD keys i 0 / 2 ^ shift % 2048) (getD counts (getD keys i 0 / 2 ^ shift % 2048) 0 + r)) (i + 1)
-  counting-adds counts i r l e h = go (eqb (getD keys i 0 / 2 ^ shift / 2048) prefix) refl e
-    where
-      go : (b : Bool) → eqb (getD keys i 0 / 2 ^ shift / 2048) prefix ≡ b → r ≡ cond b 1 0
-          → Counting keys shift prefix end (set counts (getD keys i 0 / 2 ^ shift % 2048) (getD counts (getD keys i 0 / 2 ^ shift % 2048) 0 + r)) (i + 1)
-      go true q f = rw f (counting-hit counts i l (eqb-true (getD keys i 0 / 2 ^ shift / 2048) prefix q) h)
-      go false q f =
-          let same : getD counts (getD keys i 0 / 2 ^ shift % 2048) 0 + r ≡ getD counts (getD keys i 0 / 2 ^ shift % 2048) 0 = omega arith in
-          rw (same, set-getD) (counting-miss counts i l (eqb-false (getD keys i 0 / 2 ^ shift / 2048) prefix q) h)
+  counting-adds counts i r l e h = elim (tested (eqb (getD keys i 0 / 2 ^ shift / 2048) prefix)) [
+    | inl q ↦ rw (rw q at e) (counting-hit counts i l (eqb-true (getD keys i 0 / 2 ^ shift / 2048) prefix q) h)
+    | inr q ↦
+        let same : getD counts (getD keys i 0 / 2 ^ shift % 2048) 0 + r ≡ getD counts (getD keys i 0 / 2 ^ shift % 2048) 0 = omega (arith, rw q at e) in
+        rw (same, set-getD) (counting-miss counts i l (eqb-false (getD keys i 0 / 2 ^ shift / 2048) prefix q) h)
+  ]
 
   -- no count is larger than the number of keys
   pub counting-small : (counts : List ℕ) (i d : ℕ) → d < 2048 → i < end → Counting keys shift prefix end counts i → getD counts d 0 < length keys

@@ -164,7 +164,4 @@ ranked-at (y ∷ ys) (suc k) v (a, r) h =
 pub ranked-sorted : (xs : List ℕ) (k v : ℕ) → Ranked xs k v → getD (sorted xs) k 0 ≡ v
 ranked-sorted xs k v h =
     ranked-at (sorted xs) k v (rising-sorted xs)
-    (record {
-      below = rw (count-sorted (λ (x : ℕ). ltb x v) xs) (h .below);
-      reached = rw (count-sorted (λ (x : ℕ). ltb x (suc v)) xs) (h .reached);
-    })
+    (search (count-sorted (λ (x : ℕ). ltb x v) xs, count-sorted (λ (x : ℕ). ltb x (suc v)) xs))

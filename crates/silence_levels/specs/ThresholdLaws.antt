@@ -8,7 +8,7 @@ use lib.Ieee.Scale.{finite}
 use Rattle.base_laws.specs.Tests.{holds}
 use Rattle.base_laws.specs.Order.{float-le-refl}
 use Rattle.base_laws.specs.Nonneg.{finite-number}
-use Rattle.base_laws.specs.Numbers.{float-add-finite, float-sub-finite-number}
+use Rattle.base_laws.specs.Differences.{float-add-finite, float-sub-finite-number}
 use Rattle.base_terms.specs.Floats.{minOf, maxOf}
 use Rattle.base_laws.specs.Clamp.{min-one, max-one}
 use Rattle.grid.specs.Values.{isFinite}

@@ -59,13 +59,8 @@ sound-ready r c values flags levels v d =
     let rate = within-most (r .«frame_rate») maxFrameRate (f .0) in
     let step = within-pos (r .hop) maxHop (f .1) in
     let most = within-most (r .hop) maxHop (f .1) in
-    record {
-      few = leb→le (length values) maxFrames (holds (l .0));
-      flagged = eqb→eq (length flags) (length values) (holds (l .1));
-      finite = values-finite (r .domain) values flags levels (p .within);
-      sound = record { rate = rate; step = step; most = most; time = t .1 };
-      silence = record { rate = rate; step = step; most = most; time = t .0 };
-    }
+    let finite = values-finite (r .domain) values flags levels (p .within) in
+    search (leb→le (length values) maxFrames (holds (l .0)), eqb→eq (length flags) (length values) (holds (l .1)))
 
 -- a chain without refusal has passed its first test, and its rest has none
 step : (b : Bool) (refusal : Refusal) (rest : Verdict) → cond b rest (Fails refusal) ≡ Fine → (b ≡ true) × (rest ≡ Fine)

@@ -46,18 +46,17 @@ pub record ListsSilences (frames : ℕ) (sounds : List ℕ) (n : ℕ) (out : Lis
 
 module _ (sounds : List ℕ) (n : ℕ) (e : length (silencesOf sounds) ≡ 2 * n) where
   own : ListsSilences (length sounds) sounds n (silencesOf sounds)
-  own = record {
-    flagged = refl;
-    room = omega arith;
-    some = λ i h. rising-apart 0 (length sounds) ss (2 * i) (2 * i + 1) (silences-rise sounds) (omega arith) (omega arith);
-    apart = λ i j h k. rising-apart 0 (length sounds) ss (2 * i + 1) (2 * j) (silences-rise sounds) (omega arith) (omega arith);
-    within = λ i h. rising-most 0 (length sounds) ss (2 * i + 1) (silences-rise sounds) (omega arith);
-    silent = λ i f h s t. eqb-true (getD sounds f 1) 0 (sym (silences-exact sounds f) ∙ some-in n ss f e i h s t);
-    listed = λ f h z. in-some n ss f e (silences-exact sounds f ∙ eq-eqb (getD sounds f 1) 0 z);
-  }
-    where
-      ss : List ℕ
-      ss = silencesOf sounds
+  own =
+      let ss : List ℕ = silencesOf sounds in
+      record {
+        flagged = refl;
+        room = omega arith;
+        some = λ i h. rising-apart 0 (length sounds) ss (2 * i) (2 * i + 1) (silences-rise sounds) (omega arith) (omega arith);
+        apart = λ i j h k. rising-apart 0 (length sounds) ss (2 * i + 1) (2 * j) (silences-rise sounds) (omega arith) (omega arith);
+        within = λ i h. rising-most 0 (length sounds) ss (2 * i + 1) (silences-rise sounds) (omega arith);
+        silent = λ i f h s t. eqb-true (getD sounds f 1) 0 (sym (silences-exact sounds f) ∙ some-in n ss f e i h s t);
+        listed = λ f h z. in-some n ss f e (silences-exact sounds f ∙ eq-eqb (getD sounds f 1) 0 z);
+      }
 
 -- ---- and at the front of a list
 
@@ -69,22 +68,16 @@ module _ (frames : ℕ) (sounds : List ℕ) (n : ℕ) (ss out : List ℕ) (e : l
   end-same i h = onto-at ss out (2 * i + 1) 0 (omega arith)
 
   fronted : ListsSilences frames sounds n ss → ListsSilences frames sounds n (onto ss out)
-  fronted w = record {
-    flagged = w .flagged;
-    room = omega (arith, onto-length ss out l);
-    some = λ i h. rw (start-same i h, end-same i h) (w .some i h);
-    apart = λ i j h k. rw (end-same i (omega arith), start-same j k) (w .apart i j h k);
-    within = λ i h. rw (end-same i h) (w .within i h);
-    silent = λ i f h s t. w .silent i f h (rw (start-same i h) at s) (rw (end-same i h) at t);
-    listed = λ f h z. in-front f (w .listed f h z);
-  }
-    where
-      in-front : (f : ℕ) → InOne n ss f → InOne n (onto ss out) f
-      in-front f o = record {
-        which = o .which;
-        listed = o .listed;
-        from = rw (start-same (o .which) (o .listed)) (o .from);
-        to = rw (end-same (o .which) (o .listed)) (o .to);
+  fronted w =
+      let in-front : (f : ℕ) → InOne n ss f → InOne n (onto ss out) f = λ f o. search (start-same (o .which) (o .listed), end-same (o .which) (o .listed)) in
+      record {
+        flagged = w .flagged;
+        room = omega (arith, onto-length ss out l);
+        some = λ i h. rw (start-same i h, end-same i h) (w .some i h);
+        apart = λ i j h k. rw (end-same i (omega arith), start-same j k) (w .apart i j h k);
+        within = λ i h. rw (end-same i h) (w .within i h);
+        silent = λ i f h s t. w .silent i f h (rw (start-same i h) at s) (rw (end-same i h) at t);
+        listed = λ f h z. in-front f (w .listed f h z);
       }
 
 -- ---- of the answer

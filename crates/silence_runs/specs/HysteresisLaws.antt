@@ -1,6 +1,6 @@
 -- The sound flags: each is 0 or 1, there is one for each frame, and each follows from its value, its flag byte and the flag before it.
 use mathlib.Core.Path.{_≡_, refl, ap}
-use mathlib.Core.Bool.{Bool, true, false, cond}
+use mathlib.Core.Logic.{inl, inr}
 use mathlib.Core.List.{List, [], _∷_}
 use Prim.Native.Nat.{ℕ, zero, suc, _≤_, _<_}
 use native.Mathlib.Omega.{arith}
@@ -8,26 +8,20 @@ use lib.Dec.{eqb}
 use lib.Ieee.{Float, nan, le}
 use lib.ListN.{length, getD, drop}
 use lib.Seq.{drop-cons}
+use Rattle.base_laws.specs.Tests.{tested}
 use Rattle.silence_runs.specs.Hysteresis.{reached, soundAt, soundsAfter, hysteresis}
 
 -- a flag is 0 or 1
 reached-small : (threshold value : Float) → reached threshold value ≤ 1
 unfolding reached
-reached-small threshold value = go (le threshold value)
-  where
-    go : (t : Bool) → cond t 1 0 ≤ 1
-    go true = omega arith
-    go false = omega arith
+reached-small threshold value = elim (tested (le threshold value)) [ inl e ↦ rw e (omega arith) | inr e ↦ rw e (omega arith) ]
 
 pub sound-small : (on off : Float) (before : ℕ) (value : Float) (flag : ℕ) → soundAt on off before value flag ≤ 1
 unfolding soundAt
-sound-small on off before value flag = go (eqb flag 1) (eqb before 0)
-  where
-    go : (t u : Bool) → cond t 0 (cond u (reached on value) (reached off value)) ≤ 1
-    go true true = omega arith
-    go true false = omega arith
-    go false true = reached-small on value
-    go false false = reached-small off value
+sound-small on off before value flag = elim (tested (eqb flag 1)) [
+  | inl e ↦ rw e (omega arith)
+  | inr e ↦ rw e (elim (tested (eqb before 0)) [ inl f ↦ rw f (reached-small on value) | inr f ↦ rw f (reached-small off value) ])
+]
 
 module _ (on off : Float) where
   pub after-cons : (before : ℕ) (values : List Float) (flags : List ℕ) (i : ℕ) → i < length values → i < length flags
@@ -39,14 +33,8 @@ module _ (on off : Float) where
   after-length : (before : ℕ) (values : List Float) (flags : List ℕ) → length flags ≡ length values → length (soundsAfter on off before values flags) ≡ length values
   unfolding soundsAfter
   after-length before [] flags e = refl
-  after-length before (v ∷ values) [] e = absurd (none (length values) e)
-    where
-      none : (n : ℕ) → 0 ≡ suc n → ⊥
-      none n z = omega arith
-  after-length before (v ∷ values) (f ∷ flags) e = ap suc (after-length (soundAt on off before v f) values flags (less (length flags) (length values) e))
-    where
-      less : (m n : ℕ) → suc m ≡ suc n → m ≡ n
-      less m n z = omega arith
+  after-length before (v ∷ values) [] e = absurd (omega arith)
+  after-length before (v ∷ values) (f ∷ flags) e = ap suc (after-length (soundAt on off before v f) values flags (omega arith))
 
   -- there is a flag for each frame
   pub hysteresis-length : (values : List Float) (flags : List ℕ) → length flags ≡ length values → length (hysteresis on off values flags) ≡ length values

@@ -14,10 +14,9 @@ pub mod RunsWalk
 -- Fill: short runs filled (`filledAs`, `fillShort`)
 pub mod Fill
 --   fill-run, fill-other, fill-length   the laws of `eachRun` for it
-pub mod FillLaws
 --   fill-held, fill-left  a frame is of the kind after filling exactly where it lies in a stretch of at least the minimum of that kind (`Held`)
 --   fill-mono, fill-flags filling is monotone, and flags stay flags
-pub mod FillExact
+pub mod FillLaws
 -- Sounds: short sound filled first, then short silence, if any sound is left (`anySound`, `fillSilence`, `soundsOf`)
 pub mod Sounds
 --   sounds-length         a flag for each frame

@@ -1,9 +1,9 @@
 -- What holds while a loop lists the silences in one pass: at each turn the frames ahead are silent frames, a run of sound, and the rest.
 use mathlib.Core.Path.{_≡_, refl, sym, ap, subst, _∙_}
 use mathlib.Core.Logic.{inl, inr}
-use mathlib.Core.Bool.{Bool, true, false, cond}
+use mathlib.Core.Bool.{true, false, cond}
 use mathlib.Core.List.{List, [], _∷_, _++_, append-nil, append-assoc}
-use Prim.Native.Nat.{ℕ, zero, suc, _+_, _-_, _≤_, _<_}
+use Prim.Native.Nat.{ℕ, zero, suc, _+_, _-_, _≤_, _<_, min}
 use native.Mathlib.Numerals.{add-one}
 use native.Mathlib.Omega.{arith}
 use lib.Dec.{eqb}
@@ -11,10 +11,10 @@ use lib.Ieee.{Float, nan}
 use lib.ListN.{length, getD, take, drop, replicate, length-append, length-drop, drop-of-length-le, take-append-drop}
 use lib.Seq.{sets, sets-eq, length-sets, drop-cons, drop-drop, take-at, drop-at, length-take-le}
 use borrow.Author.Tests.{lt-ltb, le-ltb, eq-eqb, ne-eqb, eqb-true, eqb-false}
-use Rattle.base_laws.specs.Tests.{lt-or-le}
+use Rattle.base_laws.specs.Tests.{lt-or-le, tested}
 use Rattle.base_terms.specs.Lists.{onto}
 use Rattle.silence_runs.specs.RunsLaws.{NotFirst}
-use Rattle.silence_runs.specs.Hysteresis.{reached, soundAt, soundsAfter, hysteresis}
+use Rattle.silence_runs.specs.Hysteresis.{soundAt, soundsAfter, hysteresis}
 use Rattle.silence_runs.specs.HysteresisLaws.{sound-small, after-cons}
 use Rattle.silence_runs.specs.Sounds.{soundsOf}
 use Rattle.silence_runs.specs.Silences.{silencesOf}
@@ -41,11 +41,8 @@ module _ (threshold : Float) (sound : ℕ) where
     pub seeking-next : i < end → soundBy threshold (getD values i nan) (getD flags i 0) ≡ sound → Seeking values flags from end (i + 1)
     seeking-next l e =
         let s = stay-cons values flags i (omega (arith, w .ends)) (w .flagged) in
-        let t : stay threshold sound (drop i values) (drop i flags) ≡ suc (stay threshold sound (drop (suc i) values) (drop (suc i) flags)) = (rw (eqb-same (soundBy threshold (getD values i nan) (getD flags i 0)) e) at s) in
+        let t : stay threshold sound (drop i values) (drop i flags) ≡ suc (stay threshold sound (drop (suc i) values) (drop (suc i) flags)) = (rw (eq-eqb (soundBy threshold (getD values i nan) (getD flags i 0)) sound e) at s) in
         record { within = omega (arith, w .ends); ends = w .ends; flagged = w .flagged; left = rw (add-one i) (omega (arith, w .left, t)) }
-      where
-        eqb-same : (x : ℕ) → x ≡ sound → eqb x sound ≡ true
-        eqb-same x p = eq-eqb x sound p
 
     pub seeking-found : i < end → (soundBy threshold (getD values i nan) (getD flags i 0) ≡ sound → ⊥) → i ≡ from + stay threshold sound (drop from values) (drop from flags)
     seeking-found l h =
@@ -63,11 +60,10 @@ module _ (threshold : Float) (sound : ℕ) where
   unfolding stay
   stay-within [] flags = omega arith
   stay-within (v ∷ values) [] = omega arith
-  stay-within (v ∷ values) (f ∷ flags) = go (eqb (soundBy threshold v f) sound) (stay-within values flags)
-    where
-      go : (b : Bool) → stay threshold sound values flags ≤ length values → cond b (suc (stay threshold sound values flags)) 0 ≤ suc (length values)
-      go true l = omega arith
-      go false l = omega arith
+  stay-within (v ∷ values) (f ∷ flags) = elim (tested (eqb (soundBy threshold v f) sound)) [
+    | inl e ↦ rw e (omega (arith, stay-within values flags))
+    | inr e ↦ rw e (omega (arith, stay-within values flags))
+  ]
 
   pub stay-to : (values : List Float) (flags : List ℕ) (from : ℕ) → from ≤ length values → from + stay threshold sound (drop from values) (drop from flags) ≤ length values
   stay-to values flags from l = omega (arith, stay-within (drop from values) (drop from flags), length-drop from values)
@@ -81,40 +77,26 @@ module _ (on off : Float) where
 
   sound-by : (sound : ℕ) (v : Float) (f : ℕ) → soundAt on off sound v f ≡ soundBy (by sound) v f
   unfolding soundAt soundBy by
-  sound-by sound v f = go (eqb sound 0)
-    where
-      go : (b : Bool) → cond (eqb f 1) 0 (cond b (reached on v) (reached off v)) ≡ cond (eqb f 1) 0 (reached (cond b on off) v)
-      go true = refl
-      go false = refl
+  sound-by sound v f = elim (tested (eqb sound 0)) [ inl e ↦ rw e | inr e ↦ rw e ]
 
   stay-split : (sound : ℕ) (vs : List Float) (fs : List ℕ) → soundsAfter on off sound vs fs
       ≡ replicate (stay (by sound) sound vs fs) sound ++ soundsAfter on off sound (drop (stay (by sound) sound vs fs) vs) (drop (stay (by sound) sound vs fs) fs)
   unfolding soundsAfter stay
   stay-split sound [] fs = refl
   stay-split sound (v ∷ vs) [] = refl
-  stay-split sound (v ∷ vs) (f ∷ fs) = go (eqb (soundBy (by sound) v f) sound) refl (stay-split sound vs fs)
-    where
-      n : ℕ
-      n = stay (by sound) sound vs fs
-
-      go : (b : Bool) → eqb (soundBy (by sound) v f) sound ≡ b → soundsAfter on off sound vs fs ≡ replicate n sound ++ soundsAfter on off sound (drop n vs) (drop n fs)
-          → soundsAfter on off sound (v ∷ vs) (f ∷ fs) ≡ replicate (cond b (suc n) 0) sound ++ soundsAfter on off sound (drop (cond b (suc n) 0) (v ∷ vs)) (drop (cond b (suc n) 0) (f ∷ fs))
-      go true e p = rw (sound-by sound v f, eqb-true (soundBy (by sound) v f) sound e) (ap (λ (l : List ℕ). sound ∷ l) p)
-      go false e p = refl
+  stay-split sound (v ∷ vs) (f ∷ fs) = elim (tested (eqb (soundBy (by sound) v f) sound)) [
+    | inl e ↦ rw (e, sound-by sound v f, eqb-true (soundBy (by sound) v f) sound e) (ap (λ (l : List ℕ). sound ∷ l) (stay-split sound vs fs))
+    | inr e ↦ rw e
+  ]
 
   stay-next : (sound : ℕ) (vs : List Float) (fs : List ℕ) → NotFirst sound (soundsAfter on off sound (drop (stay (by sound) sound vs fs) vs) (drop (stay (by sound) sound vs fs) fs))
   unfolding soundsAfter stay
   stay-next sound [] fs = tt
   stay-next sound (v ∷ vs) [] = tt
-  stay-next sound (v ∷ vs) (f ∷ fs) = go (eqb (soundBy (by sound) v f) sound) refl (stay-next sound vs fs)
-    where
-      n : ℕ
-      n = stay (by sound) sound vs fs
-
-      go : (b : Bool) → eqb (soundBy (by sound) v f) sound ≡ b → NotFirst sound (soundsAfter on off sound (drop n vs) (drop n fs))
-          → NotFirst sound (soundsAfter on off sound (drop (cond b (suc n) 0) (v ∷ vs)) (drop (cond b (suc n) 0) (f ∷ fs)))
-      go true e p = p
-      go false e p = λ q. eqb-false (soundBy (by sound) v f) sound e (sym (sound-by sound v f) ∙ q)
+  stay-next sound (v ∷ vs) (f ∷ fs) = elim (tested (eqb (soundBy (by sound) v f) sound)) [
+    | inl e ↦ rw e (stay-next sound vs fs)
+    | inr e ↦ rw e (λ q. eqb-false (soundBy (by sound) v f) sound e (sym (sound-by sound v f) ∙ q))
+  ]
 
 module _ (on off : Float) (values : List Float) (flags : List ℕ) (flagged : length flags ≡ length values) where
   -- the sound flags from frame k on, after one that sounds or does not
@@ -126,16 +108,10 @@ module _ (on off : Float) (values : List Float) (flags : List ℕ) (flagged : le
   ahead-none k sound l = rw (drop-of-length-le values {i = k} l)
 
   ahead-split : (k sound n : ℕ) → n ≡ stay (by on off sound) sound (drop k values) (drop k flags) → ahead k sound ≡ replicate n sound ++ ahead (k + n) sound
-  ahead-split k sound n e = rw (e, ← drop-drop n′ k values, ← drop-drop n′ k flags) (stay-split on off sound (drop k values) (drop k flags))
-    where
-      n′ : ℕ
-      n′ = stay (by on off sound) sound (drop k values) (drop k flags)
+  ahead-split k sound n e = rw (← drop-drop n k values, ← drop-drop n k flags, e) (stay-split on off sound (drop k values) (drop k flags))
 
   ahead-next : (k sound n : ℕ) → n ≡ stay (by on off sound) sound (drop k values) (drop k flags) → NotFirst sound (ahead (k + n) sound)
-  ahead-next k sound n e = rw (e, ← drop-drop n′ k values, ← drop-drop n′ k flags) (stay-next on off sound (drop k values) (drop k flags))
-    where
-      n′ : ℕ
-      n′ = stay (by on off sound) sound (drop k values) (drop k flags)
+  ahead-next k sound n e = rw (← drop-drop n k values, ← drop-drop n k flags, e) (stay-next on off sound (drop k values) (drop k flags))
 
   -- a frame whose flag is not the one before has the other
   ahead-other : (k sound other : ℕ) → k < length values → ((x : ℕ) → x ≤ 1 → (x ≡ sound → ⊥) → x ≡ other) → NotFirst sound (ahead k sound) → ahead k sound ≡ other ∷ ahead (suc k) other
@@ -151,10 +127,7 @@ module _ (on off : Float) (values : List Float) (flags : List ℕ) (flagged : le
   one-other : (x : ℕ) → x ≤ 1 → (x ≡ 1 → ⊥) → x ≡ 0
   one-other zero l h = refl
   one-other (suc zero) l h = absurd (h refl)
-  one-other (suc (suc x)) l h = absurd (two x l)
-    where
-      two : (n : ℕ) → suc (suc n) ≤ 1 → ⊥
-      two n e = omega arith
+  one-other (suc (suc x)) l h = absurd (omega arith)
 
   -- one turn of the loop: from `from` to start silence, from start to end sound
   pub record Turn (from start end : ℕ) : Type 0 where
@@ -192,12 +165,7 @@ module _ (on off : Float) (values : List Float) (flags : List ℕ) (flagged : le
         let e : end ≡ length values + 0 = (rw (le-ltb start (length values) l, d) at (t .stops)) in
         let q : start ≡ length values = omega (arith, t .starts, stay-to on 0 values flags from (t .within)) in
         let m : end - start ≡ 0 = omega arith in
-        record {
-          order = omega arith;
-          stop = omega arith;
-          frames = rw (m, ahead-none start 0 l, ahead-none end 1 (omega arith));
-          ended = rw (ahead-none end 1 (omega arith)) tt;
-        }
+        search (arith, m, ahead-none start 0 l, ahead-none end 1 (omega arith))
 
     pub turn-run : SoundRun start end
     turn-run = elim (lt-or-le start (length values)) [ inl l ↦ run-some l | inr l ↦ run-none l ]
@@ -209,13 +177,10 @@ module _ (on off : Float) (values : List Float) (flags : List ℕ) (flagged : le
       -- what is left after the run, at the frame after its end
       passed : (l : ℕ) → silencesFrom minSound minSilence end l 0 (ahead end 1) ≡ silencesFrom minSound minSilence (nextFrame end (length values)) l 0 (ahead (nextFrame end (length values)) 0)
       passed l = elim (lt-or-le end (length values)) [
-        | inl m ↦ rw (lt-ltb end (length values) m) (ap (silencesFrom minSound minSilence end l 0) (ahead-other end 1 0 m one-other (turn-run .ended)) ∙ from-silent minSound minSilence end l 0 (ahead (suc end) 0) zero-not)
+        | inl m ↦ rw (lt-ltb end (length values) m) (ap (silencesFrom minSound minSilence end l 0) (ahead-other end 1 0 m one-other (turn-run .ended)) ∙ from-silent minSound minSilence end l 0 (ahead (suc end) 0) (λ e. omega (arith, e)))
         | inr m ↦ (let e : end ≡ length values = omega (arith, turn-run .stop) in
             rw (le-ltb end (length values) m, ahead-none end 1 m, ahead-none (length values) 0 (omega arith), e))
       ]
-        where
-          zero-not : _≡_ {A = ℕ} 0 1 → ⊥
-          zero-not e = omega arith
 
       turned : silencesFrom minSound minSilence from last 0 (ahead from 0)
           ≡ cond (lasts minSound (end - start)) (silenceBetween minSilence last start ++ silencesFrom minSound minSilence end end 0 (ahead end 1)) (silencesFrom minSound minSilence end last 0 (ahead end 1))
@@ -241,6 +206,10 @@ module _ (on off : Float) (values : List Float) (flags : List ℕ) (flagged : le
       turn-short b = turned ∙ rw b (passed last)
 
 -- ---- the loop
+
+-- the next frame is the one after, or the end
+next-is : (i n : ℕ) → nextFrame i n ≡ min (suc i) n
+next-is i n = elim (lt-or-le i n) [ inl m ↦ rw (lt-ltb i n m) (omega arith) | inr m ↦ rw (le-ltb i n m) (omega arith) ]
 
 -- some numbers more are written
 put-left : (out ws rest whole : List ℕ) (at : ℕ) → at + length ws ≤ length out → take at out ++ (ws ++ rest) ≡ whole → take (at + length ws) (sets out at ws) ++ rest ≡ whole
@@ -268,33 +237,16 @@ pub record Passing (on off : Float) (minSound minSilence : ℕ) (values : List F
 module _ (on off : Float) (minSound minSilence : ℕ) (values : List Float) (flags out₀ : List ℕ) where
   pub passing-start : length flags ≡ length values → length values + 2 ≤ length out₀ → Passing on off minSound minSilence values flags out₀ out₀ 0 0 0
   unfolding hysteresis
-  passing-start f r = record {
-    flagged = f;
-    room = r;
-    same = refl;
-    within = omega arith;
-    order = omega arith;
-    front = omega arith;
-    kept = refl;
-    left = one-pass on off minSound minSilence values flags;
-  }
+  passing-start f r = search (arith, one-pass on off minSound minSilence values flags)
 
   module _ (out : List ℕ) (from last at : ℕ) (w : Passing on off minSound minSilence values flags out₀ out from last at) where
     -- where the run of sound is sought
     pub sought-within : (start next : ℕ) → start ≡ from + stay on 0 (drop from values) (drop from flags) → next ≡ nextFrame start (length values) → next ≤ length values
-    sought-within start next e f =
-        rw f (elim (lt-or-le start (length values)) [
-          | inl m ↦ rw (lt-ltb start (length values) m) m
-          | inr m ↦ rw (le-ltb start (length values) m) (omega arith)
-        ])
+    sought-within start next e f = omega (arith, next-is start (length values))
 
     pub turn-of : (start next end : ℕ) → start ≡ from + stay on 0 (drop from values) (drop from flags) → next ≡ nextFrame start (length values)
         → end ≡ next + stay off 1 (drop next values) (drop next flags) → Turn on off values flags (w .flagged) from start end
-    turn-of start next end e f g = record {
-      within = w .within;
-      starts = e;
-      stops = subst (λ (k : ℕ). end ≡ k + stay off 1 (drop k values) (drop k flags)) f g;
-    }
+    turn-of start next end e f g = search (arith, subst (λ (k : ℕ). end ≡ k + stay off 1 (drop k values) (drop k flags)) f g)
 
     module _ (start end : ℕ) (t : Turn on off values flags (w .flagged) from start end) where
       pub turn-sound : start ≤ end
@@ -307,33 +259,15 @@ module _ (on off : Float) (minSound minSilence : ℕ) (values : List Float) (fla
       pub passing-less : (next : ℕ) → from < length values → next ≡ nextFrame end (length values) → length values - next < length values - from
       passing-less next l e =
           let r = turn-run on off values flags (w .flagged) from start end t in
-          let o : from ≤ end = omega (arith, r .order, turn-order on off values flags (w .flagged) from start end t) in
-          rw e (elim (lt-or-le end (length values)) [
-            | inl m ↦ rw (lt-ltb end (length values) m) (omega arith)
-            | inr m ↦ rw (le-ltb end (length values) m) (omega arith)
-          ])
-
-      next-within : (i : ℕ) → i ≤ length values → (i ≤ nextFrame i (length values)) × (nextFrame i (length values) ≤ length values)
-      next-within i l = elim (lt-or-le i (length values)) [
-        | inl m ↦ rw (lt-ltb i (length values) m) (omega arith, omega arith)
-        | inr m ↦ rw (le-ltb i (length values) m) (omega arith, omega arith)
-      ]
+          omega (arith, r .order, turn-order on off values flags (w .flagged) from start end t, next-is end (length values))
 
       -- the sound is too short: nothing is written
       pub passing-short : lasts minSound (end - start) ≡ false → Passing on off minSound minSilence values flags out₀ out (nextFrame end (length values)) last at
       passing-short b =
           let r = turn-run on off values flags (w .flagged) from start end t in
-          let n = next-within end (r .stop) in
-          record {
-            flagged = w .flagged;
-            room = w .room;
-            same = w .same;
-            within = n .1;
-            order = omega (arith, w .order, turn-order on off values flags (w .flagged) from start end t, r .order, n .0);
-            front = w .front;
-            kept = w .kept;
-            left = ap (λ (l : List ℕ). take at out ++ l) (sym (turn-short on off values flags (w .flagged) from start end t minSound minSilence last b)) ∙ w .left;
-          }
+          let n = next-is end (length values) in
+          let o = turn-order on off values flags (w .flagged) from start end t in
+          search (arith, ap (λ (l : List ℕ). take at out ++ l) (sym (turn-short on off values flags (w .flagged) from start end t minSound minSilence last b)) ∙ w .left)
 
       -- the silence before a sound has room
       pub passing-room : at + 2 ≤ length out
@@ -347,7 +281,7 @@ module _ (on off : Float) (minSound minSilence : ℕ) (values : List Float) (fla
           → Passing on off minSound minSilence values flags out₀ out′ (nextFrame end (length values)) end at′
       passing-long out′ at′ b e f =
           let r = turn-run on off values flags (w .flagged) from start end t in
-          let n = next-within end (r .stop) in
+          let n = next-is end (length values) in
           let g = between-small minSilence last start passing-between in
           let l : at + length (silenceBetween minSilence last start) ≤ length out = omega (arith, passing-room, g .0) in
           let some = lasts-some minSound (end - start) b in
@@ -355,8 +289,8 @@ module _ (on off : Float) (minSound minSilence : ℕ) (values : List Float) (fla
             flagged = w .flagged;
             room = w .room;
             same = rw e (length-sets out at (silenceBetween minSilence last start)) ∙ w .same;
-            within = n .1;
-            order = n .0;
+            within = omega arith;
+            order = omega (arith, r .stop);
             front = omega (arith, f, w .front, g .1, some);
             kept = rw (e, f) (put-kept out out₀ (silenceBetween minSilence last start) at l (w .kept));
             left = rw (e, f) (put-left out (silenceBetween minSilence last start) (silencesFrom minSound minSilence (nextFrame end (length values)) end 0 (soundsAfter on off 0 (drop (nextFrame end (length values)) values) (drop (nextFrame end (length values)) flags))) (silencesOf (soundsOf on off minSound minSilence values flags)) at l

@@ -25,13 +25,12 @@ module _ (off : Float) (values : List Float) (flags : List ℕ) where
   pub marking-next : (end : ℕ) (below : List ℕ) (i s : ℕ) → i < end → s ≡ belowAt off (getD values i nan) (getD flags i 0) → Marking off values flags end below i
       → Marking off values flags end (set below i s) (i + 1)
   unfolding belowOff
-  marking-next end below i s l e w = record { within = omega arith; ends = w .ends; flagged = w .flagged; same = length-set below i s ∙ w .same; left = moved }
-    where
-      step : belowOff off (drop i values) (drop i flags) ≡ s ∷ belowOff off (drop (suc i) values) (drop (suc i) flags)
-      step = rw (e, drop-cons values i nan (omega arith), drop-cons flags i 0 (omega arith))
-
-      moved : take (i + 1) (set below i s) ++ belowOff off (drop (i + 1) values) (drop (i + 1) flags) ≡ belowOff off values flags
-      moved = rw (add-one, take-suc-set below i s (omega arith)) (append-snoc (take i below) s (belowOff off (drop (suc i) values) (drop (suc i) flags)) ∙ ap (λ (t : List ℕ). take i below ++ t) (sym step) ∙ w .left)
+  marking-next end below i s l e w =
+      let step : belowOff off (drop i values) (drop i flags) ≡ s ∷ belowOff off (drop (suc i) values) (drop (suc i) flags) =
+      rw (e, drop-cons values i nan (omega arith), drop-cons flags i 0 (omega arith)) in
+      let moved : take (i + 1) (set below i s) ++ belowOff off (drop (i + 1) values) (drop (i + 1) flags) ≡ belowOff off values flags =
+      rw (add-one, take-suc-set below i s (omega arith)) (append-snoc (take i below) s (belowOff off (drop (suc i) values) (drop (suc i) flags)) ∙ ap (λ (t : List ℕ). take i below ++ t) (sym step) ∙ w .left) in
+      record { within = omega arith; ends = w .ends; flagged = w .flagged; same = length-set below i s ∙ w .same; left = moved }
 
   pub marking-done : (end : ℕ) (below : List ℕ) (i : ℕ) → end ≤ i → Marking off values flags end below i → below ≡ belowOff off values flags
   unfolding belowOff

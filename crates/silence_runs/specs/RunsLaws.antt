@@ -1,12 +1,14 @@
 -- A run ends where another flag follows, or the list ends. A frame of another kind stays, and a whole run of the kind is rewritten by its length.
 use mathlib.Core.Path.{_≡_, refl, sym, ap, _∙_}
-use mathlib.Core.Bool.{Bool, true, false, cond}
+use mathlib.Core.Logic.{inl, inr}
+use mathlib.Core.Bool.{Bool, true, false}
 use mathlib.Core.List.{List, [], _∷_, _++_}
 use Prim.Native.Nat.{ℕ, zero, suc}
 use native.Mathlib.Omega.{arith}
 use lib.Dec.{eqb}
 use lib.ListN.{length, replicate, length-append, length-replicate}
 use borrow.Author.Tests.{eq-eqb, ne-eqb, eqb-true, eqb-false}
+use Rattle.base_laws.specs.Tests.{tested}
 use Rattle.silence_runs.specs.Runs.{Run, run, joined, runs, rewritten, rewrittenAll, eachRun}
 
 -- the list does not start with the flag k
@@ -21,11 +23,7 @@ joined-same k n rs = rw (eq-eqb k k refl)
 joined-new : (k x : ℕ) (rs : List Run) → (x ≡ k → ⊥) → joined k (joined x rs) ≡ run k 1 ∷ joined x rs
 unfolding joined
 joined-new k x [] h = rw (ne-eqb k x (λ e. h (sym e)))
-joined-new k x (r ∷ rs) h = go (eqb x (r .flag))
-  where
-    go : (b : Bool) → joined k (cond b (run x (suc (r .frames)) ∷ rs) (run x 1 ∷ (r ∷ rs))) ≡ run k 1 ∷ cond b (run x (suc (r .frames)) ∷ rs) (run x 1 ∷ (r ∷ rs))
-    go true = rw (ne-eqb k x (λ e. h (sym e)))
-    go false = rw (ne-eqb k x (λ e. h (sym e)))
+joined-new k x (r ∷ rs) h = elim (tested (eqb x (r .flag))) [ inl t ↦ rw (t, ne-eqb k x (λ e. h (sym e))) | inr t ↦ rw (t, ne-eqb k x (λ e. h (sym e))) ]
 
 -- equal flags that no further one follows are one run
 pub runs-run : (n k : ℕ) (ys : List ℕ) → NotFirst k ys → runs (replicate (suc n) k ++ ys) ≡ run k (suc n) ∷ runs ys
@@ -55,11 +53,7 @@ module _ (kind : ℕ) (v : ℕ → ℕ) where
   other-joined : (y : ℕ) (rs : List Run) → (y ≡ kind → ⊥) → rewrittenAll kind v (joined y rs) ≡ y ∷ rewrittenAll kind v rs
   unfolding rewrittenAll rewritten joined
   other-joined y [] h = rw (ne-eqb y kind h)
-  other-joined y (r ∷ rs) h = go (eqb y (r .flag)) refl
-    where
-      go : (b : Bool) → eqb y (r .flag) ≡ b → rewrittenAll kind v (cond b (run y (suc (r .frames)) ∷ rs) (run y 1 ∷ (r ∷ rs))) ≡ y ∷ rewrittenAll kind v (r ∷ rs)
-      go true e = rw (← eqb-true y (r .flag) e, ne-eqb y kind h)
-      go false e = rw (ne-eqb y kind h)
+  other-joined y (r ∷ rs) h = elim (tested (eqb y (r .flag))) [ inl e ↦ rw (e, ← eqb-true y (r .flag) e, ne-eqb y kind h) | inr e ↦ rw (e, ne-eqb y kind h) ]
 
   pub each-none : eachRun kind v [] ≡ []
   unfolding eachRun runs rewrittenAll
@@ -79,11 +73,7 @@ module _ (kind : ℕ) (v : ℕ → ℕ) where
   joined-length : (x : ℕ) (rs : List Run) → length (rewrittenAll kind v (joined x rs)) ≡ suc (length (rewrittenAll kind v rs))
   unfolding rewrittenAll rewritten joined
   joined-length x [] = refl
-  joined-length x (r ∷ rs) = go (eqb x (r .flag))
-    where
-      go : (b : Bool) → length (rewrittenAll kind v (cond b (run x (suc (r .frames)) ∷ rs) (run x 1 ∷ (r ∷ rs)))) ≡ suc (length (rewrittenAll kind v (r ∷ rs)))
-      go true = simp (length-append, length-replicate) (omega arith)
-      go false = refl
+  joined-length x (r ∷ rs) = elim (tested (eqb x (r .flag))) [ inl e ↦ rw e (simp (length-append, length-replicate) (omega arith)) | inr e ↦ rw e ]
 
   -- the number of frames stays
   pub each-length : (xs : List ℕ) → length (eachRun kind v xs) ≡ length xs

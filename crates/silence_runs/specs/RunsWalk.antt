@@ -33,20 +33,11 @@ module _ (kind : ℕ) (v : ℕ → ℕ) where
 
   -- frame i is of the kind: the run is one longer
   pub rewriting-kind : (xs₀ : List ℕ) (end : ℕ) (xs : List ℕ) (start i : ℕ) → i < end → getD xs i 0 ≡ kind → Rewriting xs₀ end xs start i → Rewriting xs₀ end xs start (i + 1)
-  rewriting-kind xs₀ end xs start i l e w = record {
-    order = omega (arith, w .order);
-    within = omega arith;
-    ends = w .ends;
-    same = w .same;
-    parts = w .parts ∙ ap (λ (t : List ℕ). take start xs ++ t) grown;
-    left = ap (λ (t : List ℕ). take start xs ++ eachRun kind v t) (sym grown) ∙ w .left;
-  }
-    where
-      more : suc (i - start) ≡ i + 1 - start
-      more = omega (arith, w .order)
-
-      grown : replicate (i - start) kind ++ drop i xs ≡ replicate (i + 1 - start) kind ++ drop (i + 1) xs
-      grown = rw (← more, add-one, drop-cons xs i 0 (omega arith), e) (longer kind (i - start) (drop (suc i) xs))
+  rewriting-kind xs₀ end xs start i l e w =
+      let more : suc (i - start) ≡ i + 1 - start = omega (arith, w .order) in
+      let grown : replicate (i - start) kind ++ drop i xs ≡ replicate (i + 1 - start) kind ++ drop (i + 1) xs =
+      rw (← more, add-one, drop-cons xs i 0 (omega arith), e) (longer kind (i - start) (drop (suc i) xs)) in
+      search (arith, w .parts ∙ ap (λ (t : List ℕ). take start xs ++ t) grown, ap (λ (t : List ℕ). take start xs ++ eachRun kind v t) (sym grown) ∙ w .left)
 
   -- what is rewritten once frame i, of another kind, is passed
   front : ℕ → ℕ → List ℕ → List ℕ
@@ -64,51 +55,34 @@ module _ (kind : ℕ) (v : ℕ → ℕ) where
   pub rewriting-other : (xs₀ : List ℕ) (end : ℕ) (xs xs′ : List ℕ) (start i : ℕ) → i < end → (getD xs i 0 ≡ kind → ⊥) → xs′ ≡ putRun start i (v (i - start)) xs
       → Rewriting xs₀ end xs start i → Rewriting xs₀ end xs′ (i + 1) (i + 1)
   unfolding putRun
-  rewriting-other xs₀ end xs xs′ start i l h c w = record {
-    order = omega arith;
-    within = omega arith;
-    ends = w .ends;
-    same = long;
-    parts = rw none (sym (take-append-drop (i + 1) xs′));
-    left = rw (none, taken, dropped) (front-append start i xs (eachRun kind v (drop (suc i) xs)) ∙ ap (λ (t : List ℕ). take start xs ++ t) (sym passed) ∙ w .left);
-  }
-    where
-      none : i + 1 - (i + 1) ≡ 0
-      none = omega arith
-
-      cut : drop i xs ≡ getD xs i 0 ∷ drop (suc i) xs
-      cut = drop-cons xs i 0 (omega arith)
-
-      now : xs′ ≡ front start i xs ++ drop (suc i) xs
-      now = c ∙ ap (λ (t : List ℕ). take start xs ++ (replicate (i - start) (v (i - start)) ++ t)) cut ∙ sym (front-append start i xs (drop (suc i) xs))
-
-      fronted : length (front start i xs) ≡ i + 1
-      fronted = front-length start i xs (w .order) (omega arith)
-
-      taken : take (i + 1) xs′ ≡ front start i xs
-      taken = rw now (take-at (front start i xs) (drop (suc i) xs) (i + 1) fronted)
-
-      dropped : drop (i + 1) xs′ ≡ drop (suc i) xs
-      dropped = rw now (drop-at (front start i xs) (drop (suc i) xs) (i + 1) fronted)
-
-      long : length xs′ ≡ length xs₀
-      long = rw (now, length-append (front start i xs) (drop (suc i) xs), length-drop (suc i) xs) (omega (arith, fronted))
-
-      passed : eachRun kind v (replicate (i - start) kind ++ drop i xs) ≡ replicate (i - start) (v (i - start)) ++ (getD xs i 0 ∷ eachRun kind v (drop (suc i) xs))
-      passed = rw (cut, each-run kind v (i - start) (getD xs i 0 ∷ drop (suc i) xs) h, each-other kind v (getD xs i 0) (drop (suc i) xs) h)
+  rewriting-other xs₀ end xs xs′ start i l h c w =
+      let none : i + 1 - (i + 1) ≡ 0 = omega arith in
+      let cut : drop i xs ≡ getD xs i 0 ∷ drop (suc i) xs = drop-cons xs i 0 (omega arith) in
+      let now : xs′ ≡ front start i xs ++ drop (suc i) xs =
+      c ∙ ap (λ (t : List ℕ). take start xs ++ (replicate (i - start) (v (i - start)) ++ t)) cut ∙ sym (front-append start i xs (drop (suc i) xs)) in
+      let fronted : length (front start i xs) ≡ i + 1 = front-length start i xs (w .order) (omega arith) in
+      let taken : take (i + 1) xs′ ≡ front start i xs = rw now (take-at (front start i xs) (drop (suc i) xs) (i + 1) fronted) in
+      let dropped : drop (i + 1) xs′ ≡ drop (suc i) xs = rw now (drop-at (front start i xs) (drop (suc i) xs) (i + 1) fronted) in
+      let long : length xs′ ≡ length xs₀ = rw (now, length-append (front start i xs) (drop (suc i) xs), length-drop (suc i) xs) (omega (arith, fronted)) in
+      let passed : eachRun kind v (replicate (i - start) kind ++ drop i xs) ≡ replicate (i - start) (v (i - start)) ++ (getD xs i 0 ∷ eachRun kind v (drop (suc i) xs)) =
+      rw (cut, each-run kind v (i - start) (getD xs i 0 ∷ drop (suc i) xs) h, each-other kind v (getD xs i 0) (drop (suc i) xs) h) in
+      record {
+        order = omega arith;
+        within = omega arith;
+        ends = w .ends;
+        same = long;
+        parts = rw none (sym (take-append-drop (i + 1) xs′));
+        left = rw (none, taken, dropped) (front-append start i xs (eachRun kind v (drop (suc i) xs)) ∙ ap (λ (t : List ℕ). take start xs ++ t) (sym passed) ∙ w .left);
+      }
 
   -- at the end the last run is rewritten, and the walk is done
   pub rewriting-done : (xs₀ : List ℕ) (end : ℕ) (xs xs′ : List ℕ) (start i stop : ℕ) → end ≤ i → stop ≡ length xs → xs′ ≡ putRun start stop (v (stop - start)) xs
       → Rewriting xs₀ end xs start i → xs′ ≡ eachRun kind v xs₀
   unfolding putRun
-  rewriting-done xs₀ end xs xs′ start i stop l s c w = c ∙ last
-    where
-      at : stop ≡ i
-      at = omega arith
-
-      gone : drop i xs ≡ []
-      gone = drop-of-length-le xs {i = i} (omega arith)
-
-      last : putRun start stop (v (stop - start)) xs ≡ eachRun kind v xs₀
-      last = rw (at, gone) (ap (λ (t : List ℕ). take start xs ++ t) (sym (each-run kind v (i - start) [] tt ∙ ap (λ (t : List ℕ). replicate (i - start) (v (i - start)) ++ t) (each-none kind v)))
-          ∙ ap (λ (t : List ℕ). take start xs ++ eachRun kind v (replicate (i - start) kind ++ t)) (sym gone) ∙ w .left)
+  rewriting-done xs₀ end xs xs′ start i stop l s c w =
+      let at : stop ≡ i = omega arith in
+      let gone : drop i xs ≡ [] = drop-of-length-le xs {i = i} (omega arith) in
+      let last : putRun start stop (v (stop - start)) xs ≡ eachRun kind v xs₀ =
+      rw (at, gone) (ap (λ (t : List ℕ). take start xs ++ t) (sym (each-run kind v (i - start) [] tt ∙ ap (λ (t : List ℕ). replicate (i - start) (v (i - start)) ++ t) (each-none kind v)))
+      ∙ ap (λ (t : List ℕ). take start xs ++ eachRun kind v (replicate (i - start) kind ++ t)) (sym gone) ∙ w .left) in
+      c ∙ last

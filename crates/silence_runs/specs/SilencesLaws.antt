@@ -5,7 +5,7 @@ use mathlib.Core.Logic.{inl, inr}
 use mathlib.Core.Bool.{Bool, true, false, not, cond, _&&_, _||_}
 use mathlib.Core.List.{List, [], _∷_, _++_}
 use Prim.Native.Nat.{ℕ, zero, suc, _+_, _-_, _*_, _/_, _≤_, _<_}
-use native.Mathlib.Nat.{le-refl}
+use native.Mathlib.Nat.{le-refl, add-suc, suc-ne-zero}
 use native.Mathlib.Numerals.{add-one}
 use native.Mathlib.Omega.{arith}
 use lib.Dec.{eqb, ltb, leb, ltb→lt, leb→le, eqb·suc-zero}
@@ -13,8 +13,8 @@ use lib.Ieee.Bits.{is-true}
 use lib.Ieee.Fits.{and-l, and-r}
 use lib.ListN.{length, getD, replicate}
 use borrow.Author.Tests.{ne-eqb, eqb-true, lt-ltb, le-ltb, le-leb, lt-leb}
-use Rattle.base_laws.specs.Tests.{holds, or-r, or-split}
-use Rattle.silence_runs.specs.Runs.{Run, run, joined, runs}
+use Rattle.base_laws.specs.Tests.{holds, or-r, or-split, tested}
+use Rattle.silence_runs.specs.Runs.{Run, joined, runs}
 use Rattle.silence_runs.specs.RunsLaws.{runs-run, longer}
 use Rattle.silence_runs.specs.Silences.{silentRuns, silencesOf, startAt, endAt}
 
@@ -43,23 +43,17 @@ silenceCount xs = startsAfter 1 xs
 
 -- ---- both are the same
 
-suc-not-zero : (n : ℕ) → suc n ≡ 0 → ⊥
-suc-not-zero n e = omega arith
-
-one-up : (k n : ℕ) → k + suc n ≡ suc (k + n)
-one-up k n = omega arith
-
-one-on : (k n : ℕ) → k + suc n ≡ suc k + n
+-- one frame further
+pub one-on : (k n : ℕ) → k + suc n ≡ suc k + n
 one-on k n = omega arith
 
 other-joined : (k y : ℕ) (rs : List Run) → (y ≡ 0 → ⊥) → silentRuns k (joined y rs) ≡ silentRuns (suc k) rs
 unfolding silentRuns joined
 other-joined k y [] h = rw (ne-eqb y 0 h)
-other-joined k y (r ∷ rs) h = go (eqb y (r .flag)) refl
-  where
-    go : (b : Bool) → eqb y (r .flag) ≡ b → silentRuns k (cond b (run y (suc (r .frames)) ∷ rs) (run y 1 ∷ (r ∷ rs))) ≡ silentRuns (suc k) (r ∷ rs)
-    go true e = rw (← eqb-true y (r .flag) e, ne-eqb y 0 h, one-on k (r .frames))
-    go false e = rw (ne-eqb y 0 h, add-one)
+other-joined k y (r ∷ rs) h = elim (tested (eqb y (r .flag))) [
+  | inl e ↦ rw (e, ← eqb-true y (r .flag) e, ne-eqb y 0 h, one-on k (r .frames))
+  | inr e ↦ rw (e, ne-eqb y 0 h, add-one)
+]
 
 mutual
   unfolding silentRuns runs edges isEdge
@@ -68,19 +62,19 @@ mutual
   outside : (xs : List ℕ) (k p : ℕ) → (p ≡ 0 → ⊥) → silentRuns k (runs xs) ≡ edges k p xs
   outside [] k p h = rw (ne-eqb p 0 h)
   outside (zero ∷ xs) k p h = rw (ne-eqb p 0 h) (inside xs 0 k ∙ rw add-one)
-  outside (suc x ∷ xs) k p h = rw (ne-eqb p 0 h, eqb·suc-zero x) (other-joined k (suc x) (runs xs) (suc-not-zero x) ∙ outside xs (suc k) (suc x) (suc-not-zero x))
+  outside (suc x ∷ xs) k p h = rw (ne-eqb p 0 h, eqb·suc-zero x) (other-joined k (suc x) (runs xs) (suc-ne-zero x) ∙ outside xs (suc k) (suc x) (suc-ne-zero x))
 
   -- after n silent frames and one more, of which the first is k
   inside : (xs : List ℕ) (n k : ℕ) → silentRuns k (runs (replicate (suc n) 0 ++ xs)) ≡ k ∷ edges (k + suc n) 0 xs
   inside [] n k = rw (runs-run n 0 [] tt)
-  inside (zero ∷ xs) n k = ap (λ (l : List ℕ). silentRuns k (runs l)) (longer 0 (suc n) xs) ∙ inside xs (suc n) k ∙ ap (λ (m : ℕ). k ∷ edges m 0 xs) (one-up k (suc n))
+  inside (zero ∷ xs) n k = ap (λ (l : List ℕ). silentRuns k (runs l)) (longer 0 (suc n) xs) ∙ inside xs (suc n) k ∙ ap (λ (m : ℕ). k ∷ edges m 0 xs) (add-suc k (suc n))
   inside (suc x ∷ xs) n k =
-      rw (runs-run n 0 (suc x ∷ xs) (suc-not-zero x), eqb·suc-zero x) (ap (λ (l : List ℕ). k ∷ ((k + suc n) ∷ l)) (other-joined (k + suc n) (suc x) (runs xs) (suc-not-zero x) ∙ outside xs (suc (k + suc n)) (suc x) (suc-not-zero x)))
+      rw (runs-run n 0 (suc x ∷ xs) (suc-ne-zero x), eqb·suc-zero x) (ap (λ (l : List ℕ). k ∷ ((k + suc n) ∷ l)) (other-joined (k + suc n) (suc x) (runs xs) (suc-ne-zero x) ∙ outside xs (suc (k + suc n)) (suc x) (suc-ne-zero x)))
 
 -- the silences are the edges, with sound before the first frame
 pub silences-edges : (xs : List ℕ) → silencesOf xs ≡ edges 0 1 xs
 unfolding silencesOf
-silences-edges xs = outside xs 0 1 (suc-not-zero 0)
+silences-edges xs = outside xs 0 1 (suc-ne-zero 0)
 
 -- ---- order
 
@@ -95,16 +89,11 @@ lower lo lo′ hi (y ∷ ys) l r = (omega (arith, r .0), r .1, r .2)
 
 edges-rise : (xs : List ℕ) (k p hi : ℕ) → k + length xs ≤ hi → Rising k hi (edges k p xs)
 unfolding edges
-edges-rise [] k p hi l = go (eqb p 0)
-  where
-    go : (b : Bool) → Rising k hi (cond b (k ∷ []) [])
-    go true = (le-refl k, omega arith, tt)
-    go false = tt
-edges-rise (x ∷ xs) k p hi l = go (isEdge p x) (edges-rise xs (suc k) x hi (omega arith))
-  where
-    go : (b : Bool) → Rising (suc k) hi (edges (suc k) x xs) → Rising k hi (cond b (k ∷ edges (suc k) x xs) (edges (suc k) x xs))
-    go true r = (le-refl k, omega arith, r)
-    go false r = lower (suc k) k hi (edges (suc k) x xs) (omega arith) r
+edges-rise [] k p hi l = elim (tested (eqb p 0)) [ inl e ↦ rw e (le-refl k, omega arith, tt) | inr e ↦ rw e tt ]
+edges-rise (x ∷ xs) k p hi l = let r = edges-rise xs (suc k) x hi (omega arith) in elim (tested (isEdge p x)) [
+  | inl e ↦ rw e (le-refl k, omega arith, r)
+  | inr e ↦ rw e (lower (suc k) k hi (edges (suc k) x xs) (omega arith) r)
+]
 
 -- the silences are in order, none is empty, at least one frame lies between two, and all are within the frame count: the numbers rise strictly
 pub silences-rise : (xs : List ℕ) → Rising 0 (length xs) (silencesOf xs)
@@ -135,19 +124,11 @@ bit p = cond (eqb p 0) 1 0
 
 edges-count : (xs : List ℕ) (k p : ℕ) → length (edges k p xs) ≡ bit p + 2 * startsAfter p xs
 unfolding edges isEdge startsAfter startsAt bit
-edges-count [] k p = go (eqb p 0)
-  where
-    go : (b : Bool) → length (cond b (k ∷ []) []) ≡ cond b 1 0 + 2 * 0
-    go true = refl
-    go false = refl
-edges-count (x ∷ xs) k p = go (eqb p 0) (eqb x 0) (edges (suc k) x xs) (startsAfter x xs) (edges-count xs (suc k) x)
-  where
-    go : (b d : Bool) (l : List ℕ) (n : ℕ) → length l ≡ cond d 1 0 + 2 * n
-        → length (cond (cond b (not d) d) (k ∷ l) l) ≡ cond b 1 0 + 2 * (cond b 0 (cond d 1 0) + n)
-    go true true l n e = omega arith
-    go true false l n e = omega arith
-    go false true l n e = omega arith
-    go false false l n e = omega arith
+edges-count [] k p = elim (tested (eqb p 0)) [ inl e ↦ rw e | inr e ↦ rw e ]
+edges-count (x ∷ xs) k p = let n = edges-count xs (suc k) x in elim (tested (eqb p 0)) [
+  | inl e ↦ elim (tested (eqb x 0)) [ inl f ↦ rw (e, f) (omega (arith, rw f at n)) | inr f ↦ rw (e, f) (omega (arith, rw f at n)) ]
+  | inr e ↦ elim (tested (eqb x 0)) [ inl f ↦ rw (e, f) (omega (arith, rw f at n)) | inr f ↦ rw (e, f) (omega (arith, rw f at n)) ]
+]
 
 -- two numbers for each silence
 pub silences-length : (xs : List ℕ) → length (silencesOf xs) ≡ 2 * silenceCount xs
@@ -156,16 +137,8 @@ silences-length xs = rw (silences-edges xs) (omega (arith, edges-count xs 0 1))
 
 edges-few : (xs : List ℕ) (k p : ℕ) → length (edges k p xs) ≤ length xs + 1
 unfolding edges
-edges-few [] k p = go (eqb p 0)
-  where
-    go : (b : Bool) → length (cond b (k ∷ []) []) ≤ 1
-    go true = omega arith
-    go false = omega arith
-edges-few (x ∷ xs) k p = go (isEdge p x) (edges (suc k) x xs) (edges-few xs (suc k) x)
-  where
-    go : (b : Bool) (l : List ℕ) → length l ≤ length xs + 1 → length (cond b (k ∷ l) l) ≤ suc (length xs) + 1
-    go true l h = omega arith
-    go false l h = omega arith
+edges-few [] k p = elim (tested (eqb p 0)) [ inl e ↦ rw e (omega arith) | inr e ↦ rw e (omega arith) ]
+edges-few (x ∷ xs) k p = elim (tested (isEdge p x)) [ inl e ↦ rw e (omega (arith, edges-few xs (suc k) x)) | inr e ↦ rw e (omega (arith, edges-few xs (suc k) x)) ]
 
 pub silences-room : (xs : List ℕ) → length (silencesOf xs) ≤ length xs + 1
 silences-room xs = rw (silences-edges xs) (edges-few xs 0 1)
@@ -194,10 +167,7 @@ in-open : (xs : List ℕ) (f s k : ℕ) → s ≤ f → f < k → inSilence f (s
 unfolding inSilence edges isEdge
 in-open [] f s k l m = rw (le-leb s f l, lt-ltb f k m)
 in-open (zero ∷ xs) f s k l m = in-open xs f s (suc k) l (omega arith)
-in-open (suc x ∷ xs) f s k l m = rw (eqb·suc-zero x) (go (edges (suc k) (suc x) xs))
-  where
-    go : (l′ : List ℕ) → inSilence f (s ∷ (k ∷ l′)) ≡ true
-    go l′ = rw (le-leb s f l, lt-ltb f k m)
+in-open (suc x ∷ xs) f s k l m = rw (eqb·suc-zero x, le-leb s f l, lt-ltb f k m)
 
 mutual
   unfolding inSilence edges isEdge
@@ -209,7 +179,7 @@ mutual
   exact-outside (zero ∷ xs) (suc f) k p h = rw (ne-eqb p 0 h, one-on k f) (exact-inside xs f k (suc k) (omega arith))
   exact-outside (suc x ∷ xs) zero k p h =
       rw (ne-eqb p 0 h, eqb·suc-zero x) (below-rising (k + 0) (suc k) (suc k + length xs) (edges (suc k) (suc x) xs) (omega arith) (edges-rise xs (suc k) (suc x) (suc k + length xs) (le-refl (suc k + length xs))))
-  exact-outside (suc x ∷ xs) (suc f) k p h = rw (ne-eqb p 0 h, eqb·suc-zero x, one-on k f) (exact-outside xs f (suc k) (suc x) (suc-not-zero x))
+  exact-outside (suc x ∷ xs) (suc f) k p h = rw (ne-eqb p 0 h, eqb·suc-zero x, one-on k f) (exact-outside xs f (suc k) (suc x) (suc-ne-zero x))
 
   -- in a silence that started at s
   exact-inside : (xs : List ℕ) (f s k : ℕ) → s ≤ k → inSilence (k + f) (s ∷ edges k 0 xs) ≡ eqb (getD xs f 1) 0
@@ -220,29 +190,20 @@ mutual
       rw (eqb·suc-zero x, le-leb s (k + 0) (omega arith), le-ltb (k + 0) k (omega arith))
       (below-rising (k + 0) (suc k) (suc k + length xs) (edges (suc k) (suc x) xs) (omega arith) (edges-rise xs (suc k) (suc x) (suc k + length xs) (le-refl (suc k + length xs))))
   exact-inside (suc x ∷ xs) (suc f) s k l =
-      rw (eqb·suc-zero x, le-leb s (k + suc f) (omega arith), le-ltb (k + suc f) k (omega arith), one-on k f) (exact-outside xs f (suc k) (suc x) (suc-not-zero x))
+      rw (eqb·suc-zero x, le-leb s (k + suc f) (omega arith), le-ltb (k + suc f) k (omega arith), one-on k f) (exact-outside xs f (suc k) (suc x) (suc-ne-zero x))
 
 -- a frame is silent exactly where it is in one of the silences (a frame past the end is in none)
 pub silences-exact : (xs : List ℕ) (f : ℕ) → inSilence f (silencesOf xs) ≡ eqb (getD xs f 1) 0
-silences-exact xs f = rw (silences-edges xs) (subst (λ (g : ℕ). inSilence g (edges 0 1 xs) ≡ eqb (getD xs f 1) 0) (from f) (exact-outside xs f 0 1 (suc-not-zero 0)))
-  where
-    from : (g : ℕ) → 0 + g ≡ g
-    from g = omega arith
+silences-exact xs f = rw (silences-edges xs) (subst (λ (g : ℕ). inSilence g (edges 0 1 xs) ≡ eqb (getD xs f 1) 0) (omega arith) (exact-outside xs f 0 1 (suc-ne-zero 0)))
 
 -- ---- membership by number
 
 -- the silences after the first
 pub start-after : (s e : ℕ) (ss : List ℕ) (i : ℕ) → startAt (s ∷ (e ∷ ss)) (suc i) ≡ startAt ss i
-start-after s e ss i = rw (more i)
-  where
-    more : (j : ℕ) → 2 * suc j ≡ suc (suc (2 * j))
-    more j = omega arith
+start-after s e ss i = let more : 2 * suc i ≡ suc (suc (2 * i)) = omega arith in rw more
 
 pub end-after : (s e : ℕ) (ss : List ℕ) (i : ℕ) → endAt (s ∷ (e ∷ ss)) (suc i) ≡ endAt ss i
-end-after s e ss i = rw (more i)
-  where
-    more : (j : ℕ) → 2 * suc j + 1 ≡ suc (suc (2 * j + 1))
-    more j = omega arith
+end-after s e ss i = let more : 2 * suc i + 1 ≡ suc (suc (2 * i + 1)) = omega arith in rw more
 
 -- frame f is in one of the first n silences of a list
 pub record InOne (n : ℕ) (ss : List ℕ) (f : ℕ) : Type 0 where

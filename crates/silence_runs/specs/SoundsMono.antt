@@ -9,15 +9,15 @@ use native.Mathlib.Nat.{not-suc-le-zero}
 use native.Mathlib.Omega.{arith}
 use lib.Dec.{T, eqb, eqb·suc-zero}
 use lib.Ieee.{Float, le}
+use lib.Ieee.Bits.{is-true}
 use lib.ListN.{length, getD, List·getD-eq-default}
-use Rattle.base_laws.specs.Tests.{lt-or-le}
+use Rattle.base_laws.specs.Tests.{lt-or-le, tested, holds}
 use Rattle.base_laws.specs.Order.{float-le-refl, float-le-trans, float-le-numbers}
 use Rattle.base_terms.specs.Lists.{allOf}
 use Rattle.silence_runs.specs.Hysteresis.{reached, soundAt, soundsAfter, hysteresis}
 use Rattle.silence_runs.specs.HysteresisLaws.{hysteresis-length, hysteresis-flags}
 use Rattle.silence_runs.specs.Fill.{fillShort}
-use Rattle.silence_runs.specs.FillLaws.{fill-length}
-use Rattle.silence_runs.specs.FillExact.{fill-mono, fill-flags}
+use Rattle.silence_runs.specs.FillLaws.{fill-length, fill-mono, fill-flags}
 use Rattle.silence_runs.specs.Sounds.{isSilent, anySound, fillSilence, soundsOf}
 
 -- the second list is at least as loud in each frame
@@ -29,13 +29,10 @@ Louder (v ∷ vs) (w ∷ ws) = T (le v w) × Louder vs ws
 
 reached-mono : (s t v w : Float) → T (le t s) → T (le v w) → reached s v ≤ reached t w
 unfolding reached
-reached-mono s t v w h k = go (le s v) (le t w) (λ p. float-le-trans t s w h (float-le-trans s v w p k))
-  where
-    go : (a b : Bool) → (T a → T b) → cond a 1 0 ≤ cond b 1 0
-    go true true f = omega arith
-    go true false f = absurd (f tt)
-    go false true f = omega arith
-    go false false f = omega arith
+reached-mono s t v w h k = elim (tested (le s v)) [
+  | inl e ↦ rw (e, is-true (le t w) (float-le-trans t s w h (float-le-trans s v w (holds e) k))) (omega arith)
+  | inr e ↦ rw e (omega arith)
+]
 
 louder-length : (vs ws : List Float) → Louder vs ws → length vs ≡ length ws
 louder-length [] [] r = refl
@@ -52,11 +49,7 @@ module _ (on off : Float) (order : T (le off on)) where
 
   sound-mono : (b c : ℕ) (v w : Float) (flag : ℕ) → b ≤ c → T (le v w) → soundAt on off b v flag ≤ soundAt on off c w flag
   unfolding soundAt
-  sound-mono b c v w flag l k = go (eqb flag 1)
-    where
-      go : (t : Bool) → cond t 0 (cond (eqb b 0) (reached on v) (reached off v)) ≤ cond t 0 (cond (eqb c 0) (reached on w) (reached off w))
-      go true = omega arith
-      go false = chosen-mono b c v w l k
+  sound-mono b c v w flag l k = elim (tested (eqb flag 1)) [ inl e ↦ rw e (omega arith) | inr e ↦ rw e (chosen-mono b c v w l k) ]
 
   after-mono : (vs ws : List Float) (flags : List ℕ) (b c : ℕ) → b ≤ c → Louder vs ws → (i : ℕ) → getD (soundsAfter on off b vs flags) i 0 ≤ getD (soundsAfter on off c ws flags) i 0
   unfolding soundsAfter
@@ -84,10 +77,7 @@ past-end xs i l = List·getD-eq-default xs 0 {n = i} l
 ordered-sound : (a b : ℕ) → a ≤ 1 → b ≤ 1 → (a ≡ 1 → b ≡ 1) → a ≤ b
 ordered-sound zero b h k f = omega arith
 ordered-sound (suc zero) b h k f = omega (arith, f refl)
-ordered-sound (suc (suc a)) b h k f = absurd (two a h)
-  where
-    two : (n : ℕ) → suc (suc n) ≤ 1 → ⊥
-    two n e = omega arith
+ordered-sound (suc (suc a)) b h k f = absurd (omega arith)
 
 ordered-silence : (a b : ℕ) → a ≤ 1 → b ≤ 1 → (b ≡ 0 → a ≡ 0) → a ≤ b
 ordered-silence a zero h k f = omega (arith, f refl)
@@ -137,13 +127,13 @@ all-silent (x ∷ xs) f = rw (f 0) (all-silent xs (λ i. f (suc i)))
 -- filling short silence, if any sound is left, is monotone
 pub silence-mono : (min : ℕ) (xs ys : List ℕ) → Under xs ys → (i : ℕ) → getD (fillSilence min xs) i 0 ≤ getD (fillSilence min ys) i 0
 unfolding fillSilence
-silence-mono min xs ys u i = go (anySound xs) (anySound ys) refl refl
-  where
-    go : (a b : Bool) → anySound xs ≡ a → anySound ys ≡ b → getD (cond a (fillShort 0 min xs) xs) i 0 ≤ getD (cond b (fillShort 0 min ys) ys) i 0
-    go true true e f = fill-silence-mono min xs ys u .under i
-    go true false e f = absurd (subst T (sym e ∙ all-silent xs (λ j. omega (arith, u .under j, none-sounds ys f j))) tt)
-    go false true e f = rw (none-sounds xs e i) (omega arith)
-    go false false e f = rw (none-sounds xs e i) (omega arith)
+silence-mono min xs ys u i = elim (tested (anySound xs)) [
+  | inl e ↦ elim (tested (anySound ys)) [
+    | inl f ↦ rw (e, f) (fill-silence-mono min xs ys u .under i)
+    | inr f ↦ absurd (subst T (sym e ∙ all-silent xs (λ j. omega (arith, u .under j, none-sounds ys f j))) tt)
+  ]
+  | inr e ↦ rw (e, none-sounds xs e i) (omega arith)
+]
 
 -- a frame that sounds still sounds where frames are louder, by the same thresholds with off not above on, and with the same flags
 pub sounds-mono : (on off : Float) → T (le off on) → (minSound minSilence : ℕ) (vs ws : List Float) (flags : List ℕ) → length flags ≡ length vs → Louder vs ws

@@ -5,7 +5,7 @@ use mathlib.Core.Path.{_≡_}
 use Rattle.candidate_settings.specs.declared.config.Gap.{Gap}
 use Rattle.candidate_settings.specs.declared.config.Gap.the-variants.{Keep, Drop}
 use Rattle.candidate_cuts.specs.PlaceLaws.{chosen-within}
-use Rattle.candidate_cuts.specs.CutWalk.{split-within, whole-bounded, bounds-placeable, silence-overlaps, silence-keeps, silence-drops}
+use Rattle.candidate_cuts.specs.CutLaws.{split-within, whole-bounded, bounds-placeable, silence-overlaps, silence-keeps, silence-drops}
 use Rattle.candidate_cuts.proofs.cut.silence_cut.Statement.{statement}
 use Rattle.candidate_cuts.proofs.cut.silence_cut.Tie as tie
 

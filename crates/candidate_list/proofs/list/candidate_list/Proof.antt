@@ -7,7 +7,7 @@ use borrow.Author.Tests.{not-true, not-false}
 use Rattle.plan_tests.specs.PlanReady.{fine-ready}
 use Rattle.base_terms.specs.Work.{workOf}
 use Rattle.candidate_finder.specs.CandidatesIn.{candidatesIn}
-use Rattle.candidate_finder.specs.Accepted.{ready-plannable}
+use Rattle.candidate_finder.specs.FinderLaws.{ready-plannable}
 use Rattle.candidate_list.specs.CandidateList.{outputOf}
 use Rattle.candidate_list.specs.CandidateListLaws.{stands-copyable, ends-refused, ends-listed}
 use Rattle.candidate_list.proofs.list.candidate_list.Statement.{statement}

@@ -1,6 +1,6 @@
 -- `list::hand_out`: either way the three work lists are cleared after the last use.
 use borrow.Author.Needs.{needs}
-use mathlib.Core.Path.{sym, ap, _∙_}
+use mathlib.Core.Path.{sym, _∙_}
 use Prim.Native.Nat.{_*_}
 use lib.ListN.{take, drop}
 use borrow.Author.Tests.{not-true, not-false}

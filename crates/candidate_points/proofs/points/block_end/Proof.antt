@@ -1,7 +1,7 @@
 -- `points::block_end` looks at one flag after another, up to the first that is set.
 use borrow.Author.Needs.{needs}
 use Prim.Native.Nat.{_-_}
-use Rattle.candidate_points.specs.BlocksWalk.{Opening, opening-start, opening-next, opening-shut, opening-done}
+use Rattle.candidate_points.specs.PointsWalk.{Opening, opening-start, opening-next, opening-shut, opening-done}
 use Rattle.candidate_points.proofs.points.block_end.Statement.{statement}
 use Rattle.candidate_points.proofs.points.block_end.Tie as tie
 

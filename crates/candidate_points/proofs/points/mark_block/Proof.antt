@@ -3,7 +3,7 @@ use borrow.Author.Needs.{needs}
 use native.Mathlib.Omega.{arith}
 use Prim.Native.Nat.{_<_}
 use lib.ListN.{length}
-use Rattle.candidate_points.specs.BlocksWalk.{step-shut, step-open, step-some, step-inside}
+use Rattle.candidate_points.specs.PointsWalk.{step-shut, step-open, step-some, step-inside}
 use Rattle.candidate_points.proofs.points.mark_block.Statement.{statement}
 use Rattle.candidate_points.proofs.points.mark_block.Tie as tie
 

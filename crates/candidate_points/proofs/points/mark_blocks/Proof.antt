@@ -2,8 +2,7 @@
 use borrow.Author.Needs.{needs}
 use native.Mathlib.Omega.{arith}
 use Prim.Native.Nat.{_-_}
-use Rattle.candidate_points.specs.PointsWalk.{HalfMarked, half-start, half-ready, half-next, half-done}
-use Rattle.candidate_points.specs.BlocksWalk.{step-after}
+use Rattle.candidate_points.specs.PointsWalk.{HalfMarked, half-start, half-ready, half-next, half-done, step-after}
 use Rattle.candidate_points.proofs.points.mark_blocks.Statement.{statement}
 use Rattle.candidate_points.proofs.points.mark_blocks.Tie as tie
 

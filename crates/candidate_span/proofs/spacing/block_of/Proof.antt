@@ -1,10 +1,9 @@
 -- `spacing::block_of`: a block lasts a second at most, so its frames fit.
 use borrow.Author.Needs.{needs}
 use mathlib.Core.Path.{ap, _∙_}
-use Prim.Native.Nat.{min}
+use Prim.Native.Nat.{min, max}
 use Rattle.candidate_span.specs.Spacing.{blockOf}
 use Rattle.candidate_span.specs.SpacingLaws.{spaced-block}
-use Prim.Native.Nat.{max}
 use Rattle.grid.specs.Durations.{framesFloor}
 use Rattle.candidate_span.proofs.spacing.block_of.Statement.{statement}
 use Rattle.candidate_span.proofs.spacing.block_of.Tie as tie

@@ -1,4 +1,4 @@
--- `collect::pass`: one law of PassLaws for each end.
+-- `collect::pass`: one law of CollectLaws for each end.
 use borrow.Author.Needs.{needs}
 use native.Mathlib.Omega.{arith}
 use mathlib.Core.Path.{sym, ap, _∙_}
@@ -9,7 +9,7 @@ use Rattle.candidates.specs.declared.candidate.Candidate.{Candidate}
 use Rattle.candidates.specs.Entries.{entriesOf, costsOf}
 use Rattle.candidate_walk.specs.Held.{heldAt, costsAt}
 use Rattle.candidate_walk.specs.HeldLaws.{placed-none}
-use Rattle.candidate_walk.specs.PassLaws.{own-parts, own-puttable, own-here, own-walk, point-puttable, point-here, point-walk, none-here, none-walk}
+use Rattle.candidate_walk.specs.CollectLaws.{own-parts, own-puttable, own-here, own-walk, point-puttable, point-here, point-walk, none-here, none-walk}
 use Rattle.candidate_walk.proofs.collect.pass.Statement.{statement}
 use Rattle.candidate_walk.proofs.collect.pass.Tie as tie
 

@@ -2,7 +2,7 @@
 use borrow.Author.Needs.{needs}
 use native.Mathlib.Omega.{arith}
 use lib.ListN.{length-set}
-use Rattle.candidate_walk.specs.PutLaws.{put-entries, put-cost}
+use Rattle.candidate_walk.specs.HeldLaws.{put-entries, put-cost}
 use Rattle.candidate_walk.proofs.put.put.Statement.{statement}
 use Rattle.candidate_walk.proofs.put.put.Tie as tie
 

@@ -1,5 +1,5 @@
 -- `halves::in_order` chooses by the test of the definition.
-use Rattle.path_by_count_search.specs.Halves.{inOrder}
+use Rattle.path_by_count_search.specs.Visit.{inOrder}
 use borrow.Author.Needs.{needs}
 use Rattle.path_by_count_search.proofs.halves.in_order.Statement.{statement}
 use Rattle.path_by_count_search.proofs.halves.in_order.Tie as tie

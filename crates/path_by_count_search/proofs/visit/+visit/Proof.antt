@@ -4,8 +4,7 @@ use denote.Ref.{now}
 use Rattle.path_by_count_search.specs.StartsLaws.{arrival-nonneg}
 use Rattle.path_by_count_search.specs.TreeLaws.{not-empty}
 use Rattle.path_by_count_search.specs.Visit.{through}
-use Rattle.path_by_count_search.specs.VisitLaws.{first-nonneg}
-use Rattle.path_by_count_search.specs.HalvesLaws.{halved, halves-parts, left-out, join-parts}
+use Rattle.path_by_count_search.specs.VisitLaws.{first-nonneg, halved, halves-parts, left-out, join-parts}
 use borrow.Author.Needs.{needs}
 use native.Mathlib.Omega.{arith}
 use mathlib.Core.Path.{sym, _∙_}

@@ -2,7 +2,6 @@
 use borrow.Author.Needs.{needs}
 use borrow.Author.Tests.{not-true, not-false}
 use native.Mathlib.Omega.{arith}
-use mathlib.Core.Path.{_∙_}
 use lib.Ieee.{binary64}
 use Rattle.base_laws.specs.Nonneg.{nought-is}
 use Rattle.path_by_length.proofs.backward.none_better.Statement.{statement}

@@ -5,7 +5,7 @@ use mathlib.Core.Bool.{Bool}
 use Rattle.grid.specs.declared.validate.Validity.{Validity}
 use Rattle.grid.specs.Validate.{isValid}
 use Rattle.base_laws.specs.Tests.{test-failed, test-passed}
-use Rattle.plan_tests.specs.RefusalLaws.{valid-few, fails-recording, fails-durations, fails-count, fails-ratio, fails-weights, fails-threshold, fails-work, passes}
+use Rattle.plan_tests.specs.RefusalLaws.{fails-recording, fails-durations, fails-count, fails-ratio, fails-weights, fails-threshold, fails-work, passes}
 use Rattle.plan_tests.specs.declared.refusal.Verdict.the-variants.{BadRecording}
 use Rattle.plan_tests.proofs.refusal.first_refusal.Statement.{statement}
 use Rattle.plan_tests.proofs.refusal.first_refusal.Tie as tie

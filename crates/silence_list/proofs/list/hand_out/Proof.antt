@@ -3,7 +3,6 @@ use lib.Seq.{length-take-le}
 use borrow.Author.Needs.{needs}
 use native.Mathlib.Omega.{arith}
 use mathlib.Core.Path.{sym}
-use lib.ListN.{take}
 use Rattle.silence_list.specs.SilencesLaws.{handed-short, handed-found}
 use Rattle.silence_list.proofs.list.hand_out.Statement.{statement}
 use Rattle.silence_list.proofs.list.hand_out.Tie as tie

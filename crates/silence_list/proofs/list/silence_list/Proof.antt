@@ -1,16 +1,11 @@
 -- A refusal touches nothing; else the silences stand at the front of the first work list, which keeps its length, and are handed out.
-use Rattle.silence_list.specs.Refusal.{firstRefusalOf}
 use Rattle.silence_list.specs.RefusalLaws.{fine-ready}
 use Rattle.silence_list.specs.SilencesLaws.{front-fits, list-refused, list-front}
-use Rattle.silence_list.specs.declared.refusal.Verdict.the-variants.{Fine}
 use borrow.Author.Needs.{needs}
 use native.Mathlib.Omega.{arith}
-use mathlib.Core.Path.{_≡_, refl, sym, ap, subst, _∙_}
-use mathlib.Core.Logic.{⊎-elim}
-use mathlib.Core.List.{List, [], _∷_, _++_}
-use Prim.Native.Nat.{ℕ, zero, suc, _+_, _-_, _*_, _≤_, _<_, min}
-use native.Mathlib.Numerals.{add-one}
-use lib.ListN.{length, getD, take, drop, set, replicate, length-append, length-take, length-drop, length-set, length-replicate}
+use mathlib.Core.Path.{_≡_, sym, _∙_}
+use Prim.Native.Nat.{_-_}
+use lib.ListN.{length}
 use Rattle.silence_list.proofs.list.silence_list.Statement.{statement}
 use Rattle.silence_list.proofs.list.silence_list.Tie as tie
 use Rattle.silence_list.proofs.list.silence_list.Reads as reads

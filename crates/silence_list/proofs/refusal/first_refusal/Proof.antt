@@ -4,8 +4,6 @@ use mathlib.Core.Path.{ap, _∙_}
 use Rattle.base_laws.specs.Tests.{test-passed, test-failed}
 use Rattle.grid.specs.Validate.{isValid}
 use Rattle.silence_list.specs.RefusalLaws.{fails-recording, fails-duration, fails-threshold, fails-work, passes}
-use Rattle.silence_list.specs.declared.refusal.Refusal.the-variants.{BadRecording}
-use Rattle.silence_list.specs.declared.refusal.Verdict.the-variants.{Fails}
 use Rattle.silence_list.proofs.refusal.first_refusal.Statement.{statement}
 use Rattle.silence_list.proofs.refusal.first_refusal.Tie as tie
 
