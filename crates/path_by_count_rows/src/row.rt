@@ -14,7 +14,7 @@ ghost use Rattle.path_pieces.specs.Domain.{Searchable};
 ghost use Rattle.path_by_count_rows.specs.Rows.{firstScore, leafScore, behind, Laid, Row, Planted, RowReady};
 ghost use Rattle.path_by_count_rows.specs.Rows.{FirstRow, NextRow, FirstWritten, NextWritten};
 
-// The best predecessor of candidate j in row k.
+// The best predecessor of candidate j in row k, sought from `near` on.
 fn predecessor(
     left: &[u64],
     right: &[u64],
@@ -24,6 +24,7 @@ fn predecessor(
     lengths: Lengths,
     k: usize,
     j: usize,
+    near: usize,
 ) -> Best
     requires { ⌜ RowReady lengths (now left) (now right) leaves (now over) (now cost) k j ⌝ }
     ensures { λ r. ⌜
@@ -33,11 +34,11 @@ fn predecessor(
 {
     let first = over[left.len() * 4 + j] as usize;
     let from = sizes::larger(first, k - 1);
-    least::least_predecessor(right, over, cost, leaves, lengths, left[j], from, j)
+    least::least_predecessor(right, over, cost, leaves, lengths, left[j], from, j, near)
 }
 
 // Writes row k over the row before, from the last candidate down: a score depends on earlier candidates alone, and the inner nodes of the tree still bound these.
-// Scores are compared before the cut at the piece's end is added.
+// Scores are compared before the cut at the piece's end is added. The best predecessors of neighbours lie close together, so each is sought from the one before.
 fn write_row(
     left: &[u64],
     right: &[u64],
@@ -58,13 +59,15 @@ fn write_row(
 {
     let n = left.len();
     let mut j = n;
+    let mut near = n;
     while k < j {
         j -= 1;
-        let best = predecessor(left, right, &*over, &*cost, leaves, lengths, k, j);
+        let best = predecessor(left, right, &*over, &*cost, leaves, lengths, k, j, near);
         let score = score::add_cut_at(best.score, &cost[n * 4..n * 5], j);
         over[leaves + j] = score.over;
         cost[leaves + j] = score.cost;
         row[j] = best.at as u32;
+        near = best.at;
     }
 }
 

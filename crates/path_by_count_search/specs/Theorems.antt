@@ -1,7 +1,7 @@
--- The pruned search gives the plain least: started from the last candidate of a range, it finds the lowest candidate of the range whose score is least.
+-- The pruned search gives the plain least: started from any candidate of a range, it finds the lowest candidate of the range whose score is least.
 use mathlib.Core.Path.{_≡_, sym, subst}
 use mathlib.Core.Logic.{inl, inr}
-use Prim.Native.Nat.{ℕ, _-_, _≤_, _<_}
+use Prim.Native.Nat.{ℕ, _≤_, _<_}
 use native.Mathlib.Omega.{arith}
 use lib.Dec.{T}
 use Rattle.base_terms.specs.Floats.{nonneg}
@@ -14,9 +14,9 @@ use Rattle.path_by_count_search.specs.LeastLaws.{before-least}
 use Rattle.path_by_count_search.specs.Visit.{FirstIn}
 
 -- document 01's "the pruned tree search stays, and is shown to give this"
-pub visit-is-least : (score : ℕ → Score) (leaves from to : ℕ) (s : Score) (r : Best) → ((i : ℕ) → i < to → T (nonneg (score i .cost))) → from < to → to ≤ leaves
-    → s ≡ score (to - 1) → FirstIn score 0 leaves from to (record { score = s; at = to - 1 }) r → heldOf r ≡ leastIn score from to
-visit-is-least score leaves from to s r fine h e q x =
+pub visit-is-least : (score : ℕ → Score) (leaves from to at : ℕ) (s : Score) (r : Best) → ((i : ℕ) → i < to → T (nonneg (score i .cost))) → from ≤ at → at < to
+    → to ≤ leaves → s ≡ score at → FirstIn score 0 leaves from to (record { score = s; at = at }) r → heldOf r ≡ leastIn score from to
+visit-is-least score leaves from to at s r fine h l e q x =
     let place : (from ≤ r .at) × (r .at < to) × (r .score ≡ score (r .at)) = elim (x .source) [
       | inl d ↦ subst (λ (y : Best). (from ≤ y .at) × (y .at < to) × (y .score ≡ score (y .at))) (sym d) (omega arith, omega arith, q)
       | inr f ↦ (f .first, f .last, f .is)

@@ -2,6 +2,7 @@
 use crate::narrow;
 use crate::scan;
 use crate::visit::Query;
+use base_code::sizes;
 use path_pieces::best::Best;
 use path_pieces::lengths::Lengths;
 ghost use mathlib.Core.Path.{_≡_};
@@ -12,7 +13,8 @@ ghost use Rattle.path_by_count_search.specs.Starts.{arrivalAt, Starts};
 ghost use Rattle.path_by_count_search.specs.Tree.{Covers};
 
 // The best predecessor among the candidates from..to of a piece that ends at the place `end`: a short range is searched
-// candidate by candidate, a longer one by the tree.
+// candidate by candidate, a longer one by the tree. That search starts from the candidate of the range next to `near`: the
+// better it is, the more of the tree is left out, and the answer does not depend on it.
 pub fn least_predecessor(
     right: &[u64],
     over: &[u32],
@@ -22,6 +24,7 @@ pub fn least_predecessor(
     end: u64,
     from: usize,
     to: usize,
+    near: usize,
 ) -> Best
     requires { ⌜ Starts lengths (now right) (now over) (now cost) leaves to end ⌝ }
     requires { ⌜ Covers leaves to (now over) (now cost) 1 0 leaves ⌝ }
@@ -32,8 +35,8 @@ pub fn least_predecessor(
     if to - from <= 16 {
         return scan::scan_least(right, over, cost, leaves, lengths, end, from, to);
     }
-    let last = to - 1;
-    let score = scan::score_from(right, over, cost, lengths, end, leaves + last, last);
+    let at = sizes::lesser(sizes::larger(near, from), to - 1);
+    let score = scan::score_from(right, over, cost, lengths, end, leaves + at, at);
     let query = Query {
         min: lengths.min,
         target: lengths.target,
@@ -45,5 +48,5 @@ pub fn least_predecessor(
         to,
         leaves,
     };
-    narrow::seek(right, over, cost, query, Best { score, at: last })
+    narrow::seek(right, over, cost, query, Best { score, at })
 }

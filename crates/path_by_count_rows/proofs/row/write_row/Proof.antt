@@ -11,12 +11,12 @@ use Rattle.path_by_count_rows.proofs.row.write_row.Statement.{statement
 use Rattle.path_by_count_rows.proofs.row.write_row.Tie as tie
 
 abbrev Inv-loop : tie.InvT-loop
-Inv-loop left right leaves lengths k over₀ cost₀ row₀ n j₀ over cost row j =
+Inv-loop left right leaves lengths k over₀ cost₀ row₀ n j₀ near₀ over cost row j near =
     (k ≤ j) × (j ≤ n) × (n ≡ length left) × (length over ≡ length over₀) × (length cost ≡ length cost₀) × (length row ≡ length left)
     × NextWritten lengths left right leaves over₀ cost₀ over cost row k j
 
 abbrev μ-loop : tie.MeasureT-loop
-μ-loop left right leaves lengths k over₀ cost₀ row₀ n j₀ over cost row j = j
+μ-loop left right leaves lengths k over₀ cost₀ row₀ n j₀ near₀ over cost row j near = j
 
 loop-holds : tie.Need-loop-holds Inv-loop μ-loop
 loop-holds c =
