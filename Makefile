@@ -7,7 +7,7 @@
 # make sample                 writes the stored answers anew, from the Rust alone; PART=candidates names one of the
 #                             samples, COUNT=.. sets the number of records, of which 64 KiB are kept
 #
-# FEATURES names the parts that the library has beyond the frame grid: silences, candidates, path.
+# FEATURES names the parts that the library has beyond the frame grid: silences, candidates, path, plan.
 # The published sources of the Rust stay in $(SHARED). Where they are not there, what needs them says so and does nothing.
 SHARED ?= ../shared
 N ?= 200000
@@ -15,8 +15,8 @@ SEED ?= 1
 SUBJECTS ?= all
 LARGE ?=
 PARTS ?= all
-FEATURES ?= silences,candidates,path
-PART ?= grid silences candidates path
+FEATURES ?= silences,candidates,path,plan
+PART ?= grid silences candidates path plan
 COUNT ?= 1024
 
 STATICLIB := target/staticlib/libcapi.a

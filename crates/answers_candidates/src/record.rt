@@ -1,26 +1,26 @@
 // One record: a recording, settings of a plan, and the candidates that the Rust found or its refusal. All numbers are little-endian, with nothing between them.
-// Its front has 172 bytes. Up to byte 72 it is that of a record of silences. Then come
-// from byte 72 on, of 64 bits each: min, target, max;
-// from byte 96 on, of 32 bits each: 1 by count, count, 1 where gaps are dropped, kind of placement, its ratio (a float);
-// from byte 116 on, of 64 bits each: cut, level, pause (floats), pause reference, target weight, short weight (floats);
+// Its front has 172 bytes: the recording (answers_shared::recording), the settings of the plan (answers_shared::plan), and
 // from byte 164 on, of 32 bits each: the refusal, 0 where there is none, and the number of candidates.
 // Behind it stand the values (floats of 32 bits), the flags (bytes) and, for decibels alone, the levels (floats of 64 bits) of its frames;
 // left boundary, right boundary and reason of each candidate, of 32 bits each, and their costs (floats of 64 bits).
+use answers_shared::answer;
 use answers_shared::lists;
 use answers_shared::number;
+use answers_shared::plan;
+use answers_shared::plan::Plan;
+use answers_shared::plan::Weights;
 use answers_shared::record::Replayed;
 use answers_shared::record::broken;
+use answers_shared::recording;
+use answers_shared::recording::Recording;
 use answers_shared::settings;
 use answers_shared::tests;
 use answers_shared::tests::BEFORE;
 use capi::candidates;
 ghost use mathlib.Core.Path.{_≡_};
 ghost use Prim.Native.Nat.{_+_, _*_, _≤_, _<_};
-ghost use mathlib.Core.Bool.{cond};
-ghost use lib.Dec.{eqb};
 ghost use lib.ListN.{length};
-ghost use Rattle.answers_shared.specs.Sample.{noAnswer};
-ghost use Rattle.answers_candidates.specs.Record.{sameNumbers, sameLists, sameWork, agreesWith};
+ghost use Rattle.answers_candidates.specs.Record.{sameLists, agreesWith};
 
 const FRONT: usize = 172;
 
@@ -35,49 +35,11 @@ const ENDS: usize = 128;
 
 const COSTS: usize = 44;
 
-// The settings of a plan.
-pub struct Plan {
-    pub min: u64,
-    pub target: u64,
-    pub max: u64,
-    pub by_count: bool,
-    pub count: u32,
-    pub drop_gaps: bool,
-    pub placement: u8,
-    pub ratio: f32,
-    pub cut: f64,
-    pub level: f64,
-    pub pause: f64,
-    pub pause_ref: u64,
-    pub target_weight: f64,
-    pub short_weight: f64,
-}
-
-fn plan_in(r: &[u8]) -> Plan
-    requires { ⌜ 172 ≤ length (now r) ⌝ }
-{
-    Plan {
-        min: number::u64_at(r, 72),
-        target: number::u64_at(r, 80),
-        max: number::u64_at(r, 88),
-        by_count: number::u32_at(r, 96) == 1,
-        count: number::u32_at(r, 100),
-        drop_gaps: number::u32_at(r, 104) == 1,
-        placement: settings::kind(number::u32_at(r, 108)),
-        ratio: number::f32_at(r, 112),
-        cut: number::f64_at(r, 116),
-        level: number::f64_at(r, 124),
-        pause: number::f64_at(r, 132),
-        pause_ref: number::u64_at(r, 140),
-        target_weight: number::f64_at(r, 148),
-        short_weight: number::f64_at(r, 156),
-    }
-}
-
-// Asks the port. The other numbers come from the record's front.
+// Asks the port.
 fn ask(
-    r: &[u8],
+    recording: Recording,
     plan: Plan,
+    weights: Weights,
     values: &[f32],
     flags: &[u8],
     levels: &[f64],
@@ -87,39 +49,37 @@ fn ask(
     ends: &mut [u32],
     costs: &mut [f64],
     found: &mut u64,
-) -> u32
-    requires { ⌜ 172 ≤ length (now r) ⌝ }
-{
+) -> u32 {
     candidates::buchawzer_candidates(
-        number::u32_at(r, 4),
-        settings::channels(number::u32_at(r, 8)),
-        number::u32_at(r, 12),
-        number::u32_at(r, 16),
-        number::u64_at(r, 32),
-        number::u32_at(r, 20) == 1,
+        recording.sample_rate,
+        recording.channels,
+        recording.frame_rate,
+        recording.hop,
+        recording.len,
+        recording.decibels,
         values,
         flags,
         levels,
-        settings::kind(number::u32_at(r, 24)),
-        number::f32_at(r, 28),
-        number::u64_at(r, 40),
-        number::u64_at(r, 48),
-        number::u64_at(r, 56),
-        number::u64_at(r, 64),
+        recording.threshold_kind,
+        recording.threshold,
+        recording.min_silence,
+        recording.min_sound,
+        recording.pre,
+        recording.tail,
         plan.min,
         plan.target,
         plan.max,
         plan.by_count,
         plan.count,
         plan.drop_gaps,
-        plan.placement,
+        plan.placement_kind,
         plan.ratio,
-        plan.cut,
-        plan.level,
-        plan.pause,
-        plan.pause_ref,
-        plan.target_weight,
-        plan.short_weight,
+        weights.cut,
+        weights.level,
+        weights.pause,
+        weights.pause_ref,
+        weights.target,
+        weights.short,
         work_u32,
         work_u64,
         work_f64,
@@ -127,25 +87,6 @@ fn ask(
         costs,
         found,
     )
-}
-
-// The number of candidates that a call leaves: the stored one where there is no refusal.
-fn count_left(refusal: u32, n: usize) -> u64
-    ensures { λ r. ⌜ r ≡ cond (eqb refusal 0) n noAnswer ⌝ }
-{
-    if refusal == 0 {
-        return n as u64;
-    }
-    number::NO_ANSWER
-}
-
-// The refusal and the number of candidates are as the record says.
-fn same_numbers(r: &[u8], n: usize, refusal: u32, found: u64) -> bool
-    requires { ⌜ 172 ≤ length (now r) ⌝ }
-    ensures { λ b. ⌜ b ≡ sameNumbers (now (r .entry)) n refusal found ⌝ }
-{
-    let stored = number::u32_at(r, 164);
-    (refusal == stored) & (found == count_left(stored, n))
 }
 
 // Both outputs are as the record says, from a place on.
@@ -156,18 +97,6 @@ fn same_lists(r: &[u8], at: usize, n: usize, ends: &[u32], costs: &[f64]) -> boo
     ensures { λ b. ⌜ b ≡ sameLists (now (r .entry)) at n (now (ends .entry)) (now (costs .entry)) ⌝ }
 {
     tests::holds_u32(3 * n, ends, r, at, BEFORE) & tests::holds_f64(n, costs, r, at + 12 * n, 1.0)
-}
-
-// The work lists are as a call leaves them that ends as the record says.
-fn same_work(r: &[u8], work_u32: &[u32], work_u64: &[u64], work_f64: &[f64]) -> bool
-    requires { ⌜ 172 ≤ length (now r) ⌝ }
-    ensures { λ b. ⌜ b ≡ sameWork (now (r .entry))
-        (now («work_u32» .entry)) (now («work_u64» .entry)) (now («work_f64» .entry)) ⌝ }
-{
-    if number::u32_at(r, 164) == 0 {
-        return tests::cleared(work_u32, work_u64, work_f64);
-    }
-    tests::are_only(work_u32, BEFORE, work_u64, 1, work_f64, 1.0)
 }
 
 // What the operation left is what the record says.
@@ -190,9 +119,9 @@ fn as_stored(
     ensures { λ b. ⌜ b ≡ agreesWith (now (r .entry)) at n refusal found (now (ends .entry)) (now (costs .entry))
         (now («work_u32» .entry)) (now («work_u64» .entry)) (now («work_f64» .entry)) ⌝ }
 {
-    same_numbers(r, n, refusal, found)
+    answer::same_numbers(r, n, refusal, found)
         & same_lists(r, at, n, ends, costs)
-        & same_work(r, work_u32, work_u64, work_f64)
+        & answer::same_work(r, work_u32, work_u64, work_f64)
 }
 
 // The port's answer is the one that stands in the record from a place on.
@@ -208,8 +137,9 @@ fn agrees(r: &[u8], values: &[f32], flags: &[u8], levels: &[f64], at: usize, n: 
     let mut costs = [1f64; COSTS];
     let mut found = number::NO_ANSWER;
     let refusal = ask(
-        r,
-        plan_in(r),
+        recording::recording_in(r),
+        plan::plan_in(r),
+        plan::weights_in(r),
         values,
         flags,
         levels,

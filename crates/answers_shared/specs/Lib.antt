@@ -7,6 +7,10 @@ pub mod Parts
 pub mod Sample
 -- SampleLaws: what holds while a number is read (`number-next`), a list is copied (`copied-next`) and tested (`below-next`)
 pub mod SampleLaws
+-- Answer: `sameNumbers`, `sameWork`, when the answer and work memory are as a record says
+pub mod Answer
+-- Front: `recordingIn`, `planIn`, `weightsIn`, the numbers at the front of a record
+pub mod Front
 -- Tally: the count of records with one more (`withRecord`), and its bound (`UpTo`)
 pub mod Tally
 -- TallyLaws: `up-next`, the bound with one record more

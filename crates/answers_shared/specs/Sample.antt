@@ -59,6 +59,10 @@ allBelow p (suc n) = allBelow p n && p n
 abbrev pub sameAt : List ℕ → List ℕ → ℕ → ℕ → Bool
 sameAt list s at i = eqb (getD list i 0) (u32At s (at + 4 * i))
 
+-- the same of numbers of 64 bits
+abbrev pub sameWordAt : List ℕ → List ℕ → ℕ → ℕ → Bool
+sameWordAt list s at i = eqb (getD list i 0) (u64At s (at + 8 * i))
+
 -- float i of a list has the bits that stand in the sample
 abbrev pub sameBitsAt : List Float → List ℕ → ℕ → ℕ → Bool
 sameBitsAt list s at i = eqb (bitsOf (getD list i nan)) (u64At s (at + 8 * i))
@@ -73,6 +77,10 @@ hasBits x y = eqb (bitsOf y) (bitsOf x)
 -- a list has n numbers of the sample at its front, and each beyond them is x
 abbrev pub holds : ℕ → List ℕ → List ℕ → ℕ → ℕ → Bool
 holds n list s at x = allBelow (sameAt list s at) n && allOf (isOnly x) (drop n list)
+
+-- the same of numbers of 64 bits
+abbrev pub holdsWords : ℕ → List ℕ → List ℕ → ℕ → ℕ → Bool
+holdsWords n list s at x = allBelow (sameWordAt list s at) n && allOf (isOnly x) (drop n list)
 
 -- the same of floats
 abbrev pub holdsBits : ℕ → List Float → List ℕ → ℕ → Float → Bool

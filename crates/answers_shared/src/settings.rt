@@ -2,11 +2,12 @@
 ghost use mathlib.Core.Path.{_≡_};
 ghost use mathlib.Core.Bool.{cond};
 ghost use Prim.Native.Nat.{_≤_};
-ghost use lib.Dec.{ltb, eqb};
+ghost use lib.Dec.{eqb};
+ghost use Rattle.answers_shared.specs.Front.{channelsOf, kindOf};
 
 // The number of channels, and 0 for one that has more than 16 bits.
 pub fn channels(w: u32) -> u16
-    ensures { λ r. ⌜ r ≡ cond (ltb 65535 w) 0 w ⌝ }
+    ensures { λ r. ⌜ r ≡ channelsOf w ⌝ }
 {
     if 65_535 < w {
         return 0;
@@ -16,7 +17,7 @@ pub fn channels(w: u32) -> u16
 
 // The kind of a threshold or a placement: there are three of each, and 3 is none.
 pub fn kind(w: u32) -> u8
-    ensures { λ r. ⌜ r ≡ cond (ltb 2 w) 3 w ⌝ }
+    ensures { λ r. ⌜ r ≡ kindOf w ⌝ }
 {
     if 2 < w {
         return 3;

@@ -6,7 +6,7 @@ ghost use Prim.Native.Nat.{_+_, _*_, _≤_};
 ghost use lib.Ieee.{binary64, ofBits};
 ghost use lib.ListN.{length};
 ghost use Rattle.base_terms.specs.Lists.{allOf};
-ghost use Rattle.answers_shared.specs.Sample.{allBelow, sameAt, sameBitsAt, isOnly, hasBits, holds, holdsBits, areOnly};
+ghost use Rattle.answers_shared.specs.Sample.{allBelow, sameAt, sameWordAt, sameBitsAt, isOnly, hasBits, holds, holdsWords, holdsBits, areOnly};
 
 // What stands in a list of u32 before a call: the number of no frame, boundary or candidate.
 pub const BEFORE: u32 = 2_882_343_476;
@@ -20,6 +20,19 @@ fn same_u32(n: usize, list: &[u32], s: &[u8], at: usize) -> bool
     let mut ok = true;
     for i in 0..n {
         ok = ok & (list[i] == number::u32_at(s, at + 4 * i));
+    }
+    ok
+}
+
+// The first n numbers are those of the sample at a place.
+fn same_u64(n: usize, list: &[u64], s: &[u8], at: usize) -> bool
+    requires { ⌜ at + 8 * n ≤ length (now s) ⌝ }
+    requires { ⌜ n ≤ length (now list) ⌝ }
+    ensures { λ r. ⌜ r ≡ allBelow (sameWordAt (now (list .entry)) (now (s .entry)) at) n ⌝ }
+{
+    let mut ok = true;
+    for i in 0..n {
+        ok = ok & (list[i] == number::u64_at(s, at + 8 * i));
     }
     ok
 }
@@ -77,6 +90,15 @@ pub fn holds_u32(n: usize, list: &[u32], s: &[u8], at: usize, x: u32) -> bool
     ensures { λ r. ⌜ r ≡ holds n (now (list .entry)) (now (s .entry)) at x ⌝ }
 {
     same_u32(n, list, s, at) & only_u32(&list[n..], x)
+}
+
+// The same of numbers of 64 bits.
+pub fn holds_u64(n: usize, list: &[u64], s: &[u8], at: usize, x: u64) -> bool
+    requires { ⌜ at + 8 * n ≤ length (now s) ⌝ }
+    requires { ⌜ n ≤ length (now list) ⌝ }
+    ensures { λ r. ⌜ r ≡ holdsWords n (now (list .entry)) (now (s .entry)) at x ⌝ }
+{
+    same_u64(n, list, s, at) & only_u64(&list[n..], x)
 }
 
 // The same of floats.

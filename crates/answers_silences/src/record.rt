@@ -1,10 +1,12 @@
 // One record: a recording, settings, and the silences that the Rust found. All numbers are little-endian, with nothing between them.
-// Its front has 72 bytes. From byte 0 on, of 32 bits each: frames, sample rate, channels, frame rate, hop, domain (1 for decibels), kind of threshold, its number (a float); from byte 32 on, of 64 bits each: length, min silence, min sound, pre, tail.
+// Its front has 72 bytes, which are the recording (answers_shared::recording).
 // Then the values (floats of 32 bits), the flags (bytes) and, for decibels alone, the levels (floats of 64 bits) of its frames; the number of silences, and two numbers of 32 bits for each.
 use answers_shared::lists;
 use answers_shared::number;
 use answers_shared::record::Replayed;
 use answers_shared::record::broken;
+use answers_shared::recording;
+use answers_shared::recording::Recording;
 use answers_shared::settings;
 use answers_shared::tests;
 use answers_shared::tests::BEFORE;
@@ -25,9 +27,9 @@ const WORK: usize = 976;
 
 const OUT: usize = 64;
 
-// Asks the port. The numbers come from the record's front.
+// Asks the port.
 fn ask(
-    r: &[u8],
+    recording: Recording,
     values: &[f32],
     flags: &[u8],
     levels: &[f64],
@@ -36,25 +38,23 @@ fn ask(
     work_f64: &mut [f64],
     out: &mut [u32],
     count: &mut u64,
-) -> u32
-    requires { ⌜ 72 ≤ length (now r) ⌝ }
-{
+) -> u32 {
     silences::buchawzer_silence_list(
-        number::u32_at(r, 4),
-        settings::channels(number::u32_at(r, 8)),
-        number::u32_at(r, 12),
-        number::u32_at(r, 16),
-        number::u64_at(r, 32),
-        number::u32_at(r, 20) == 1,
+        recording.sample_rate,
+        recording.channels,
+        recording.frame_rate,
+        recording.hop,
+        recording.len,
+        recording.decibels,
         values,
         flags,
         levels,
-        settings::kind(number::u32_at(r, 24)),
-        number::f32_at(r, 28),
-        number::u64_at(r, 40),
-        number::u64_at(r, 48),
-        number::u64_at(r, 56),
-        number::u64_at(r, 64),
+        recording.threshold_kind,
+        recording.threshold,
+        recording.min_silence,
+        recording.min_sound,
+        recording.pre,
+        recording.tail,
         work_u32,
         work_u64,
         work_f64,
@@ -105,7 +105,7 @@ fn agrees(
     let mut out = [BEFORE; OUT];
     let mut count = number::NO_ANSWER;
     let refusal = ask(
-        r,
+        recording::recording_in(r),
         values,
         flags,
         levels,

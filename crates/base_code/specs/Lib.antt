@@ -17,5 +17,6 @@ pub mod Copying
 pub mod Floats
 -- RoundLaws: twice a value is exact, so that halving its whole part rounds half away from zero (`doubled`)
 pub mod RoundLaws
--- WorkLaws: test 13 by sixteenths (`long-enough`, `too-short`), and what it leaves of the three work lists (`WorkIn`, `work-parts`)
+-- WorkLaws: test 13 by sixteenths (`long-enough`, `too-short`), and what it leaves of the three work lists (`WorkIn`, `work-parts`); lists of one length are cleared to the
+--   same (`filled-same`, `cleared-same`)
 pub mod WorkLaws

@@ -151,7 +151,7 @@ pub record Plannable (r : Recording) (segment : SegmentConfig) (plan : PlanConfi
   pub ratio : ratioOk (plan .placement) ≡ true
 
 module _ (r : Recording) (segment : SegmentConfig) (plan : PlanConfig) (values : List Float) (flags : List ℕ) (lent : List Float) where
-  no-frames : (gap : Gap) (n : ℕ) (ss : List ℕ) → n ≡ 0 → emptySpan gap n ss ≡ true
+  pub no-frames : (gap : Gap) (n : ℕ) (ss : List ℕ) → n ≡ 0 → emptySpan gap n ss ≡ true
   unfolding emptySpan
   no-frames Keep n ss e = rw e
   no-frames Drop n ss e = rw e

@@ -19,5 +19,6 @@ pub mod Stretches
 pub mod SpanIn
 -- PlanCandidates: what document 01 says of a plan's candidates: where they lie (`PlanCandidates`), what they cost (`PlanCosts`)
 pub mod PlanCandidates
--- Theorems: it holds of `candidatesIn` wherever the tests pass and the span is not empty (`plan-candidates`, `plan-costs`); in an empty span there are none (`plan-empty`)
+-- Theorems: it holds of `candidatesIn` wherever the tests pass and the span is not empty (`plan-candidates`, `plan-costs`); in an empty span there are none (`plan-empty`).
+--   What later floors ask of them: `found-are`, `planned`, `sampled`, `costed`
 pub mod Theorems

@@ -23,7 +23,7 @@ use Rattle.candidates.specs.Entries.{costsOf}
 use Rattle.candidates.specs.Members.{candidateAt}
 use Rattle.candidates.specs.Sources.{Source}
 use Rattle.candidates.specs.Alone.{cutOf}
-use Rattle.candidates.specs.Asked.{leftsOf, rightsOf}
+use Rattle.candidates.specs.Samples.{leftsOf, rightsOf}
 use Rattle.candidates.specs.Cheapest.{Cheapest}
 use Rattle.candidates.specs.declared.candidate.Candidate.{Candidate}
 use Rattle.candidate_finder.specs.CandidatesIn.{runsIn, levelsIn, spacingIn, contextOf}

@@ -48,29 +48,29 @@ module _ (x : Context) (g : FrameGrid) (s : Spacing) (count first last : ℕ) (w
   abbrev hold : Holding x count work workf
   hold = p .collectable .holding
 
-  inside : (first < last) × (last ≤ x .frames)
-  inside =
+  pub span-inside : (first < last) × (last ≤ x .frames)
+  span-inside =
       rw (p .collectable .starts, p .collectable .stops)
       (ends-order (x .gap) (x .frames) (x .pre) (x .tail) (silencesHeld count work) (p .collectable .prepared .spanned))
 
   pub span-markable : Markable g s count first last work workf
   span-markable =
       let listed = subst (λ (n : ℕ). Listed n (silencesHeld count work)) (sym (p .size)) (hold .listed) in
-      search (arith, p .bounded, hold .apart, p .size, p .some, inside .0, inside, hold .room, hold .roomf)
+      search (arith, p .bounded, hold .apart, p .size, p .some, span-inside .0, span-inside, hold .room, hold .roomf)
 
   -- work memory with the marks
   abbrev now′ : List ℕ
   now′ = markedOf (x .gap) g s count first last work workf
 
-  same-size : length now′ ≡ length work
-  same-size = mark-length (x .gap) g s count first last work workf span-markable
+  pub span-size : length now′ ≡ length work
+  span-size = mark-length (x .gap) g s count first last work workf span-markable
 
-  same-silences : silencesHeld count now′ ≡ silencesHeld count work
-  same-silences = mark-stays (x .gap) g s count first last work workf span-markable (2 * count) (omega (arith, hold .apart, p .size))
+  pub span-silences : silencesHeld count now′ ≡ silencesHeld count work
+  span-silences = mark-stays (x .gap) g s count first last work workf span-markable (2 * count) (omega (arith, hold .apart, p .size))
 
-  same-runs : runsHeld (x .frames) now′ ≡ runsHeld (x .frames) work
-  same-runs =
-      part-front (x .frames) (x .frames + 1) now′ (omega (arith, hold .room, same-size))
+  pub span-runs : runsHeld (x .frames) now′ ≡ runsHeld (x .frames) work
+  span-runs =
+      part-front (x .frames) (x .frames + 1) now′ (omega (arith, hold .room, span-size))
       ∙ ap (drop (x .frames + 1)) (mark-stays (x .gap) g s count first last work workf span-markable (x .frames + 1 + x .frames) (omega (arith, p .size)))
       ∙ sym (part-front (x .frames) (x .frames + 1) work (omega (arith, hold .room)))
 
@@ -78,22 +78,22 @@ module _ (x : Context) (g : FrameGrid) (s : Spacing) (count first last : ℕ) (w
   pub span-collectable : Collectable x count first last now′ workf
   span-collectable = record {
     holding = record {
-      listed = rw same-silences (hold .listed);
+      listed = rw span-silences (hold .listed);
       apart = hold .apart;
       some = hold .some;
       few = hold .few;
-      room = omega (arith, hold .room, same-size);
+      room = omega (arith, hold .room, span-size);
       roomf = hold .roomf;
     };
-    prepared = rw same-silences (p .collectable .prepared);
-    starts = rw same-silences (p .collectable .starts);
-    stops = rw same-silences (p .collectable .stops);
+    prepared = rw span-silences (p .collectable .prepared);
+    starts = rw span-silences (p .collectable .starts);
+    stops = rw span-silences (p .collectable .stops);
   }
 
   -- and finds the candidates with a point at each grid point
   pub span-found : collected x count first last now′ workf ≡ foundOf x g s count first last work workf
   span-found = unfold collected in unfold foundOf in
-      rw (same-silences, same-runs)
+      rw (span-silences, span-runs)
       (candidates-same x (silencesHeld count work) (runsHeld (x .frames) work) (levelsHeld (x .frames) workf) (passing (marked (x .frames) now′) (boundaries first (last - suc first)))
       (pointsIn x g s (silencesHeld count work) (levelsHeld (x .frames) workf) first last) first last at)
     where
@@ -102,7 +102,7 @@ module _ (x : Context) (g : FrameGrid) (s : Spacing) (count first last : ℕ) (w
       at k a b =
           marked-in (marked (x .frames) now′) first (last - suc first) k a (omega arith)
           ∙ subst (λ (n : ℕ). marked n now′ k ≡ isIn (pointsIn x g s (silencesHeld count work) (levelsHeld n workf) first last) k) (p .size)
-          (mark-is (x .gap) g s count first last work workf span-markable k (omega (arith, inside, p .size)))
+          (mark-is (x .gap) g s count first last work workf span-markable k (omega (arith, span-inside, p .size)))
 
   -- all three of what the walk leaves; marks are what it starts from
   pub span-done : (work₁ : List ℕ) (k : ℕ) (work₂ : List ℕ) (workf₂ : List Float) → work₁ ≡ now′ → k ≡ length (collected x count first last work₁ workf)

@@ -85,7 +85,7 @@ module _ (r : Recording) (segment : SegmentConfig) (plan : PlanConfig) (values :
     ks = gridPointsIn r segment plan values flags lent
 
     -- the list is that of the span's candidates
-    found-are : candidatesIn r segment plan values flags lent ≡ candidatesOf x ss runs levels ks first last
+    pub found-are : candidatesIn r segment plan values flags lent ≡ candidatesOf x ss runs levels ks first last
     unfolding candidatesIn candidatesFrom candidatesWithin
     found-are = rw (ends-between (plan .gap) (length values) (s .pre) (s .tail) ss full)
 
@@ -106,7 +106,7 @@ module _ (r : Recording) (segment : SegmentConfig) (plan : PlanConfig) (values :
     fits = record { frames = refl; before = refl; after = refl; some = p .block-some }
 
     -- points stand at kept frame boundaries
-    planned : Planned x ss levels ks first last
+    pub planned : Planned x ss levels ks first last
     planned = grid-planned x g s ss levels fits prepared
 
     -- and strictly inside the span
@@ -114,7 +114,7 @@ module _ (r : Recording) (segment : SegmentConfig) (plan : PlanConfig) (values :
     inside k t = grid-inside x g s ss levels fits first last k t
 
     -- the grid is of a length that refusal 6 passes
-    sampled : Sampled x g
+    pub sampled : Sampled x g
     sampled = record { accepted = p .accepted; same = refl; held = p .length-bounded }
 
     -- ---- where they lie
@@ -167,7 +167,7 @@ module _ (r : Recording) (segment : SegmentConfig) (plan : PlanConfig) (values :
 
     module _ (f : Fitting values lent) where
       -- every level is a number from 0 to 1
-      costed : Costed x g runs levels
+      pub costed : Costed x g runs levels
       costed = record {
         weighed = p .weights;
         scale = λ (k : ℕ) (l : k ≤ length values). unfold levelsIn in

@@ -48,7 +48,7 @@ pub fn span_candidates(
 }
 
 // The settings and numbers that every candidate is made with.
-fn context_with(r: Recording, plan: PlanConfig, s: Spacing, frames: usize) -> Context
+pub fn context_with(r: Recording, plan: PlanConfig, s: Spacing, frames: usize) -> Context
     ensures { λ x. ⌜ x ≡ contextWith r plan s frames ⌝ }
 {
     let gap = plan.gap;

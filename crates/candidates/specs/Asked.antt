@@ -7,7 +7,6 @@ use native.Mathlib.Omega.{arith}
 use lib.Ieee.{Float, nan}
 use lib.ListN.{length, getD, length-map}
 use Rattle.grid.specs.declared.boundary.FrameGrid.{FrameGrid}
-use Rattle.grid.specs.Boundary.{boundaryOf}
 use Rattle.grid.specs.BoundaryLaws.{Accepted, boundary-le-len}
 use Rattle.base_terms.specs.Limits.{maxLen}
 use Rattle.path_pieces.specs.Domain.{Candidates, Costs}
@@ -15,27 +14,12 @@ use Rattle.candidates.specs.declared.candidate.Candidate.{Candidate}
 use Rattle.candidates.specs.declared.context.Context.{Context}
 use Rattle.candidates.specs.Candidates.{candidatesOf}
 use Rattle.candidates.specs.Entries.{costsOf}
+use Rattle.candidates.specs.Samples.{leftSample, rightSample, leftsOf, rightsOf}
 use Rattle.candidates.specs.EntriesLaws.{costs-length}
 use Rattle.candidates.specs.Members.{candidateAt}
 use Rattle.candidates.specs.Sources.{Planned}
 use Rattle.candidates.specs.Order.{span-ends, candidates-some, candidates-few, position-order, positions-apart}
 use Rattle.candidates.specs.Costs.{Costed, candidate-cost}
-
--- ---- candidates as the search takes them
-
--- a candidate's ends in samples
-abbrev pub leftSample : FrameGrid → Candidate → ℕ
-leftSample g c = boundaryOf g (c .left)
-
-abbrev pub rightSample : FrameGrid → Candidate → ℕ
-rightSample g c = boundaryOf g (c .right)
-
--- those of all
-abbrev pub leftsOf : FrameGrid → List Candidate → List ℕ
-leftsOf g cs = map (leftSample g) cs
-
-abbrev pub rightsOf : FrameGrid → List Candidate → List ℕ
-rightsOf g cs = map (rightSample g) cs
 
 sample-at : (f : Candidate → ℕ) (cs : List Candidate) (i : ℕ) → i < length cs → getD (map f cs) i 0 ≡ f (candidateAt cs i)
 sample-at f [] i h = absurd (omega arith)

@@ -30,6 +30,8 @@ pub mod Cheapest
 pub mod Same
 -- GridPoints: the grid points make a plan's candidates (`grid-planned`), and lie strictly inside the span (`grid-inside`)
 pub mod GridPoints
+-- Samples: candidates in samples, as the path search takes them (`leftsOf`, `rightsOf`)
+pub mod Samples
 -- Asked: candidates in samples and their costs are of the path search's domain (`candidates-asked`, `costs-asked`)
 pub mod Asked
 -- Added: candidates with added points are a plan's again (`planned-added`), and what merging the added points with the candidates gives (`candidates-added`)

@@ -31,8 +31,8 @@ abbrev pub weightsOf : Float → Float → Float → ℕ → Float → Float →
 weightsOf cut level pause reference target short = record { cut = cut; level = level; pause = pause; «pause_ref» = reference; target = target; short = short }
 
 -- the settings of a plan, as C hands them over
-abbrev pub planOf : ℕ → ℕ → ℕ → Bool → ℕ → Bool → ℕ → Float → Weights → PlanConfig
-planOf least target most byCount count dropGaps kind ratio weights = record {
+abbrev pub planConfigOf : ℕ → ℕ → ℕ → Bool → ℕ → Bool → ℕ → Float → Weights → PlanConfig
+planConfigOf least target most byCount count dropGaps kind ratio weights = record {
   min = least;
   target = target;
   max = most;

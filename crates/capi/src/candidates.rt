@@ -16,7 +16,7 @@ ghost use Rattle.plan_tests.specs.Fitting.{Fitting};
 ghost use Rattle.candidate_list.specs.CandidateList.{outputOf, candidateListOf};
 ghost use Rattle.capi.specs.Grid.{recordingOf};
 ghost use Rattle.capi.specs.Silences.{segmentOf};
-ghost use Rattle.capi.specs.Candidates.{gapSetting, placementOf, weightsOf, planOf, foundAfter, listCalled, listCalledOf};
+ghost use Rattle.capi.specs.Candidates.{gapSetting, placementOf, weightsOf, planConfigOf, foundAfter, listCalled, listCalledOf};
 
 fn gap_setting(drop_gaps: bool) -> Gap
     ensures { λ r. ⌜ r ≡ gapSetting «drop_gaps» ⌝ }
@@ -43,7 +43,14 @@ fn placement_of(kind: u8, ratio: f32) -> Placement
     Placement::Ratio(0.0 / 0.0)
 }
 
-fn weights_of(cut: f64, level: f64, pause: f64, pause_ref: u64, target: f64, short: f64) -> Weights
+pub fn weights_of(
+    cut: f64,
+    level: f64,
+    pause: f64,
+    pause_ref: u64,
+    target: f64,
+    short: f64,
+) -> Weights
     ensures { λ r. ⌜ r ≡ weightsOf cut level pause «pause_ref» target short ⌝ }
 {
     Weights {
@@ -57,7 +64,7 @@ fn weights_of(cut: f64, level: f64, pause: f64, pause_ref: u64, target: f64, sho
 }
 
 // The settings of a plan with these numbers.
-fn plan_of(
+pub fn plan_config(
     min: u64,
     target: u64,
     max: u64,
@@ -68,7 +75,7 @@ fn plan_of(
     ratio: f32,
     weights: Weights,
 ) -> PlanConfig
-    ensures { λ r. ⌜ r ≡ planOf min target max «by_count» count «drop_gaps» «placement_kind» ratio weights ⌝ }
+    ensures { λ r. ⌜ r ≡ planConfigOf min target max «by_count» count «drop_gaps» «placement_kind» ratio weights ⌝ }
 {
     PlanConfig {
         min,
@@ -139,7 +146,7 @@ pub extern "C" fn buchawzer_candidates(
         (candidateListOf
         (recordingOf «sample_rate» channels «frame_rate» hop len decibels)
         (segmentOf «threshold_kind» threshold «min_silence» «min_sound» pre tail)
-        (planOf min target max «by_count» count «drop_gaps» «placement_kind» ratio
+        (planConfigOf min target max «by_count» count «drop_gaps» «placement_kind» ratio
         (weightsOf cut level pause «pause_ref» «target_weight» «short_weight»))
         (now (values .entry)) (now (flags .entry)) (now (levels .entry))
         (outputOf (now (ends .entry)) (now (costs .entry)))
@@ -158,7 +165,7 @@ pub extern "C" fn buchawzer_candidates(
         tail,
     );
     let weights = weights_of(cut, level, pause, pause_ref, target_weight, short_weight);
-    let plan = plan_of(
+    let plan = plan_config(
         min,
         target,
         max,

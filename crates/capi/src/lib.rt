@@ -2,6 +2,7 @@
 pub mod best_path;
 pub mod candidates;
 pub mod convert;
+pub mod plan;
 pub mod recording;
 pub mod silences;
 pub mod work;

@@ -20,9 +20,10 @@ pub mod NextLaws
 pub mod Fits
 -- FitsLaws: it has exactly where the limit is feasible (`fits-feasible`, `feasible-fits`), and then the steps make the greedy division (`fits-greedy`)
 pub mod FitsLaws
--- Reach: what an answer to the search for the reach says (`ReachIs`), and between which limits it lies (`Bracket`)
+-- Reach: the reach, or that there is none (`reachOf`)
 pub mod Reach
--- ReachLaws: how these limits close in on it, and the three ends of the search
+-- ReachLaws: it is the least feasible limit from the maximum on (`reach-is`, `is-reach`, `no-reach`), and the only answer (`reach-only`, `reach-of`, `of-no-reach`);
+--   between which limits it lies while code searches for it (`Bracket`)
 pub mod ReachLaws
 -- Cuts: the cuts of the division that goes as far as it can (`cutsOf`), and their marks in work memory (`marking`)
 pub mod Cuts

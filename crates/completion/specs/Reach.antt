@@ -1,22 +1,23 @@
--- Document 01's "reach", as it is sought: 18 is "no reach exists".
-use Prim.Native.Nat.{ℕ, _≤_}
+-- Document 01's "reach": "the least limit, at or above the maximum, for which a division of the span has at most min(N, kept frames) pieces and none longer than that limit".
+-- It need not be sought above the span's own length, since no piece is longer. Where none is found there is none: "18: no reach exists".
+use mathlib.Core.Bool.{cond}
+use Prim.Native.Nat.{ℕ, zero, suc, _-_}
 use Rattle.grid.specs.declared.boundary.FrameGrid.{FrameGrid}
 use Rattle.division.specs.Division.{Span}
-use Rattle.division.specs.Reach.{Feasible, IsReach}
+use Rattle.division.specs.Pieces.{pieceFrom, lengthOf}
+use Rattle.division.specs.Divisions.{isFeasible}
 use Rattle.completion.specs.declared.reach.Sought.{Sought}
 use Rattle.completion.specs.declared.reach.Sought.the-variants.{Reach, Nothing}
 
--- what an answer says; by `reach-one` there is only one answer
-abbrev Says : FrameGrid → Span → ℕ → ℕ → Sought → Type 0
-Says g s count maximum (Reach l) = IsReach g s count maximum l
-Says g s count maximum Nothing = (l : ℕ) → IsReach g s count maximum l → ⊥
+-- the length of the span, in samples
+abbrev pub spanLength : FrameGrid → Span → ℕ
+spanLength g s = lengthOf g (pieceFrom (s .first) (s .last))
 
-pub record ReachIs (g : FrameGrid) (s : Span) (count maximum : ℕ) (r : Sought) : Type 0 where
-  pub says : Says g s count maximum r
+-- the least of n limits from `limit` on that a division keeps
+unfoldable pub leastFrom : FrameGrid → Span → ℕ → ℕ → ℕ → Sought
+leastFrom g s count limit zero = Nothing
+leastFrom g s count limit (suc n) = cond (isFeasible g s count limit) (Reach limit) (leastFrom g s count (suc limit) n)
 
--- the reach lies from `low` to `high`
-pub record Bracket (g : FrameGrid) (s : Span) (count maximum low high : ℕ) : Type 0 where
-  pub above : maximum ≤ low
-  pub order : low ≤ high
-  pub under : (l : ℕ) → maximum ≤ l → Feasible g s count l → low ≤ l
-  pub feasible : Feasible g s count high
+-- the maximum, or the least above it up to the span's length
+unfoldable pub reachOf : FrameGrid → Span → ℕ → ℕ → Sought
+reachOf g s count maximum = leastFrom g s count maximum (suc (spanLength g s - maximum))

@@ -4,12 +4,17 @@ use mathlib.Core.Bool.{true, false}
 use mathlib.Core.List.{[], _∷_}
 use Rattle.grid.specs.Boundary.{boundaryOf, startOf}
 use Rattle.grid.specs.declared.boundary.FrameGrid.{FrameGrid}
+use Rattle.candidate_span.specs.Gaps.{dropped}
+use Rattle.candidate_span.specs.Kept.{keptFrames}
 use Rattle.division.specs.Division.{Span}
 use Rattle.division.specs.Places.{cutAt}
+use Rattle.division.specs.Divisions.{divisionsOf, keeps, anyOf, isFeasible}
+use Rattle.completion.specs.declared.reach.Sought.the-variants.{Reach, Nothing}
 use Rattle.completion.specs.Reachable.{reachableIn}
 use Rattle.completion.specs.Place.{placeAt}
 use Rattle.completion.specs.Next.{nextAt}
 use Rattle.completion.specs.Fits.{fitsFrom, fitsOf}
+use Rattle.completion.specs.Reach.{leastFrom, reachOf}
 use Rattle.completion.specs.Cuts.{cutsFrom, cutsOf}
 use Rattle.completion.specs.Bridge.{bridgeFrom, bridgeOf}
 
@@ -33,6 +38,21 @@ just-enough = refl
 far-cut : cutsOf grid whole 400 2 ≡ cutAt 4 ∷ []
 unfolding grid boundaryOf startOf reachableIn placeAt nextAt cutsFrom
 far-cut = refl
+
+-- the least limit over all divisions
+reach-two : reachOf grid whole 2 300 ≡ Reach 400
+unfolding grid boundaryOf startOf keptFrames dropped divisionsOf keeps anyOf isFeasible leastFrom reachOf
+reach-two = refl
+
+-- it is never below the maximum
+reach-at-maximum : reachOf grid whole 2 500 ≡ Reach 500
+unfolding grid boundaryOf startOf keptFrames dropped divisionsOf keeps anyOf isFeasible leastFrom reachOf
+reach-at-maximum = refl
+
+-- for no pieces there is none
+reach-none : reachOf grid whole 0 699 ≡ Nothing
+unfolding grid boundaryOf startOf keptFrames dropped divisionsOf keeps anyOf isFeasible leastFrom reachOf
+reach-none = refl
 
 -- by length 300 samples are bridged by two points
 bridged : bridgeOf grid 300 0 7 ≡ cutAt 3 ∷ cutAt 6 ∷ []

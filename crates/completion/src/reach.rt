@@ -5,7 +5,8 @@ use base_code::sizes;
 use candidate_span::kept;
 ghost use Rattle.completion.specs.Ground.{spanIn};
 ghost use Rattle.completion.specs.GroundLaws.{Founded};
-ghost use Rattle.completion.specs.Reach.{ReachIs, Bracket};
+ghost use Rattle.completion.specs.Reach.{reachOf};
+ghost use Rattle.completion.specs.ReachLaws.{Bracket};
 ghost use Rattle.division.specs.Division.{piecesAsked};
 ghost use Rattle.division.specs.Reach.{IsReach};
 ghost use mathlib.Core.Path.{_≡_};
@@ -46,7 +47,7 @@ fn bisect(
 // The reach for the count that was asked for.
 pub fn reach(x: Ground, silences: &[u32], count: usize, maximum: u64) -> Sought
     requires { ⌜ Founded x (now silences) ⌝ }
-    ensures { λ r. ⌜ ReachIs (x .grid) (spanIn x (now (silences .entry))) count maximum r ⌝ }
+    ensures { λ r. ⌜ r ≡ reachOf (x .grid) (spanIn x (now (silences .entry))) count maximum ⌝ }
 {
     let g = x.grid;
     let gap = x.gap;

@@ -36,6 +36,10 @@ pub mod Greedy
 pub mod GreedyLaws
 -- GreedyFound: a limit has its greedy division, or no division keeps it (`greedy-found`)
 pub mod GreedyFound
+-- Divisions: all divisions of a span (`divisionsOf`), and whether one of them has few enough pieces within a limit (`isFeasible`)
+pub mod Divisions
+-- DivisionsLaws: these are just its divisions (`division-listed`, `listed-divides`), and the limit is feasible exactly where one has (`feasible-true`, `true-feasible`)
+pub mod DivisionsLaws
 -- Reach: which limits are feasible (`Feasible`), and which is the reach (`IsReach`)
 pub mod Reach
 -- ReachLaws:

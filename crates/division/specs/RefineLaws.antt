@@ -15,7 +15,7 @@ use Rattle.division.specs.PiecesLaws.{row-from, row-inside, pieces-count
 use Rattle.division.specs.Refine.{Refined}
 
 -- the first list is the second with some left out
-data Part : List Cut → List Cut → Type 0 where
+pub data Part : List Cut → List Cut → Type 0 where
   none : Part [] []
   keep : {k : Cut} {ks cs : List Cut} → Part ks cs → Part (k ∷ ks) (k ∷ cs)
   skip : {k : Cut} {ks cs : List Cut} → Part ks cs → Part ks (k ∷ cs)
@@ -33,12 +33,12 @@ part-length none = omega arith
 part-length (keep p) = omega (arith, part-length p)
 part-length (skip p) = omega (arith, part-length p)
 
-part-row : {ks cs : List Cut} (a z : ℕ) → Part ks cs → Row a cs z → Row a ks z
+pub part-row : {ks cs : List Cut} (a z : ℕ) → Part ks cs → Row a cs z → Row a ks z
 part-row a z none r = r
 part-row a z (keep {k = k} p) r = (r .0, r .1, part-row (k .right) z p (r .2))
 part-row a z (skip {k = k} {ks = ks} p) r = row-from a (k .right) ks z (omega arith) (part-row (k .right) z p (r .2))
 
-part-among : {ks cs : List Cut} → Part ks cs → Among ks cs
+pub part-among : {ks cs : List Cut} → Part ks cs → Among ks cs
 part-among none k m = m
 part-among (keep p) k (List·Memᴰ·head e) = List·Memᴰ·head e
 part-among (keep p) k (List·Memᴰ·tail m) = List·Memᴰ·tail (part-among p k m)
@@ -71,7 +71,7 @@ part-of a b (k ∷ ks) (c ∷ cs) z r s m =
         let q = row-inside (c .right) cs z k (r .2) i in
         skip (f′ (q .0, s .1, s .2) (past (c .right) (k ∷ ks) z c cs (omega (arith, r .1)) (q .0, s .1, s .2) m))
 
-divisions-part : (s : Span) (ks cs : List Cut) → Division s ks → Division s cs → Among ks cs → Part ks cs
+pub divisions-part : (s : Span) (ks cs : List Cut) → Division s ks → Division s cs → Among ks cs → Part ks cs
 divisions-part s ks cs d e m = part-of (s .first) (s .first) ks cs (s .last) (e .rises) (d .rises) m
 
 -- fewer cuts are fewer pieces

@@ -1,5 +1,6 @@
 -- The definitions at document 01's recording R: seven frames of 100 samples. Its silence, frames 2 to 4, is a dropped gap here, with no padding.
 use mathlib.Core.Path.{_≡_, refl}
+use mathlib.Core.Bool.{true, false}
 use mathlib.Core.List.{[], _∷_}
 use Rattle.grid.specs.Boundary.{boundaryOf, startOf}
 use Rattle.grid.specs.declared.boundary.FrameGrid.{FrameGrid}
@@ -11,6 +12,7 @@ use Rattle.candidate_span.specs.Kept.{keptFrames}
 use Rattle.division.specs.Division.{Span, spanOf, keptIn}
 use Rattle.division.specs.Pieces.{pieceFrom, piecesOf, longest, overs}
 use Rattle.division.specs.Places.{cutAt, placesOf}
+use Rattle.division.specs.Divisions.{divisionsOf, keeps, anyOf, isFeasible}
 use Rattle.division.specs.Shares.{sharesOf}
 
 grid : FrameGrid
@@ -39,6 +41,16 @@ overs-two : overs grid 300 (piecesOf whole (cutAt 3 ∷ [])) ≡ 1
 unfolding firstOf lastOf grid boundaryOf startOf
 overs-two = refl
 
+-- no division into two pieces at most stays within 399 samples
+too-short : isFeasible grid whole 2 399 ≡ false
+unfolding firstOf lastOf gapsOf keptFrames dropped grid boundaryOf startOf divisionsOf keeps anyOf isFeasible
+too-short = refl
+
+-- but one within 400
+just-enough : isFeasible grid whole 2 400 ≡ true
+unfolding firstOf lastOf gapsOf keptFrames dropped grid boundaryOf startOf divisionsOf keeps anyOf isFeasible
+just-enough = refl
+
 -- "count 8: seven pieces"
 kept-seven : keptIn whole ≡ 7
 unfolding firstOf lastOf gapsOf keptFrames dropped
@@ -48,6 +60,11 @@ kept-seven = refl
 all-places : placesOf parted ≡ cutAt 1 ∷ silence ∷ cutAt 6 ∷ []
 unfolding firstOf lastOf isLeading isTrailing gapsOf innerGaps isGap isInner lowOf highOf
 all-places = refl
+
+all-divisions : divisionsOf parted
+    ≡ [] ∷ (cutAt 6 ∷ []) ∷ (silence ∷ []) ∷ (silence ∷ cutAt 6 ∷ []) ∷ (cutAt 1 ∷ []) ∷ (cutAt 1 ∷ cutAt 6 ∷ []) ∷ (cutAt 1 ∷ silence ∷ []) ∷ (cutAt 1 ∷ silence ∷ cutAt 6 ∷ []) ∷ []
+unfolding firstOf lastOf isLeading isTrailing gapsOf innerGaps isGap isInner lowOf highOf divisionsOf
+all-divisions = refl
 
 kept-four : keptIn parted ≡ 4
 unfolding firstOf lastOf isLeading isTrailing gapsOf innerGaps isGap isInner lowOf highOf keptFrames dropped

@@ -3,7 +3,7 @@
 --   count-score     its score, added left to right, is the table's
 --   count-best      that score is at most the score of every allowed path of as many pieces; count-is-best   so the path is best
 --   count-tie       the path follows the tie rule, by each candidate's own best score with one piece fewer; count-only   no other path of as many pieces does
---   own-best-by-count   the table's scores are such own best scores
+--   own-best-by-count   the table's scores are such own best scores; count-all   all of it in one record
 use mathlib.Core.Path.{_≡_}
 use mathlib.Core.List.{List, [], _∷_}
 use Prim.Native.Nat.{ℕ, zero, suc, _<_}
@@ -19,6 +19,7 @@ use Rattle.path_pieces.specs.declared.lengths.Lengths.{Lengths}
 use Rattle.path_pieces.specs.declared.score.Score.{Score}
 use Rattle.path_by_length.specs.Paths.{PathWith, piecesOf, PathByCount, lastOf, scoreFrom, pathScore, BestByCount}
 use Rattle.path_by_length.specs.ByCount.{bestWith, wayWith, bestPathByCount, bestScoreByCount, OwnBestByCount, TieRuleByCount}
+use Rattle.path_by_length.specs.BestPath.{BestPathByCount}
 use Rattle.path_by_length.specs.CountTieLaws.{tie-unique-by-count, tie-same-by-count}
 use Rattle.path_by_length.specs.CountLaws.{Reached, with-allowed, with-attained, with-below, with-tie}
 
@@ -77,3 +78,13 @@ module _ {l : Lengths} {left right : List ℕ} {cut : List Float} (ok : Searchab
         → length other ≡ suc (piecesOf left count) → other ≡ bestPathByCount l left right cut count
     count-only best other t n =
         tie-unique-by-count ok best (piecesOf left count) (lastOf left) last-inside other (bestPathByCount l left right cut count) t (count-tie best) n (count-allowed .1)
+
+    -- all of it
+    pub count-all : BestPathByCount l left right cut count (bestPathByCount l left right cut count)
+    count-all = record {
+      allowed = count-allowed;
+      least = count-is-best .least;
+      scored = (bestWith l left right cut, own-best-by-count);
+      tie = λ best. count-tie best;
+      only = λ best. count-only best;
+    }

@@ -27,11 +27,13 @@ pub mod ByCount
 pub mod CountLaws
 --   the tie rule leaves one path of as many pieces (`tie-unique-by-count`), by whatever own best scores (`tie-same-by-count`)
 pub mod CountTieLaws
--- CountTheorems, about the definitions: `count-allowed`, `count-score`, `count-best`, `count-is-best`, `count-tie`, `count-only`; `own-best-by-count`
+-- BestPath: document 01's best path, all of it (`BestPathByLength`, `BestPathByCount`)
+pub mod BestPath
+-- CountTheorems, about the definitions: `count-allowed`, `count-score`, `count-best`, `count-is-best`, `count-tie`, `count-only`, `count-all`; `own-best-by-count`
 pub mod CountTheorems
 -- Solved: what the functions need and leave (`TableRoom`, `FilledBefore`, `Filled`, `Settled`, `Parents`)
 pub mod Solved
 --   one candidate after another (`filled-next`), and the whole table (`filled-score`, `filled-parents`, `filled-path`)
 pub mod SolvedLaws
--- Theorems, about the definitions: `best-path-allowed`, `best-path-score`, `best-path-least`, `best-path-is-best`, `best-path-tie`, `best-path-only`; `own-best`
+-- Theorems, about the definitions: `best-path-allowed`, `best-path-score`, `best-path-least`, `best-path-is-best`, `best-path-tie`, `best-path-only`, `best-path-all`; `own-best`
 pub mod Theorems

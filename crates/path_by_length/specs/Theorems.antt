@@ -3,7 +3,7 @@
 --   best-path-score     its score, added left to right, is the table's
 --   best-path-least     that score is at most the score of every allowed path; best-path-is-best   so the path is best
 --   best-path-tie       the path follows the tie rule, by each candidate's own best score; best-path-only   no other path does
---   own-best            the table's scores are such own best scores
+--   own-best            the table's scores are such own best scores; best-path-all   all of it in one record
 use mathlib.Core.Path.{_≡_}
 use mathlib.Core.List.{List}
 use Prim.Native.Nat.{ℕ, _<_}
@@ -17,6 +17,7 @@ use Rattle.path_pieces.specs.declared.lengths.Lengths.{Lengths}
 use Rattle.path_pieces.specs.declared.score.Score.{Score}
 use Rattle.path_by_length.specs.Paths.{PathByLength, pathScore, BestByLength, Chosen, TieRule, lastOf, OwnBest}
 use Rattle.path_by_length.specs.Table.{bestScore, parentOf, wayTo, bestPath}
+use Rattle.path_by_length.specs.BestPath.{BestPathByLength}
 use Rattle.path_by_length.specs.TieLaws.{tie-unique, chosen-same}
 use Rattle.path_by_length.specs.BestLaws.{path-weaken, best-chosen, best-allowed, best-attained, best-below}
 
@@ -65,3 +66,13 @@ module _ {l : Lengths} {left right : List ℕ} {cut : List Float} (ok : Searchab
   -- and no other path does
   pub best-path-only : {own : ℕ → Score} → OwnBest l left right cut own → (other : List ℕ) → TieRule l left right own other → other ≡ bestPath l left right cut
   best-path-only best other t = tie-unique ok best other (bestPath l left right cut) t (best-path-tie best)
+
+  -- all of it
+  pub best-path-all : BestPathByLength l left right cut (bestPath l left right cut)
+  best-path-all = record {
+    allowed = best-path-allowed;
+    least = best-path-is-best .least;
+    scored = (bestScore l left right cut, own-best ok);
+    tie = λ best. best-path-tie best;
+    only = λ best. best-path-only best;
+  }

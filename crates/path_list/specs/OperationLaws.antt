@@ -2,7 +2,7 @@
 use mathlib.Core.Path.{_≡_, ap}
 use mathlib.Core.List.{List}
 use Prim.Native.Nat.{ℕ}
-use lib.Ieee.{Float, binary64, ofBits}
+use lib.Ieee.{Float}
 use lib.ListN.{length}
 use Rattle.base_terms.specs.Lists.{filled}
 use Rattle.base_terms.specs.Work.{Work, cleared}
@@ -31,14 +31,3 @@ module _ (l : Lengths) (left right : List ℕ) (cost : List Float) (mode : Mode)
       let x : a ≡ soughtOf l left right cost mode (length parent) path .answer = ap (λ (o : Outcome). o .answer) s in
       let y : path' ≡ soughtOf l left right cost mode (length parent) path .path = ap (λ (o : Outcome). o .path) s in
       rw (← e, x, y, w, p)
-
--- cleared lists of one length are equal
-pub filled-same : {A : Type 0} (v : A) (xs ys : List A) → length xs ≡ length ys → filled v xs ≡ filled v ys
-unfolding filled
-filled-same v xs ys e = rw e
-
--- so are cleared work lists
-pub cleared-same : (v w : Work) → length (v .u32s) ≡ length (w .u32s) → length (v .u64s) ≡ length (w .u64s) → length (v .f64s) ≡ length (w .f64s)
-    → cleared v ≡ cleared w
-cleared-same v w a b c =
-    rw (filled-same 0 (v .u32s) (w .u32s) a, filled-same 0 (v .u64s) (w .u64s) b, filled-same (ofBits binary64 0) (v .f64s) (w .f64s) c)

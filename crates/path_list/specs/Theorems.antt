@@ -21,8 +21,8 @@ use Rattle.path_pieces.specs.declared.score.Score.{Score}
 use Rattle.path_by_length.specs.Paths.{piecesOf, lastOf, pathScore}
 use Rattle.path_by_length.specs.Table.{bestScore, bestPath}
 use Rattle.path_by_length.specs.ByCount.{bestPathByCount, bestScoreByCount}
-use Rattle.path_by_length.specs.Theorems.{own-best, best-path-allowed, best-path-score, best-path-least, best-path-tie, best-path-only}
-use Rattle.path_by_length.specs.CountTheorems.{own-best-by-count, count-allowed, count-score, count-best, count-tie, count-only}
+use Rattle.path_by_length.specs.Theorems.{best-path-score, best-path-all}
+use Rattle.path_by_length.specs.CountTheorems.{count-score, count-all}
 use Rattle.path_by_length.specs.declared.solve.Solved.{Solved}
 use Rattle.path_tests.specs.Refusal.{firstRefusalOf}
 use Rattle.path_tests.specs.RefusalLaws.{AcceptedLists, accepted-lists}
@@ -98,12 +98,8 @@ module _ (l : Lengths) (left right : List ℕ) (cost : List Float) (path : List 
       rw (x .output)
       (record {
         output = h .output;
-        allowed = rw (h .front) (best-path-allowed ok);
+        best = rw (h .front) (best-path-all ok);
         score = ap (pathScore l left right cost) (h .front) ∙ best-path-score ok ∙ sym (h .is);
-        least = λ other p. rw (h .is) (best-path-least ok other p);
-        own = own-best ok;
-        tie = λ best. rw (h .front) (best-path-tie ok best);
-        only = λ best other t. best-path-only ok best other t ∙ sym (h .front);
       })
 
   -- by count
@@ -119,12 +115,8 @@ module _ (l : Lengths) (left right : List ℕ) (cost : List Float) (path : List 
       rw (x .output ∙ p .1)
       (record {
         output = h .output;
-        allowed = rw (h .front) (count-allowed ok count some);
+        best = rw (h .front) (count-all ok count some);
         score = ap (pathScore l left right cost) (h .front) ∙ count-score ok count some ∙ sym (h .is);
-        least = λ other q. rw (h .is) (count-best ok count some other q);
-        own = own-best-by-count ok;
-        tie = λ best. rw (h .front) (count-tie ok count some best);
-        only = λ best other t n. count-only ok count some best other t n ∙ sym (h .front);
       })
     where
       sought : Bool → Outcome

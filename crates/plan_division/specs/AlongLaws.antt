@@ -13,7 +13,7 @@ use Rattle.candidate_span.specs.Gaps.{Cut}
 use Rattle.division.specs.Division.{Span}
 use Rattle.division.specs.Pieces.{Piece, piecesFrom, piecesOf, lengthOf, overs}
 use Rattle.candidates.specs.declared.candidate.Candidate.{Candidate}
-use Rattle.candidates.specs.Asked.{leftsOf, rightsOf}
+use Rattle.candidates.specs.Samples.{leftsOf, rightsOf}
 use Rattle.plan_division.specs.Along.{endsAt, cutsFrom, cutsAlong, pieceBetween, piecesThrough, piecesAlong, Rising}
 use Rattle.plan_division.specs.Across.{Across}
 
@@ -47,21 +47,28 @@ module _ (cs : List Candidate) where
 
   -- ---- in samples
 
+  -- a candidate's ends
+  pub left-sample : (g : FrameGrid) (i : ℕ) → i < length cs → getD (leftsOf g cs) i 0 ≡ boundaryOf g (endsAt cs i .left)
+  left-sample g i h = go cs i h
+    where
+      go : (ds : List Candidate) (n : ℕ) → n < length ds → getD (leftsOf g ds) n 0 ≡ boundaryOf g (endsAt ds n .left)
+      go [] n q = absurd (omega arith)
+      go (d ∷ ds) zero q = refl
+      go (d ∷ ds) (suc n) q = go ds n (omega arith)
+
+  pub right-sample : (g : FrameGrid) (i : ℕ) → i < length cs → getD (rightsOf g cs) i 0 ≡ boundaryOf g (endsAt cs i .right)
+  right-sample g i h = go cs i h
+    where
+      go : (ds : List Candidate) (n : ℕ) → n < length ds → getD (rightsOf g ds) n 0 ≡ boundaryOf g (endsAt ds n .right)
+      go [] n q = absurd (omega arith)
+      go (d ∷ ds) zero q = refl
+      go (d ∷ ds) (suc n) q = go ds n (omega arith)
+
   -- a piece of the path search is as long as the division's
   pub piece-length : (g : FrameGrid) (i j : ℕ) → i < length cs → j < length cs
       → pieceLength (leftsOf g cs) (rightsOf g cs) i j ≡ lengthOf g (pieceBetween cs i j)
   unfolding pieceLength
-  piece-length g i j h l = rw (left cs j l, right cs i h)
-    where
-      left : (ds : List Candidate) (n : ℕ) → n < length ds → getD (leftsOf g ds) n 0 ≡ boundaryOf g (endsAt ds n .left)
-      left [] n q = absurd (omega arith)
-      left (d ∷ ds) zero q = refl
-      left (d ∷ ds) (suc n) q = left ds n (omega arith)
-
-      right : (ds : List Candidate) (n : ℕ) → n < length ds → getD (rightsOf g ds) n 0 ≡ boundaryOf g (endsAt ds n .right)
-      right [] n q = absurd (omega arith)
-      right (d ∷ ds) zero q = refl
-      right (d ∷ ds) (suc n) q = right ds n (omega arith)
+  piece-length g i j h l = rw (left-sample g j l, right-sample g i h)
 
   over-through : (g : FrameGrid) (limit i : ℕ) (rest : List ℕ) (last : ℕ) → Onward (λ (a b : ℕ). a < b) i rest last → last < length cs
       → overs g limit (piecesThrough cs i rest) ≡ overFrom limit (leftsOf g cs) (rightsOf g cs) i rest

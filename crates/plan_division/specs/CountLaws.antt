@@ -9,7 +9,7 @@ use Rattle.grid.specs.BoundaryLaws.{Accepted}
 use Rattle.grid.specs.declared.boundary.FrameGrid.{FrameGrid}
 use Rattle.path_pieces.specs.DomainLaws.{over-le}
 use Rattle.path_pieces.specs.declared.lengths.Lengths.{Lengths}
-use Rattle.path_by_length.specs.Paths.{AllowedByCount, Path, PathByCount, lastOf, overCount, pathScore, BestByCount}
+use Rattle.path_by_length.specs.Paths.{Allowed, AllowedByCount, Path, PathByLength, PathByCount, lastOf, overCount, pathScore, BestByCount}
 use Rattle.path_by_length.specs.PathsLaws.{over-count}
 use Rattle.path_by_length.specs.BestLaws.{path-weaken}
 use Rattle.candidate_span.specs.Gaps.{Cut, Spread}
@@ -23,7 +23,7 @@ use Rattle.division.specs.Shares.{sharesOf}
 use Rattle.division.specs.SharesLaws.{shares-divide}
 use Rattle.division.specs.DemandLaws.{pieces-asked, reach-kept}
 use Rattle.candidates.specs.declared.candidate.Candidate.{Candidate}
-use Rattle.candidates.specs.Asked.{leftSample, leftsOf, rightsOf}
+use Rattle.candidates.specs.Samples.{leftSample, leftsOf, rightsOf}
 use Rattle.plan_division.specs.Along.{cutsAlong, Rising, wholePath, allCuts}
 use Rattle.plan_division.specs.AlongLaws.{count-along, overs-along}
 use Rattle.plan_division.specs.Across.{Across}
@@ -43,6 +43,12 @@ module _ (g : FrameGrid) (cs : List Candidate) where
   count-rises count limit path a =
       subst (λ (n : ℕ). Path (λ (i j : ℕ). i < j) path n) last-same
       (path-weaken (AllowedByCount limit (leftsOf g cs) (rightsOf g cs)) (λ (i j : ℕ). i < j) (lastOf (leftsOf g cs)) (λ i j b. b .0) (λ i j h b. b .0) path (a .0))
+
+  -- so does a path by length
+  pub length-rises : (limit : ℕ) (path : List ℕ) → PathByLength limit (leftsOf g cs) (rightsOf g cs) path → Rising cs path
+  length-rises limit path a =
+      subst (λ (n : ℕ). Path (λ (i j : ℕ). i < j) path n) last-same
+      (path-weaken (Allowed limit (leftsOf g cs) (rightsOf g cs)) (λ (i j : ℕ). i < j) (lastOf (leftsOf g cs)) (λ i j b. b .0) (λ i j h b. b .0) path a)
 
   -- the pieces along a path with none over the limit are within it
   pub none-longer : (s : Span) → Across s cs → (limit : ℕ) (path : List ℕ) → Rising cs path → overCount limit (leftsOf g cs) (rightsOf g cs) path ≡ 0

@@ -22,7 +22,7 @@ use Rattle.division.specs.Pieces.{piecesOf, overs}
 use Rattle.division.specs.Demand.{DemandByCount}
 use Rattle.division.specs.DemandLaws.{demand-reach, demand-maximum}
 use Rattle.candidates.specs.declared.candidate.Candidate.{Candidate}
-use Rattle.candidates.specs.Asked.{leftsOf, rightsOf}
+use Rattle.candidates.specs.Samples.{leftsOf, rightsOf}
 use Rattle.plan_division.specs.Along.{cutsAlong}
 use Rattle.plan_division.specs.AlongLaws.{count-along, overs-along}
 use Rattle.plan_division.specs.Across.{Across}

@@ -75,7 +75,7 @@ unfolding marking
 marking-append base [] js work = refl
 marking-append base (k ∷ ks) js work = marking-append base ks js (markCut base k work)
 
-in-append : (ks js : List ℕ) (k : ℕ) → isIn (ks ++ js) k ≡ (isIn ks k || isIn js k)
+pub in-append : (ks js : List ℕ) (k : ℕ) → isIn (ks ++ js) k ≡ (isIn ks k || isIn js k)
 unfolding isIn
 in-append [] js k = refl
 in-append (i ∷ ks) js k = go (eqb i k) (in-append ks js k)

@@ -17,7 +17,7 @@ use Rattle.candidate_span.specs.Gaps.{Cut, Spread}
 use Rattle.division.specs.Division.{Span, Division}
 use Rattle.division.specs.Pieces.{Piece, pieceFrom, piecesFrom, piecesOf, IsSingle, lengthOf}
 use Rattle.candidates.specs.declared.candidate.Candidate.{Candidate}
-use Rattle.candidates.specs.Asked.{leftsOf, rightsOf}
+use Rattle.candidates.specs.Samples.{leftsOf, rightsOf}
 use Rattle.completion.specs.Bridged.{bridgedIn}
 use Rattle.completion.specs.BridgedLaws.{bridged-divides, bridged-short}
 use Rattle.plan_division.specs.Along.{endsAt, pieceBetween, piecesThrough, piecesAlong, allCuts}

@@ -13,7 +13,6 @@ use Rattle.grid.specs.declared.boundary.FrameGrid.{FrameGrid}
 use Rattle.path_pieces.specs.Domain.{Searchable}
 use Rattle.path_pieces.specs.declared.lengths.Lengths.{Lengths}
 use Rattle.path_by_length.specs.Paths.{Allowed, Path, PathByLength}
-use Rattle.path_by_length.specs.BestLaws.{path-weaken}
 use Rattle.path_by_length.specs.Table.{bestPath}
 use Rattle.path_by_length.specs.Theorems.{best-path-allowed}
 use Rattle.candidate_span.specs.Gaps.{Spread}
@@ -21,12 +20,12 @@ use Rattle.division.specs.Division.{Span}
 use Rattle.division.specs.Pieces.{Piece, piecesOf, IsSingle, lengthOf}
 use Rattle.division.specs.Demand.{DemandByLength}
 use Rattle.candidates.specs.declared.candidate.Candidate.{Candidate}
-use Rattle.candidates.specs.Asked.{leftsOf, rightsOf}
+use Rattle.candidates.specs.Samples.{leftsOf, rightsOf}
 use Rattle.plan_division.specs.Along.{cutsAlong, pieceBetween, Rising}
 use Rattle.plan_division.specs.AlongLaws.{pieces-along}
 use Rattle.plan_division.specs.AcrossLaws.{along-divides}
 use Rattle.plan_division.specs.Completed.{CompletedByLength}
-use Rattle.plan_division.specs.CountLaws.{last-same}
+use Rattle.plan_division.specs.CountLaws.{last-same, length-rises}
 use Rattle.plan_division.specs.LengthLaws.{PieceOf, path-piece, neighbours-short, long-next}
 
 module _ (g : FrameGrid) (ok : Accepted g) (s : Span) (spread : Spread (s .first) (s .gaps) (s .last)) (maximum : ℕ) (ds cs : List Candidate)
@@ -54,7 +53,7 @@ module _ (g : FrameGrid) (ok : Accepted g) (s : Span) (spread : Spread (s .first
       allowed = subst (λ (n : ℕ). Path Rule path n) (last-same g cs) a
 
       rises : Rising cs path
-      rises = path-weaken Rule (λ (i j : ℕ). i < j) (length cs - 1) (λ i j b. b .0) (λ i j h b. b .0) path allowed
+      rises = length-rises g cs maximum path a
 
       single : (q : Piece) → List·Memᴰ q (piecesOf s (cutsAlong cs path)) → maximum < lengthOf g q → IsSingle q
       single q m =

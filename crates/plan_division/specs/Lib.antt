@@ -1,4 +1,4 @@
--- From paths over candidates to demand 3. No code. Definitions stand in Along, Across, Completed, Added and Ready, apart from the laws.
+-- From paths over candidates to demand 3. No code. Definitions stand in Along, Across, Completed, Added, Best and Ready, apart from the laws.
 
 -- Along: the cuts and the pieces along a path (`cutsAlong`, `piecesAlong`), a path whose pieces may have any length (`Rising`), the cuts at all candidates (`allCuts`)
 pub mod Along
@@ -7,7 +7,7 @@ pub mod Across
 -- AlongLaws, of a path over such candidates:
 --   pieces-along                the pieces of the division along it are the path's
 --   count-along                 they are one fewer than its candidates
---   piece-length, overs-along   each is as long as the path search says, and as many are over a limit
+--   piece-length, overs-along   each is as long as the path search says, and as many are over a limit; left-sample, right-sample   a candidate's ends
 pub mod AlongLaws
 -- AcrossLaws:
 --   along-divides, all-divides  the cuts along a path are a division, and so are those at all candidates between the ends
@@ -20,7 +20,7 @@ pub mod AcrossLaws
 pub mod Completed
 -- ThroughLaws: a division whose cuts are candidates runs along a path (`division-path`); a path with no piece over the limit is allowed (`none-over-allowed`)
 pub mod ThroughLaws
--- CountLaws: over completed candidates a path by count has min(N, kept frames) pieces (`count-same`), and the best one has none over the reach (`best-keeps`)
+-- CountLaws: a path by count or by length rises (`count-rises`, `length-rises`); over completed candidates a path by count has min(N, kept frames) pieces (`count-same`), and the best one has none over the reach (`best-keeps`)
 pub mod CountLaws
 -- CountTheorems: demand 3 by count, of the first path (`first-demand`, `first-found`) and of the path over completed candidates (`second-demand`, `second-found`);
 --   its score tells how many pieces are over the limit (`found-overs`)
@@ -43,7 +43,9 @@ pub mod CompletedLaws
 --   marking-append              marks of some cuts and then of others are the marks of both
 --   completed-same              points where one was, or where a cut is added, give the completed candidates
 pub mod HeldLaws
--- Ready: what a path over a plan's candidates is asked with (`Ready`), and the best path over them (`bestOver`, `bestOverByCount`)
+-- Best: the best path over candidates (`bestOver`, `bestOverByCount`), and how many of its pieces are over the limit (`oversOf`)
+pub mod Best
+-- Ready: what a path over a plan's candidates is asked with (`Ready`)
 pub mod Ready
 -- PlanTheorems: a plan's candidates may be searched (`plan-searchable`); demand 3 of the best path over the candidates of a recording and settings
 --   first-plan                  by count, the first path, where it has N pieces and none over the maximum

@@ -21,7 +21,8 @@ use Rattle.candidates.specs.declared.context.Context.{Context}
 use Rattle.candidates.specs.Candidates.{candidatesOf}
 use Rattle.candidates.specs.Entries.{costsOf}
 use Rattle.candidates.specs.Sources.{Planned}
-use Rattle.candidates.specs.Asked.{leftSample, candidates-asked, costs-asked}
+use Rattle.candidates.specs.Samples.{leftSample}
+use Rattle.candidates.specs.Asked.{candidates-asked, costs-asked}
 use Rattle.completion.specs.Cuts.{pointsIn}
 use Rattle.plan_division.specs.Along.{cutsAlong}
 use Rattle.plan_division.specs.AcrossLaws.{planned-across}
@@ -30,7 +31,8 @@ use Rattle.plan_division.specs.LengthTheorems.{length-found}
 use Rattle.plan_division.specs.Added.{addedByCount, addedByLength, completedWith}
 use Rattle.plan_division.specs.AddedLaws.{planned-completed}
 use Rattle.plan_division.specs.CompletedLaws.{places-by-count, completed-by-count, places-by-length, completed-by-length}
-use Rattle.plan_division.specs.Ready.{Ready, SearchableOver, bestOver, bestOverByCount, oversOf}
+use Rattle.plan_division.specs.Best.{bestOver, bestOverByCount, oversOf}
+use Rattle.plan_division.specs.Ready.{Ready, SearchableOver}
 
 -- a plan's candidates are of the search's domain
 pub plan-searchable : (x : Context) (ss runs : List ℕ) (levels : List Float) (ks : List ℕ) (first last : ℕ) (g : FrameGrid) (l : Lengths)

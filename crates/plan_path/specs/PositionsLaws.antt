@@ -11,7 +11,7 @@ use Rattle.candidate_points.specs.Placed.{placed}
 use Rattle.candidate_points.specs.PlacedLaws.{placed-length, placed-take, placed-part}
 use Rattle.candidates.specs.declared.candidate.Candidate.{Candidate}
 use Rattle.candidates.specs.Entries.{entriesOf}
-use Rattle.candidates.specs.Asked.{leftSample, rightSample, leftsOf, rightsOf}
+use Rattle.candidates.specs.Samples.{leftSample, rightSample, leftsOf, rightsOf}
 use Rattle.plan_path.specs.Within.{partAt}
 use Rattle.plan_path.specs.Positions.{endIn, entriesIn, positionsIn, PositionsRoom}
 

@@ -21,8 +21,8 @@ use Rattle.plan_path.specs.Within.{partAt}
 use Rattle.plan_path.specs.Held.{PathHeld}
 use Rattle.plan_path.specs.Seek.{searchAt, pathAt, scoresAt, leftsIn, rightsIn, cutsOf, SeekRoom}
 
--- a part of a part
-part-of : {A : Type 0} (m n size : ℕ) (xs : List A) → m + n ≤ size → m ≤ length xs → take n (drop m (take size xs)) ≡ take n (drop m xs)
+-- a part of a list's front is that part of the list
+pub part-of : {A : Type 0} (m n size : ℕ) (xs : List A) → m + n ≤ size → m ≤ length xs → take n (drop m (take size xs)) ≡ take n (drop m xs)
 part-of m n size xs h g =
     let e : size ≡ m + (size - m) = omega arith in
     ap (λ (k : ℕ). take n (drop m (take k xs))) e

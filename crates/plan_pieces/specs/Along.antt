@@ -2,12 +2,11 @@
 -- left and right have for each candidate the sample where a piece ends at it and where the next starts, as the path search takes them.
 -- reasons has the number of its reason.
 use Prim.Native.Nat.{ℕ, suc, _+_}
-use mathlib.Core.Bool.{Bool, false, _||_}
 use mathlib.Core.List.{List, [], _∷_, _++_}
 use lib.Ieee.{Float}
 use lib.ListN.{getD, set}
 use Rattle.path_pieces.specs.Pieces.{pieceLength}
-use Rattle.plan_pieces.specs.Flags.{isLonger, flagsOf}
+use Rattle.plan_pieces.specs.Flags.{flagsOf}
 use Rattle.plan_pieces.specs.declared.pieces.Piece.{Piece}
 
 module _ (left right : List ℕ) where
@@ -47,18 +46,6 @@ module _ (left right : List ℕ) where
   cutsAlongNumbers reasons [] = []
   cutsAlongNumbers reasons (i ∷ []) = []
   cutsAlongNumbers reasons (i ∷ (j ∷ rest)) = cutsFrom reasons j rest
-
-  -- ---- pieces over the maximum
-
-  -- from candidate i on
-  unfoldable pub anyLongFrom : ℕ → ℕ → List ℕ → Bool
-  anyLongFrom most i [] = false
-  anyLongFrom most i (j ∷ rest) = isLonger most (pieceLength left right i j) || anyLongFrom most j rest
-
-  -- some piece of a path is longer than the maximum
-  unfoldable pub anyLong : ℕ → List ℕ → Bool
-  anyLong most [] = false
-  anyLong most (i ∷ rest) = anyLongFrom most i rest
 
 -- ---- candidates as numbers in a list
 

@@ -1,20 +1,18 @@
 -- Writing three numbers for each step of a path: what is written so far, and what the rest of the path still gives, make up the whole.
 use mathlib.Core.Path.{_≡_, refl, sym, ap, subst, _∙_}
-use mathlib.Core.Bool.{Bool, true, false, _||_}
 use mathlib.Core.List.{List, [], _∷_, _++_, append-assoc, append-nil}
 use Prim.Native.Nat.{ℕ, zero, suc, _+_, _-_, _*_, _≤_, _<_}
 use native.Mathlib.Numerals.{add-one}
 use native.Mathlib.Omega.{arith}
 use lib.Ieee.{Float}
-use lib.ListN.{length, getD, drop, set, length-append, length-drop, length-set}
+use lib.ListN.{length, getD, drop, set, length-append, length-set}
 use lib.Seq.{drop-cons}
-use borrow.Author.Tests.{lt-ltb, le-ltb}
 use Rattle.base_terms.specs.Limits.{maxLen}
 use Rattle.base_terms.specs.Lists.{onto}
 use Rattle.base_code.specs.FrontLaws.{onto-nil, onto-next}
 use Rattle.path_pieces.specs.Pieces.{pieceLength}
-use Rattle.plan_pieces.specs.Flags.{isLonger, flagsOf}
-use Rattle.plan_pieces.specs.Along.{pieceAt, pieceNumbers, piecesFrom, piecesAlongNumbers, cutNumbers, reasonsIn, cutsFrom, cutsAlongNumbers, anyLongFrom, anyLong, putThree}
+use Rattle.plan_pieces.specs.Flags.{flagsOf}
+use Rattle.plan_pieces.specs.Along.{pieceAt, pieceNumbers, piecesFrom, piecesAlongNumbers, cutNumbers, reasonsIn, cutsFrom, cutsAlongNumbers, putThree}
 use Rattle.plan_pieces.specs.Drawn.{Drawn}
 use Rattle.plan_pieces.specs.declared.pieces.Piece.{Piece}
 
@@ -44,17 +42,6 @@ module _ (left right : List ℕ) where
   cuts-none reasons (i ∷ []) h = refl
   cuts-none reasons (i ∷ (j ∷ [])) h = refl
   cuts-none reasons (i ∷ (j ∷ (k ∷ rest))) h = absurd (omega arith)
-
-  pub long-step : (most : ℕ) (path : List ℕ) (i : ℕ) → suc i < length path → anyLong left right most (drop i path)
-      ≡ (isLonger most (pieceLength left right (getD path i 0) (getD path (suc i) 0)) || anyLong left right most (drop (suc i) path))
-  unfolding anyLong anyLongFrom
-  long-step most path i h = rw (drop-cons path i 0 (omega (arith, h)), drop-cons path (suc i) 0 h)
-
-  pub long-none : (most : ℕ) (path : List ℕ) → length path ≤ 1 → anyLong left right most path ≡ false
-  unfolding anyLong anyLongFrom
-  long-none most [] h = refl
-  long-none most (i ∷ []) h = refl
-  long-none most (i ∷ (j ∷ rest)) h = absurd (omega arith)
 
 -- ---- a piece as the code holds it
 
@@ -98,38 +85,6 @@ cut-next left right entries path d room i h j e =
     ∙ ap (λ (k : ℕ). cutNumbers left right (reasonsIn entries) k ++ cutsAlongNumbers left right (reasonsIn entries) (drop (suc i) path)) (sym e)
     ∙ ap (λ (r : ℕ). (getD left j 0 ∷ (getD right j 0 ∷ (r ∷ []))) ++ cutsAlongNumbers left right (reasonsIn entries) (drop (suc i) path))
     (reason-at entries j (omega (arith, e, room, d .named (suc i) (omega (arith, h)))))
-
--- ---- a search for a piece that is longer than the maximum
-
--- no piece before candidate i of the path is longer
-pub record Seeking (left right : List ℕ) (most : ℕ) (path : List ℕ) (i : ℕ) : Type 0 where
-  pub upto : i ≤ length path
-  pub is : anyLong left right most path ≡ anyLong left right most (drop i path)
-
-module _ (left right : List ℕ) (most : ℕ) (path : List ℕ) where
-  pub seeking-start : Seeking left right most path 0
-  seeking-start = record { upto = omega arith; is = refl }
-
-  module _ (i : ℕ) (w : Seeking left right most path i) (p : Piece) (lies : p ≡ pieceAt left right path i) where
-    longer-is : isLonger most (p .end - p .start) ≡ isLonger most (pieceLength left right (getD path i 0) (getD path (suc i) 0))
-    unfolding pieceLength
-    longer-is = ap (λ (q : Piece). isLonger most (q .end - q .start)) lies
-
-    pub seeking-found : suc i < length path → most < p .end - p .start → true ≡ anyLong left right most path
-    seeking-found h more =
-        sym (w .is ∙ long-step left right most path i h
-        ∙ ap (λ (b : Bool). b || anyLong left right most (drop (suc i) path)) (sym longer-is ∙ lt-ltb most (p .end - p .start) more))
-
-    pub seeking-next : suc i < length path → p .end - p .start ≤ most → Seeking left right most path (i + 1)
-    seeking-next h less =
-        record {
-          upto = omega (arith, h);
-          is = rw add-one (w .is ∙ long-step left right most path i h
-              ∙ ap (λ (b : Bool). b || anyLong left right most (drop (suc i) path)) (sym longer-is ∙ le-ltb most (p .end - p .start) less));
-        }
-
-  pub seeking-done : (i : ℕ) → Seeking left right most path i → length path ≤ i + 1 → false ≡ anyLong left right most path
-  seeking-done i w h = sym (w .is ∙ long-none left right most (drop i path) (rw length-drop (omega (arith, h))))
 
 -- ---- three more numbers
 

@@ -42,6 +42,3 @@ number-zero (Refused v) n e = absurd (n e)
 number-zero ShortParent n e = absurd (omega (arith, e))
 number-zero NoReach n e = absurd (omega (arith, e))
 number-zero ShortOutput n e = absurd (omega (arith, e))
-
-pub planned-zero : (a : Answer) → IsPlanned a → numberOf a ≡ 0
-planned-zero a p = ap numberOf (p .is)

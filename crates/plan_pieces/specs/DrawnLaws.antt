@@ -1,12 +1,12 @@
 -- Candidates in order, and a path whose pieces all rise: so each piece ends where it starts or after.
 use mathlib.Core.List.{List, [], _∷_}
-use Prim.Native.Nat.{ℕ, zero, suc, _≤_, _<_}
+use Prim.Native.Nat.{ℕ, zero, suc, _+_, _≤_, _<_}
 use native.Mathlib.Omega.{arith}
 use lib.ListN.{length, getD}
 use Rattle.base_terms.specs.Limits.{maxLen}
 use Rattle.path_pieces.specs.Domain.{Candidates}
 use Rattle.path_pieces.specs.DomainLaws.{ends-rise, left-bounded}
-use Rattle.path_by_length.specs.Paths.{Onward, Path, PathByLength, PathByCount, Allowed, AllowedByCount, lastOf}
+use Rattle.path_by_length.specs.Paths.{Onward, Path, lastOf}
 use Rattle.plan_pieces.specs.Drawn.{Drawn}
 
 module _ {left right : List ℕ} (ok : Candidates left right) where
@@ -48,22 +48,11 @@ module _ {left right : List ℕ} (ok : Candidates left right) where
       go i [] e = one-drawn i (omega (arith, e, ok .some))
       go i (j ∷ rest) (p, o) = more-drawn i j rest (rising i j p) (go j rest o)
 
-  -- document 01's paths, by length and by count
-  pub by-length-drawn : (limit : ℕ) (path : List ℕ) → PathByLength limit left right path → Drawn left right path
-  by-length-drawn limit path p = path-drawn (Allowed limit left right) (λ i j a. a .0) path p
-
-  pub by-count-drawn : (count limit : ℕ) (path : List ℕ) → PathByCount count limit left right path → Drawn left right path
-  by-count-drawn count limit path p = path-drawn (AllowedByCount limit left right) (λ i j a. a .0) path (p .0)
-
--- ---- strictly
-
--- each candidate of such a path is before the next
-pub path-rises : (rule : ℕ → ℕ → Type 0) → ((i j : ℕ) → rule i j → i < j) → (last : ℕ) (path : List ℕ) → Path rule path last
-    → (k : ℕ) → suc k < length path → getD path k 0 < getD path (suc k) 0
-path-rises rule rising last [] p k h = absurd p
-path-rises rule rising last (i ∷ rest) (e, o) k h = go i rest o k h
+-- a path whose pieces rise has a candidate at least, and no more than there are
+pub path-few : (rule : ℕ → ℕ → Type 0) → ((i j : ℕ) → rule i j → i < j) → (last : ℕ) (path : List ℕ) → Path rule path last → (0 < length path) × (length path ≤ suc last)
+path-few rule rising last [] p = absurd p
+path-few rule rising last (i ∷ rest) (e, o) = (omega arith, omega (arith, go i rest o))
   where
-    go : (i : ℕ) (rest : List ℕ) → Onward rule i rest last → (k : ℕ) → suc k < length (i ∷ rest) → getD (i ∷ rest) k 0 < getD rest k 0
-    go i [] e k h = absurd (omega arith)
-    go i (j ∷ rest) (p, o) zero h = rising i j p
-    go i (j ∷ rest) (p, o) (suc k) h = go j rest o k (omega arith)
+    go : (i : ℕ) (rest : List ℕ) → Onward rule i rest last → length rest + i ≤ last
+    go i [] e = omega (arith, e)
+    go i (j ∷ rest) (p, o) = omega (arith, rising i j p, go j rest o)

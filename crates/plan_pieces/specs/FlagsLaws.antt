@@ -35,6 +35,11 @@ flags-small short long least most len e f = rw (e, f) (go (isShorter least len) 
     go false true = omega arith
     go false false = omega arith
 
+-- so is the number that both make
+pub flags-most : (least : Float) (most len : ℕ) → flagsOf least most len ≤ 3
+unfolding flagsOf
+flags-most least most len = flags-small (shortFlag least len) (longFlag most len) least most len refl refl
+
 -- the long flag stands exactly where the piece is longer than the maximum
 pub long-stands : (least : Float) (most len : ℕ) → hasLong (flagsOf least most len) ≡ isLonger most len
 unfolding flagsOf shortFlag longFlag

@@ -2,28 +2,25 @@
 
 -- Flags: the flags of a piece (`flagsOf`), and each of them (`hasLong`, `hasShort`)
 pub mod Flags
--- FlagsLaws: each flag stands exactly where it should (`long-stands`, `short-stands`)
+-- FlagsLaws: each flag stands exactly where it should (`long-stands`, `short-stands`), and there are no others (`flags-most`)
 pub mod FlagsLaws
--- Along: the pieces and cuts along a path (`piecesAlongNumbers`, `cutsAlongNumbers`), and whether one is longer than the maximum (`anyLong`)
+-- Along: the pieces and cuts along a path (`piecesAlongNumbers`, `cutsAlongNumbers`)
 pub mod Along
 -- Drawn: what writing them needs of a path (`Drawn`)
 pub mod Drawn
--- AlongLaws: the steps of a path, and what holds on the way (`Writing`, `Seeking`)
+-- AlongLaws: the steps of a path, and what holds on the way (`Writing`)
 pub mod AlongLaws
--- DrawnLaws: a path that is allowed over candidates in order can be written (`path-drawn`, `by-length-drawn`, `by-count-drawn`), and rises (`path-rises`)
+-- DrawnLaws: a path that is allowed over candidates in order can be written (`path-drawn`), and has no more candidates than there are (`path-few`)
 pub mod DrawnLaws
 -- NumbersLaws: three numbers for each piece and cut (`pieces-length`, `cuts-length`), and which (`piece-numbers`, `cut-numbers`)
 pub mod NumbersLaws
--- LongLaws: some piece is longer than the maximum exactly where the pieces over that limit are not 0 (`any-over`, `none-over`)
-pub mod LongLaws
--- PlanAlong: the plan of a path over candidates on a frame grid, by the plan's settings (`planPieces`, `planCuts`, `hasLongPiece`)
+-- PlanAlong: the plan of a path over candidates on a frame grid, by the plan's settings (`planPieces`, `planCuts`)
 pub mod PlanAlong
--- PlanAlongLaws: its lengths (`plan-lengths`), where each flag stands (`long-flagged`, `short-flagged`, `long-over`),
---   how pieces and cuts meet (`cut-between`), that pieces are not empty (`start-below`), and reasons from entries (`reasons-entries`)
+-- PlanAlongLaws: its lengths (`plan-lengths`), and reasons from entries (`reasons-entries`)
 pub mod PlanAlongLaws
 -- Answer: document 01's number for each answer of the operation Plan (`numberOf`)
 pub mod Answer
--- AnswerLaws: the number is 0 exactly where a plan was made (`IsPlanned`, `number-zero`, `planned-zero`), given that a refusal has a number (`Numbered`, `refused-numbered`)
+-- AnswerLaws: the number is 0 exactly where a plan was made (`IsPlanned`, `number-zero`), given that a refusal has a number (`Numbered`, `refused-numbered`)
 pub mod AnswerLaws
 -- Output: the plan handed out whole, or refusal 12 (`handedOutOf`, `hasRoom`)
 pub mod Output

@@ -8,7 +8,7 @@ use Rattle.grid.specs.Durations.{samplesFloor, samplesIn}
 use Rattle.grid.specs.declared.boundary.FrameGrid.{FrameGrid}
 use Rattle.path_pieces.specs.Pieces.{pieceLength}
 use Rattle.candidates.specs.Candidates.{node}
-use Rattle.candidates.specs.Asked.{leftsOf, rightsOf}
+use Rattle.candidates.specs.Samples.{leftsOf, rightsOf}
 use Rattle.candidates.specs.declared.candidate.Candidate.{Candidate}
 use Rattle.candidates.specs.declared.candidate.Reason.the-variants.{Silence}
 use Rattle.base_terms.specs.Floats.{nought}

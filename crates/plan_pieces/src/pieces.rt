@@ -4,7 +4,7 @@ ghost use mathlib.Core.Path.{_≡_};
 ghost use Prim.Native.Nat.{suc, _+_, _-_, _*_, _≤_, _<_};
 ghost use lib.ListN.{length};
 ghost use Rattle.base_terms.specs.Lists.{onto};
-ghost use Rattle.plan_pieces.specs.Along.{pieceAt, piecesAlongNumbers, reasonsIn, cutsAlongNumbers, anyLong, putThree};
+ghost use Rattle.plan_pieces.specs.Along.{pieceAt, piecesAlongNumbers, reasonsIn, cutsAlongNumbers, putThree};
 ghost use Rattle.plan_pieces.specs.Drawn.{Drawn};
 
 // Where a piece lies, in samples.
@@ -25,22 +25,6 @@ fn piece_at(left: &[u64], right: &[u64], path: &[u32], i: usize) -> Piece
         start: right[from],
         end: left[to],
     }
-}
-
-// Whether some piece of a path is longer than the maximum.
-pub fn any_long(left: &[u64], right: &[u64], path: &[u32], max: u64) -> bool
-    requires { ⌜ Drawn (now left) (now right) (now path) ⌝ }
-    ensures { λ r. ⌜ r ≡ anyLong (now (left .entry)) (now (right .entry)) max (now (path .entry)) ⌝ }
-{
-    let mut i: usize = 0;
-    while i + 1 < path.len() {
-        let p = piece_at(left, right, path, i);
-        if max < p.end - p.start {
-            return true;
-        }
-        i += 1;
-    }
-    false
 }
 
 // Writes three numbers from `at` on.

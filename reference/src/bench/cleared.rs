@@ -3,8 +3,8 @@
 //!
 //! The line `clearing` has the port's own clearing of the same lists, called by itself, beside the
 //! machine's fill of them. The line `without clearing` has the best time of that clearing taken off
-//! the best of the operation. The line `growth` compares what is left for two sizes. Few frames are
-//! asked many times, and the times are of all the calls.
+//! the best of the operation. The line `growth` compares two sizes, by what is left and by the whole.
+//! Few frames are asked many times, and the times are of all the calls.
 
 use std::hint::black_box;
 use std::time::{Duration, Instant};
@@ -20,9 +20,12 @@ const ASKED: u64 = 131_072;
 /// The smaller size of the growth.
 pub const GROWN_FROM: u64 = 65_536;
 
-/// The best times of all the calls of a case, ours without the clearing.
+/// The best times of all the calls of a case.
 pub struct Times {
+    /// Without the clearing.
     pub ours: Duration,
+    /// With it.
+    pub whole: Duration,
     #[cfg_attr(not(feature = "candidates"), allow(dead_code))]
     pub rust: Duration,
 }
@@ -34,16 +37,17 @@ pub fn calls(frames: u64) -> u64 {
 
 /// Runs a case for each size and prints the growth between the two that show it.
 pub fn grow(name: &str, sizes: &[u64], mut case: impl FnMut(&str, u64) -> Times) {
-    let mut from = None;
+    let mut from: Option<[f64; 2]> = None;
     for &frames in sizes {
         let times = case(&format!("{name}_{frames}"), frames);
-        let each = times.ours.as_nanos() as f64 / (calls(frames) * frames) as f64;
+        let asked = (calls(frames) * frames) as f64;
+        let each = [times.ours, times.whole].map(|time| time.as_nanos() as f64 / asked);
         match (frames, from) {
             (GROWN_FROM, _) => from = Some(each),
-            (MOST_FRAMES, Some(before)) => {
-                let growth = each / before;
+            (MOST_FRAMES, Some([ours, whole])) => {
+                let (left, all) = (each[0] / ours, each[1] / whole);
                 println!(
-                    "bench {name} growth from {GROWN_FROM} to {MOST_FRAMES} frames: {growth:.2} of linear"
+                    "bench {name} growth from {GROWN_FROM} to {MOST_FRAMES} frames: {left:.2} of linear, with clearing {all:.2}"
                 );
             }
             _ => {}
@@ -99,6 +103,7 @@ pub fn both_with_parent(
     line(&format!("{name} without clearing"), left, best_rust);
     Times {
         ours: left,
+        whole: best,
         rust: best_rust,
     }
 }

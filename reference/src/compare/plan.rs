@@ -15,10 +15,6 @@ use crate::plan_job::trials;
 use crate::rng::Rng;
 use crate::tally::Tally;
 
-/// Above so many frames no more pieces than these are asked for.
-const MANY_FRAMES: u64 = 100;
-const FEW_PIECES: u32 = 16;
-
 pub fn subjects() -> [Subject; 4] {
     [
         Subject::new("plan", plan),
@@ -44,6 +40,7 @@ fn plan(amount: Amount, rng: &mut Rng, tally: &mut Tally) {
 
 /// So few frames that every plan is held against all divisions.
 fn plan_all(amount: Amount, rng: &mut Rng, tally: &mut Tally) {
+    divisions::try_on_trials();
     let mut caller = Caller::new();
     for _ in 0..amount.inputs {
         let frames = rng.below(divisions::MOST_FRAMES as u64 + 1);
@@ -61,10 +58,6 @@ fn small(rng: &mut Rng) -> Job {
         _ => 4 + rng.below(32),
     };
     let mut job = Job::to_plan(rng, frames);
-    // Many pieces of many frames take as long as a thousand of the others.
-    if job.plan.by_count && frames > MANY_FRAMES {
-        job.plan.count = job.plan.count.min(FEW_PIECES);
-    }
     vary(&mut job.recording, rng);
     job
 }

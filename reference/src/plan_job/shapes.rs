@@ -15,9 +15,9 @@ impl Job {
     /// An accepted job of so many frames for a whole plan.
     pub fn to_plan(rng: &mut Rng, frames: u64) -> Self {
         let mut job = Self::random(rng, frames);
-        match rng.below(10) {
-            0..=2 => many_gaps(rng, &mut job),
-            3..=6 => chain(rng, &mut job, frames / 12 + 2),
+        match rng.below(20) {
+            0..=6 => many_gaps(rng, &mut job),
+            7..=14 => chain(rng, &mut job, frames / 12 + 2),
             _ => {}
         }
         job.only_rusts_thresholds();
@@ -51,7 +51,7 @@ impl Job {
     }
 
     /// A negative distance below the reference is accepted here alone.
-    fn only_rusts_thresholds(&mut self) {
+    pub fn only_rusts_thresholds(&mut self) {
         let s = &mut self.recording.settings;
         if s.kind == 2 {
             s.threshold = s.threshold.abs();

@@ -34,7 +34,7 @@ pub fn planned() -> [(Job, Planned); 3] {
 }
 
 /// Pieces between these ends, with these flags, and cuts between them for these reasons.
-fn planned_of(ends: &[u64], flags: &[u64], reasons: &[u64]) -> Planned {
+pub fn planned_of(ends: &[u64], flags: &[u64], reasons: &[u64]) -> Planned {
     let pieces = ends.windows(2).zip(flags);
     let inner = &ends[1..ends.len() - 1];
     let cuts = inner.iter().zip(reasons);

@@ -13,19 +13,19 @@
 //! | pause reference, in nanoseconds | u64 |
 //! | target weight, short weight | f64 each |
 //! | refusal, 0 where the plan was made | u32 |
-//! | pieces p, none where refused | u32 |
-//! | entries of the work lists of u32, u64 and f64, at most 496 | u32 each |
+//! | pieces p, cuts c, none where refused | u32 each |
+//! | entries of each work list, at most 496 | u32 |
 //! | entries of the parent list, at most 930 | u32 |
 //! | entries of the lists for pieces and for cuts, at most 96 | u32 each |
 //! | values | n × f32 |
 //! | flags | n × u8 |
 //! | levels, for decibels alone | n × f64 |
 //! | start, end and flags of each piece: 1 short, 2 long | 3p × u64 |
-//! | previous end, next start and reason of each cut, one fewer: 0 silence, 1 quiet, 2 forced | 3(p − 1) × u64 |
+//! | previous end, next start and reason of each cut: 0 silence, 1 quiet, 2 forced | 3c × u64 |
 //!
 //! The first three are document 01's trial cuts. Of eight records one is refused by its parent list
 //! or its output, and one otherwise; none by 4. Spoiled are, of the second: each number of a piece
-//! and of a cut, one piece less, one more, and a refusal; and the number of a refusal.
+//! and of a cut, one piece less, one more, a cut less, and a refusal; and the number of a refusal.
 
 use super::Bytes;
 use super::candidates::put_settings;
@@ -42,7 +42,8 @@ const REFUSALS: [u32; 11] = [1, 2, 3, 5, 6, 7, 8, 9, 10, 11, 13];
 
 /// Entries of the lent lists.
 struct Lists {
-    work: [usize; 3],
+    /// Of each of the three.
+    work: usize,
     parent: usize,
     pieces: usize,
     cuts: usize,
@@ -52,7 +53,7 @@ impl Lists {
     /// As long as they have to be.
     fn enough(job: &Job, planned: &Planned) -> Self {
         Self {
-            work: [16 * (job.recording.case.values.len() + 1); 3],
+            work: 16 * (job.recording.case.values.len() + 1),
             parent: parents(job).into_iter().max().unwrap_or(0),
             pieces: planned.pieces.len(),
             cuts: planned.cuts.len(),
@@ -104,9 +105,15 @@ pub fn spoiled(bytes: &mut Bytes) {
     less.pieces.truncate(3);
     less.cuts.clear();
     put(bytes, &job, &lists, 0, &less);
+    let mut uncut = planned.clone();
+    uncut.cuts.clear();
+    put(bytes, &job, &lists, 0, &uncut);
     let mut more = planned;
     more.pieces.extend([700, 800, 0]);
     more.cuts.extend([700, 700, 2]);
+    // A plan that its lists cannot hold would be no record.
+    lists.pieces += 3;
+    lists.cuts += 3;
     put(bytes, &job, &lists, 0, &more);
     put(bytes, &job, &lists, 14, &Planned::default());
     lists.parent -= 1;
@@ -168,7 +175,7 @@ fn change(rng: &mut Rng, job: &mut Job, lists: &mut Lists, refusal: u32) {
         9 => (plan.placement, plan.ratio) = (2, rng.choose(&[f32::NAN, 1.5, -0.5])),
         10 => plan.weights.cut = rng.choose(&[0.0, f64::NAN, -1.0]),
         11 => (settings.kind, settings.threshold) = (1, f32::INFINITY),
-        _ => lists.work[rng.below(3) as usize] -= 1,
+        _ => lists.work -= 1,
     }
 }
 
@@ -176,10 +183,10 @@ fn put(bytes: &mut Bytes, job: &Job, lists: &Lists, refusal: u32, answer: &Plann
     put_recording(bytes, &job.recording);
     put_settings(bytes, &job.plan);
     bytes.u32(refusal);
-    bytes.u32(answer.pieces.len() as u32 / 3);
-    let [a, b, c] = lists.work;
-    let entries = [a, b, c, lists.parent, lists.pieces, lists.cuts];
-    entries.into_iter().for_each(|n| bytes.u32(n as u32));
+    let stored = [answer.pieces.len() / 3, answer.cuts.len() / 3];
+    let lent = [lists.work, lists.parent, lists.pieces, lists.cuts];
+    let sizes = stored.into_iter().chain(lent);
+    sizes.for_each(|n| bytes.u32(n as u32));
     put_lists(bytes, &job.recording.case);
     answer.pieces.iter().for_each(|n| bytes.u64(*n));
     answer.cuts.iter().for_each(|n| bytes.u64(*n));

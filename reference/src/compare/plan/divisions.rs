@@ -3,6 +3,7 @@
 use crate::plan_job::Job;
 use crate::plan_job::places::Places;
 use crate::plan_job::planned::{Course, Planned};
+use crate::plan_job::trials::{self, planned_of};
 
 /// Frames at most: the places between the ends have 512 choices.
 pub const MOST_FRAMES: usize = 10;
@@ -102,4 +103,34 @@ fn flags(planned: &Planned, course: &Course) -> Option<String> {
         p[2] != u64::from(short) + 2 * u64::from(long)
     });
     wrong.map(|piece| format!("flags of piece {piece:?}"))
+}
+
+/// Panics if a plan of document 01's trials is refused here, or another plan of one of them is not
+/// refused for what is wrong with it.
+pub fn try_on_trials() {
+    let [printed, by_two, by_eight] = trials::planned();
+    for (job, planned) in [&printed, &by_two, &by_eight] {
+        assert_eq!(fault(job, planned, &job.course()), None, "a trial");
+    }
+    let wrong = [
+        (&by_two, planned_of(&[0, 700], &[2], &[]), "1 pieces"),
+        (
+            &by_two,
+            planned_of(&[0, 500, 700], &[2, 0], &[2]),
+            "longest",
+        ),
+        (&by_two, planned_of(&[0, 300, 700], &[0, 0], &[0]), "flags"),
+        (&by_two, planned_of(&[0, 350, 700], &[2, 2], &[0]), "cuts"),
+        (&by_two, planned_of(&[0, 400], &[2], &[]), "pieces"),
+        (
+            &by_eight,
+            planned_of(&[0, 400, 700], &[0, 0], &[0]),
+            "2 pieces",
+        ),
+        (&printed, planned_of(&[0, 700], &[2], &[]), "single"),
+    ];
+    for ((job, _), planned, why) in wrong {
+        let fault = fault(job, &planned, &job.course());
+        assert!(fault.is_some_and(|f| f.contains(why)), "{planned:?}: {why}");
+    }
 }

@@ -1,5 +1,5 @@
 //! Plans of many frames: by length up to the limit, by count as far as time and a parent list of
-//! some hundred megabytes allow.
+//! some megabytes allow.
 
 use super::{Caller, ask_accepted};
 use crate::compare::Amount;
@@ -8,24 +8,43 @@ use crate::plan_job::Job;
 use crate::rng::Rng;
 use crate::tally::Tally;
 
-/// The smaller size.
+/// The smaller of the two sizes that always come, and the least of those below it.
 const SMALLER: u64 = 65_536;
+const LEAST: u64 = 600;
 
-/// Entries of a parent list at most: the Rust takes about a quarter of a microsecond for each.
+/// Entries of a parent list at most: each takes the Rust up to two microseconds, in each of two
+/// paths.
 const PARENTS: u64 = 1 << 18;
 
-/// The same for one list in so many, of up to 128 MB.
-const GREAT_PARENTS: u64 = 1 << 25;
-const GREAT: u64 = 24;
+/// The same, of 16 MB, for one input in so many.
+const GREAT_PARENTS: u64 = 1 << 22;
+const GREAT: u64 = 36;
 
-/// By length and by count, both sizes of each in turn.
+/// The same, of 128 MB, for one in so many, which alone takes more than a minute.
+const GREATEST_PARENTS: u64 = 1 << 25;
+const GREATEST: u64 = 144;
+
+/// By length and by count in turn, three sizes of each.
 pub fn large(amount: Amount, rng: &mut Rng, tally: &mut Tally) {
     let mut caller = Caller::new();
-    for i in 0..amount.large(24, 4) {
-        let frames = if i % 2 == 0 { SMALLER } else { MOST_FRAMES };
-        let great = i % GREAT == GREAT - 1;
-        let parents = if great { GREAT_PARENTS } else { PARENTS };
-        let job = Job::long_to_plan(rng, frames, i % 4 >= 2, parents);
+    for i in 0..amount.large(36, 6) {
+        let frames = match i / 2 % 3 {
+            0 => SMALLER,
+            1 => LEAST + rng.below(SMALLER - LEAST),
+            _ => MOST_FRAMES,
+        };
+        let job = Job::long_to_plan(rng, frames, i % 2 == 1, parents(i));
         ask_accepted(&mut caller, &job, rng, tally);
+    }
+}
+
+/// Entries of the parent list of input `i`, at most.
+fn parents(i: u64) -> u64 {
+    if i % GREATEST == GREATEST - 1 {
+        GREATEST_PARENTS
+    } else if i % GREAT == GREAT - 1 {
+        GREAT_PARENTS
+    } else {
+        PARENTS
     }
 }

@@ -10,6 +10,9 @@ use crate::tally::Tally;
 /// Dropped gaps of a job that counts as one of many.
 const MANY_GAPS: usize = 3;
 
+/// Frames of a maximum that counts as one of a few.
+const FEW_FRAMES: u128 = 8;
+
 pub fn count(
     tally: &mut Tally,
     job: &Job,
@@ -30,16 +33,37 @@ pub fn count(
     }
 }
 
+/// What the generators are meant to bring often.
 fn inputs(tally: &mut Tally, job: &Job, planned: &Planned, course: &Course) {
-    let by_count = job.plan.by_count;
     let gaps = |list: &[(u64, u64)]| list.iter().filter(|(left, right)| left < right).count();
-    tally.occurs("by count", by_count);
+    tally.occurs("by count", job.plan.by_count);
     let many = gaps(&course.places.ends) >= MANY_GAPS;
     tally.occurs("three dropped gaps or more", many);
+    tally.occurs("a maximum of eight frames or fewer", few_frames(job));
+    let mut neighbours = course.found.windows(2);
+    let blocked = neighbours.any(|w| w[1].0 - w[0].1 > course.maximum);
+    tally.occurs("neighbours further apart than the maximum", blocked);
     tally.occurs("empty plan", planned.pieces.is_empty());
     let kept = course.places.kept_frames;
-    let more = kept > 0 && by_count && job.plan.count as usize > kept;
-    tally.occurs("more pieces asked for than frames kept", more);
+    let asked = (job.plan.by_count && kept > 0).then_some(job.plan.count as usize);
+    let about = |n: usize| asked.is_some_and(|asked| asked.abs_diff(n) <= 1);
+    let given = course.found.len().saturating_sub(1);
+    tally.occurs(
+        "about as many pieces asked for as candidates give",
+        about(given),
+    );
+    tally.occurs(
+        "about as many pieces asked for as frames are kept",
+        about(kept),
+    );
+    let more = asked.is_some_and(|asked| asked > kept);
+    tally.occurs("more pieces asked for than frames are kept", more);
+}
+
+fn few_frames(job: &Job) -> bool {
+    let case = &job.recording.case;
+    let frame = u128::from(case.hop) * 1_000_000_000;
+    u128::from(job.plan.max) * u128::from(case.frame_rate) <= FEW_FRAMES * frame
 }
 
 fn completion(tally: &mut Tally, job: &Job, course: &Course) {
@@ -49,7 +73,7 @@ fn completion(tally: &mut Tally, job: &Job, course: &Course) {
     let so = by_length && completed(&added);
     tally.occurs("completion by length added a point", so);
     let so = by_count && completed(&|_| true);
-    tally.occurs("a second path", so);
+    tally.occurs("a reach sought", so);
     let so = completed(&|c| c.limit > course.maximum);
     tally.occurs("a reach above the maximum", so);
     let so = by_count && completed(&|c| shares_added(course, c));

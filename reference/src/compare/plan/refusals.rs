@@ -34,6 +34,7 @@ pub fn refusals(amount: Amount, rng: &mut Rng, tally: &mut Tally) {
         for number in &aims {
             change(&mut job, rng, *number);
         }
+        job.only_rusts_thresholds();
         let first = before_lists(&job);
         let answer = if first == 0 { answer(&mut job) } else { None };
         let sizes = sizes(rng, &job, answer.as_ref(), &aims);

@@ -14,8 +14,8 @@ segment-of-requires c κs = search needs
 weights-of-requires : tie.Need-weights-of-requires
 weights-of-requires c κs = search needs
 
-plan-of-requires : tie.Need-plan-of-requires
-plan-of-requires c κs = search needs
+plan-config-requires : tie.Need-plan-config-requires
+plan-config-requires c κs = search needs
 
 candidate-list-requires : tie.Need-candidate-list-requires
 candidate-list-requires c κs = search needs
@@ -51,7 +51,7 @@ returns c =
         ← read .before .before .before .recording-of .ensures,
         ← read .before .before .segment-of .ensures,
         ← read .before .weights-of .ensures,
-        ← read .plan-of .ensures,
+        ← read .plan-config .ensures,
         ← called .candidate-list .ensures .0,
       ) (rw (c .number .ensures, c .before .found-after .ensures)),
       (called .candidate-list .ensures .1, holds (start .good .1 .1 .1 .1 .1 .1 .1 .1 .1 .1 .1 .1 .1 .1 .1 .1 .1 .1 .1 .1 .1 .1 .1 .0 .1)),
@@ -64,7 +64,7 @@ buchawzer-candidates-spec =
     recording-of-requires
     segment-of-requires
     weights-of-requires
-    plan-of-requires
+    plan-config-requires
     candidate-list-requires
     found-after-requires
     number-requires

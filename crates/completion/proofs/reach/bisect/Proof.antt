@@ -4,8 +4,7 @@ use native.Mathlib.Omega.{arith}
 use Prim.Native.Nat.{_+_, _-_, _/_, _≤_}
 use Rattle.completion.specs.Ground.{spanIn}
 use Rattle.completion.specs.FitsLaws.{told-feasible, told-infeasible}
-use Rattle.completion.specs.Reach.{Bracket}
-use Rattle.completion.specs.ReachLaws.{bracket-down, bracket-up, bracket-done}
+use Rattle.completion.specs.ReachLaws.{Bracket, bracket-down, bracket-up, bracket-done}
 use Rattle.completion.proofs.reach.bisect.Statement.{statement}
 use Rattle.completion.proofs.reach.bisect.Tie as tie
 

@@ -1,16 +1,17 @@
 -- `reach::reach`: the maximum is feasible and so the reach, or the span's length is and the search finds it, or no limit is.
 use borrow.Author.Needs.{needs}
 use native.Mathlib.Omega.{arith}
-use mathlib.Core.Path.{_≡_, subst}
+use mathlib.Core.Path.{_≡_, sym, subst}
 use Prim.Native.Nat.{ℕ, _-_}
 use Rattle.grid.specs.BoundaryLaws.{boundary-mono}
 use Rattle.candidate_span.specs.GapsLaws.{spread-ends}
-use Rattle.division.specs.Pieces.{pieceFrom, lengthOf}
 use Rattle.division.specs.Reach.{Feasible}
+use Rattle.division.specs.ReachLaws.{reach-maximum}
 use Rattle.completion.specs.Ground.{spanIn}
 use Rattle.completion.specs.GroundLaws.{asked-pieces}
 use Rattle.completion.specs.FitsLaws.{told-feasible, told-infeasible}
-use Rattle.completion.specs.ReachLaws.{bracket-start, sought-maximum, sought-found, sought-nothing}
+use Rattle.completion.specs.Reach.{spanLength}
+use Rattle.completion.specs.ReachLaws.{bracket-start, reach-of, of-no-reach}
 use Rattle.completion.proofs.reach.reach.Statement.{statement}
 use Rattle.completion.proofs.reach.reach.Tie as tie
 
@@ -26,9 +27,12 @@ fits-requires c κs = search needs
 returns : tie.Need-returns
 returns c =
     let a = c .before .before .before .before .before .before .args in
-    sought-maximum (a .x .grid) (spanIn (a .x) (a .silences .now)) (a .count) (a .maximum)
-    (told-feasible (a .x) (a .silences .now) (c .before .before .before .before .before .before .pre) (a .count) (a .maximum) (c .before .before .lesser .result) (asked-pieces (a .x) (a .silences .now) (a .count) (c .before .before .before .kept-frames .result) (c .before .before .lesser .result) (c .before .before .before .kept-frames .ensures) (c .before .before .lesser .ensures))
-    (c .before .fits2 .result) (c .before .fits2 .ensures) (c .if1 .taken))
+    let p = c .before .before .before .before .before .before .pre in
+    let s = spanIn (a .x) (a .silences .now) in
+    sym (reach-of (a .x .grid) (p .accepted) s (p .spread) (a .count) (a .maximum) (a .maximum)
+    (reach-maximum (a .x .grid) s (a .count) (a .maximum)
+    (told-feasible (a .x) (a .silences .now) p (a .count) (a .maximum) (c .before .before .lesser .result) (asked-pieces (a .x) (a .silences .now) (a .count) (c .before .before .before .kept-frames .result) (c .before .before .lesser .result) (c .before .before .before .kept-frames .ensures) (c .before .before .lesser .ensures))
+    (c .before .fits2 .result) (c .before .fits2 .ensures) (c .if1 .taken))))
 
 position-requires : tie.Need-position-requires
 position-requires c κs = search needs
@@ -59,7 +63,8 @@ bisect-requires c κs =
 returns-2 : tie.Need-returns-2
 returns-2 c =
     let a = c .before .before .before .before .before .before .before .before .before .before .before .args in
-    sought-found (a .x .grid) (spanIn (a .x) (a .silences .now)) (a .count) (a .maximum) (c .bisect .result) (c .bisect .ensures)
+    let p = c .before .before .before .before .before .before .before .before .before .before .before .pre in
+    sym (reach-of (a .x .grid) (p .accepted) (spanIn (a .x) (a .silences .now)) (p .spread) (a .count) (a .maximum) (c .bisect .result) (c .bisect .ensures))
 
 returns-3 : tie.Need-returns-3
 returns-3 c =
@@ -67,11 +72,11 @@ returns-3 c =
     let p = c .before .before .before .before .before .before .before .before .before .before .pre in
     let s = spanIn (a .x) (a .silences .now) in
     let whole = c .before .before .before .position .result - c .before .before .position2 .result in
-    let same : whole ≡ lengthOf (a .x .grid) (pieceFrom (a .x .first) (a .x .last)) = omega (arith, c .before .before .before .position .ensures, c .before .before .position2 .ensures) in
-    sought-nothing (a .x .grid) s (a .count) (a .maximum) (p .accepted) (p .spread)
+    let same : whole ≡ spanLength (a .x .grid) s = omega (arith, c .before .before .before .position .ensures, c .before .before .position2 .ensures) in
+    sym (of-no-reach (a .x .grid) (p .accepted) s (p .spread) (a .count) (a .maximum)
     (subst (λ (l : ℕ). Feasible (a .x .grid) s (a .count) l → ⊥) same
     (told-infeasible (a .x) (a .silences .now) p (a .count) whole (c .before .before .before .before .before .before .lesser .result) (asked-pieces (a .x) (a .silences .now) (a .count) (c .before .before .before .before .before .before .before .kept-frames .result) (c .before .before .before .before .before .before .lesser .result) (c .before .before .before .before .before .before .before .kept-frames .ensures) (c .before .before .before .before .before .before .lesser .ensures))
-    (c .before .fits3 .result) (c .before .fits3 .ensures) (c .if2 .left)))
+    (c .before .fits3 .result) (c .before .fits3 .ensures) (c .if2 .left))))
 
 pub reach-spec : {M : Type 1} → statement M
 reach-spec =

@@ -3,7 +3,8 @@ use denote.Ref.{now}
 use Rattle.base_terms.specs.Work.{workOf}
 use Rattle.path_tests.specs.RefusalLaws.{accepted-lists}
 use Rattle.path_list.specs.SeekLaws.{workable}
-use Rattle.path_list.specs.OperationLaws.{path-refused, path-sought, filled-same, cleared-same}
+use Rattle.base_code.specs.WorkLaws.{filled-same, cleared-same}
+use Rattle.path_list.specs.OperationLaws.{path-refused, path-sought}
 use borrow.Author.Needs.{needs}
 use mathlib.Core.Path.{refl, sym, _∙_}
 use Rattle.path_list.proofs.operation.best_path.Statement.{statement}

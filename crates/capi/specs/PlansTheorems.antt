@@ -1,0 +1,37 @@
+-- From the number that C gets to what was handed out: 0 says that a plan was made, and the theorems on plans hold of it.
+use mathlib.Core.Path.{_≡_, sym, ap, subst}
+use mathlib.Core.Logic.{_↔_}
+use mathlib.Core.List.{List}
+use Prim.Native.Nat.{ℕ}
+use lib.Ieee.{Float}
+use Rattle.base_terms.specs.Work.{Work}
+use Rattle.grid.specs.declared.validate.Recording.{Recording}
+use Rattle.silence_list.specs.declared.config.SegmentConfig.{SegmentConfig}
+use Rattle.candidate_settings.specs.declared.config.PlanConfig.{PlanConfig}
+use Rattle.plan_pieces.specs.Output.{Output}
+use Rattle.plan_pieces.specs.declared.answer.Answer.{Answer}
+use Rattle.plan_pieces.specs.declared.answer.Answer.the-variants.{Planned}
+use Rattle.planner.specs.Operation.{planOf}
+use Rattle.plan_theorems.specs.Made.{Made}
+use Rattle.plan_theorems.specs.Theorems.{plan-made, plan-ended}
+use Rattle.capi.specs.Plans.{piecesAfter, PlanCalled, planCalledOf}
+
+module _ (r : Recording) (segment : SegmentConfig) (plan : PlanConfig) (values : List Float) (flags : List ℕ) (levels : List Float) (out : Output) (work : Work) (parent : List ℕ)
+    (before : ℕ)
+  where
+    -- what the call leaves
+    abbrev called : PlanCalled
+    called = planCalledOf (planOf r segment plan values flags levels out work parent) before
+
+    -- the number is 0 where a plan was made, and nowhere else
+    pub plan-called-zero : (called .number ≡ 0) ↔ ((k : ℕ) × (planOf r segment plan values flags levels out work parent .answer ≡ Planned k))
+    unfolding planCalledOf
+    plan-called-zero = plan-ended r segment plan values flags levels out work parent .number
+
+    -- then `found` holds how many pieces it has, and the output's fronts are the plan of the theorems
+    pub plan-called : called .number ≡ 0 → Made r segment plan values flags levels (called .found) out (called .out)
+    unfolding planCalledOf
+    plan-called e =
+        let f = plan-called-zero .0 e in
+        subst (λ (k : ℕ). Made r segment plan values flags levels k out (planOf r segment plan values flags levels out work parent .out))
+        (sym (ap (λ (a : Answer). piecesAfter a before) (f .1))) (plan-made r segment plan values flags levels out work parent (f .0) (f .1))

@@ -1,0 +1,214 @@
+-- The ends of a plan, by the tests that lead to each and whatever the output: which of them makes a plan, along which path, and what the others say.
+use mathlib.Core.Path.{_≡_, refl}
+use mathlib.Core.Bool.{Bool, true, false}
+use mathlib.Core.List.{List, []}
+use Prim.Native.Nat.{ℕ, _-_, _*_, _<_, min}
+use native.Mathlib.Omega.{arith}
+use borrow.Author.Tests.{leb-false, le-leb}
+use lib.ListN.{length}
+use Rattle.base_terms.specs.Lists.{onto}
+use Rattle.grid.specs.declared.boundary.FrameGrid.{FrameGrid}
+use Rattle.path_pieces.specs.declared.mode.Mode.{Mode}
+use Rattle.path_pieces.specs.declared.mode.Mode.the-variants.{ByLength, ByCount}
+use Rattle.candidate_settings.specs.declared.config.PlanConfig.{PlanConfig}
+use Rattle.candidate_span.specs.Gaps.{Cut}
+use Rattle.division.specs.Division.{Span}
+use Rattle.candidates.specs.declared.candidate.Candidate.{Candidate}
+use Rattle.completion.specs.Reach.{reachOf}
+use Rattle.completion.specs.declared.reach.Sought.{Sought}
+use Rattle.completion.specs.declared.reach.Sought.the-variants.{Reach, Nothing}
+use Rattle.plan_lengths.specs.PlanLengths.{maximumIn}
+use Rattle.plan_pieces.specs.PlanAlong.{planPieces, planCuts}
+use Rattle.plan_pieces.specs.Output.{Output, outputOf, Handed, handedOf, pick, hasRoom, handedOutOf}
+use Rattle.plan_pieces.specs.OutputLaws.{room-parts}
+use Rattle.plan_pieces.specs.AnswerLaws.{Numbered}
+use Rattle.plan_pieces.specs.declared.answer.Answer.the-variants.{Planned, ShortParent, NoReach, ShortOutput}
+use Rattle.planner.specs.Plan.{planAlong, completedByLength, pathByLength, planByLength, hasParents, pathByCount, suffices, plannedUnder, completedByCount, plannedAfter, planByCount, planBy}
+use Rattle.plan_theorems.specs.Made.{HasRoom}
+
+-- ---- a plan along a path
+
+-- what it leaves where the output has room
+pub record HandedAlong (g : FrameGrid) (plan : PlanConfig) (cs : List Candidate) (path : List ℕ) (k : ℕ) (before after : Output) : Type 0 where
+  pub number : length path - 1 ≡ k
+  pub fits : HasRoom k before
+  pub is : after ≡ outputOf (onto (planPieces g plan cs path) (before .pieces)) (onto (planCuts g cs path) (before .cuts))
+
+room-there : (k : ℕ) (out : Output) → HasRoom k out → hasRoom k (length (out .pieces)) (length (out .cuts)) ≡ true
+unfolding hasRoom
+room-there k out h = rw (le-leb (3 * k) (length (out .pieces)) (h .0), le-leb (3 * (k - 1)) (length (out .cuts)) (h .1))
+
+module _ (g : FrameGrid) (plan : PlanConfig) (cs : List Candidate) (path : List ℕ) where
+  -- with room, a plan of one piece fewer than candidates
+  along-made : (out : Output) → HasRoom (length path - 1) out → planAlong g plan cs path out .answer ≡ Planned (length path - 1)
+  unfolding handedOutOf
+  along-made out h = rw (room-there (length path - 1) out h)
+
+  module _ (out : Output) where
+    abbrev whole : Output
+    whole = outputOf (onto (planPieces g plan cs path) (out .pieces)) (onto (planCuts g cs path) (out .cuts))
+
+    abbrev handed : Bool → Handed
+    handed b = pick b (handedOf (Planned (length path - 1)) whole) (handedOf ShortOutput out)
+
+    pub handed-along : (k : ℕ) → planAlong g plan cs path out .answer ≡ Planned k → HandedAlong g plan cs path k out (planAlong g plan cs path out .out)
+    unfolding handedOutOf
+    handed-along k = go (hasRoom (length path - 1) (length (out .pieces)) (length (out .cuts))) (room-parts (length path - 1) (length (out .pieces)) (length (out .cuts)))
+      where
+        go : (b : Bool) → (b ≡ true → HasRoom (length path - 1) out) → handed b .answer ≡ Planned k → HandedAlong g plan cs path k out (handed b .out)
+        go true f e =
+            let n : length path - 1 ≡ k = cc in
+            record { number = n; fits = (rw (← n) (f refl .0), rw (← n) (f refl .1)); is = refl }
+        go false f e = let z : _≡_ {A = ℕ} 0 1 = cc in absurd (omega arith)
+
+    -- 12 alone is said otherwise, and then there is no room
+    along-short : planAlong g plan cs path out .answer ≡ ShortOutput → HasRoom (length path - 1) out → ⊥
+    along-short e h = let f = along-made out h in let z : _≡_ {A = ℕ} 0 1 = cc in omega arith
+
+-- ---- by which tests an end is reached
+
+-- an end: a plan along a path, or a refusal
+pub data PlanEnd : Type 0 where
+  along : List Candidate → List ℕ → PlanEnd
+  short-parent : PlanEnd
+  without-reach : PlanEnd
+
+-- what it hands out
+abbrev pub handedBy : FrameGrid → PlanConfig → PlanEnd → Output → Handed
+handedBy g plan (along cs path) out = planAlong g plan cs path out
+handedBy g plan short-parent out = handedOf ShortParent out
+handedBy g plan without-reach out = handedOf NoReach out
+
+module _ (g : FrameGrid) (plan : PlanConfig) (s : Span) (with : List Cut → List Candidate) (count parents : ℕ) where
+  abbrev maximum : ℕ
+  maximum = maximumIn g plan
+
+  abbrev second : ℕ → List Candidate
+  second limit = completedByCount g plan s with count limit
+
+  pub data CountEnd : PlanEnd → Type 0 where
+    first-short : hasParents count (length (with [])) parents ≡ false → CountEnd short-parent
+    at-first : suffices g plan s count maximum (with []) ≡ true → CountEnd (along (with []) (pathByCount g plan s count maximum (with [])))
+    reach-none : reachOf g s count maximum ≡ Nothing → CountEnd without-reach
+    second-short : (limit : ℕ) → reachOf g s count maximum ≡ Reach limit → hasParents count (length (second limit)) parents ≡ false → CountEnd short-parent
+    with-reach : suffices g plan s count maximum (with []) ≡ false → (limit : ℕ) → reachOf g s count maximum ≡ Reach limit
+        → CountEnd (along (second limit) (pathByCount g plan s count limit (second limit)))
+
+-- one of them is reached, whatever the output
+pub record Reached (Kind : PlanEnd → Type 0) (g : FrameGrid) (plan : PlanConfig) (f : Output → Handed) : Type 0 where
+  pub end : PlanEnd
+  pub kind : Kind end
+  pub is : (out : Output) → f out ≡ handedBy g plan end out
+
+module _ (g : FrameGrid) (plan : PlanConfig) (s : Span) (with : List Cut → List Candidate) (count parents : ℕ) where
+  abbrev Ends : (Output → Handed) → Type 0
+  Ends f = Reached (CountEnd g plan s with count parents) g plan f
+
+  second-end : suffices g plan s count (maximumIn g plan) (with []) ≡ false → (t : Sought) → reachOf g s count (maximumIn g plan) ≡ t
+      → Ends (λ (out : Output). plannedAfter g plan s with count parents out t)
+  unfolding plannedUnder
+  second-end e Nothing i = record { end = without-reach; kind = reach-none i; is = λ out. refl }
+  second-end e (Reach limit) i = go (hasParents count (length cs) parents) refl
+    where
+      cs : List Candidate
+      cs = completedByCount g plan s with count limit
+
+      go : (b : Bool) → hasParents count (length cs) parents ≡ b
+          → Ends (λ (out : Output). pick (hasParents count (length cs) parents) (planAlong g plan cs (pathByCount g plan s count limit cs) out) (handedOf ShortParent out))
+      go true h = record { end = along cs (pathByCount g plan s count limit cs); kind = with-reach e limit i; is = λ out. rw h }
+      go false h = record { end = short-parent; kind = second-short limit i h; is = λ out. rw h }
+
+  pub count-end : Ends (λ (out : Output). planByCount g plan s with count parents out)
+  unfolding planByCount
+  count-end = go (hasParents count (length (with [])) parents) (suffices g plan s count (maximumIn g plan) (with [])) refl refl
+    where
+      go : (b c : Bool) → hasParents count (length (with [])) parents ≡ b → suffices g plan s count (maximumIn g plan) (with []) ≡ c
+          → Ends (λ (out : Output). planByCount g plan s with count parents out)
+      go false c h e = record { end = short-parent; kind = first-short h; is = λ out. rw h }
+      go true true h e = record { end = along (with []) (pathByCount g plan s count (maximumIn g plan) (with [])); kind = at-first e; is = λ out. rw (h, e) }
+      go true false h e =
+          let t = second-end e (reachOf g s count (maximumIn g plan)) refl in
+          record { end = t .end; kind = t .kind; is = λ out. rw (h, e) (t .is out) }
+
+-- by either way
+pub data ModeEnd (g : FrameGrid) (plan : PlanConfig) (s : Span) (with : List Cut → List Candidate) (parents : ℕ) : Mode → PlanEnd → Type 0 where
+  by-length : ModeEnd g plan s with parents ByLength (along (completedByLength g plan with) (pathByLength g plan with))
+  by-count : {count : ℕ} {end : PlanEnd} → CountEnd g plan s with count parents end → ModeEnd g plan s with parents (ByCount count) end
+
+pub mode-end : (g : FrameGrid) (plan : PlanConfig) (s : Span) (with : List Cut → List Candidate) (parents : ℕ) (m : Mode)
+    → Reached (ModeEnd g plan s with parents m) g plan (λ (out : Output). planBy g plan s with m parents out)
+unfolding planBy planByLength
+mode-end g plan s with parents ByLength = record { end = along (completedByLength g plan with) (pathByLength g plan with); kind = by-length; is = λ out. refl }
+mode-end g plan s with parents (ByCount count) =
+    let t = count-end g plan s with count parents in
+    record { end = t .end; kind = by-count (t .kind); is = t .is }
+
+-- ---- what holds of every end
+
+-- where no plan is made the output is as it was, and a plan alone has the number 0
+pub record Ending (out : Output) (h : Handed) : Type 0 where
+  pub untouched : ((k : ℕ) → h .answer ≡ Planned k → ⊥) → h .out ≡ out
+  pub numbered : Numbered (h .answer)
+
+along-ending : (n : ℕ) (pieces cuts : List ℕ) (out : Output) → Ending out (handedOutOf n pieces cuts out)
+unfolding handedOutOf
+along-ending n pieces cuts out = go (hasRoom n (length (out .pieces)) (length (out .cuts)))
+  where
+    go : (b : Bool) → Ending out (pick b (handedOf (Planned n) (outputOf (onto pieces (out .pieces)) (onto cuts (out .cuts)))) (handedOf ShortOutput out))
+    go true = record { untouched = λ never. absurd (never n refl); numbered = tt }
+    go false = record { untouched = λ never. refl; numbered = tt }
+
+pub end-ending : (g : FrameGrid) (plan : PlanConfig) (e : PlanEnd) (out : Output) → Ending out (handedBy g plan e out)
+end-ending g plan (along cs path) out = along-ending (length path - 1) (planPieces g plan cs path) (planCuts g cs path) out
+end-ending g plan short-parent out = record { untouched = λ never. refl; numbered = tt }
+end-ending g plan without-reach out = record { untouched = λ never. refl; numbered = tt }
+
+-- ---- which end it was
+
+pub record AlongSome (g : FrameGrid) (plan : PlanConfig) (e : PlanEnd) (k : ℕ) (before after : Output) : Type 0 where
+  pub candidates : List Candidate
+  pub path : List ℕ
+  pub is : e ≡ along candidates path
+  pub handed : HandedAlong g plan candidates path k before after
+
+-- a plan was made: along a path
+pub made-end : (g : FrameGrid) (plan : PlanConfig) (e : PlanEnd) (k : ℕ) (out : Output) → handedBy g plan e out .answer ≡ Planned k → AlongSome g plan e k out (handedBy g plan e out .out)
+made-end g plan (along cs path) k out q = record { candidates = cs; path = path; is = refl; handed = handed-along g plan cs path out k q }
+made-end g plan short-parent k out q = let z : _≡_ {A = ℕ} 0 1 = cc in absurd (omega arith)
+made-end g plan without-reach k out q = let z : _≡_ {A = ℕ} 0 1 = cc in absurd (omega arith)
+
+-- along a path, nothing but 12 refuses
+along-answer : (n : ℕ) (pieces cuts : List ℕ) (out : Output) → (handedOutOf n pieces cuts out .answer ≡ ShortParent → ⊥) × (handedOutOf n pieces cuts out .answer ≡ NoReach → ⊥)
+unfolding handedOutOf
+along-answer n pieces cuts out = go (hasRoom n (length (out .pieces)) (length (out .cuts)))
+  where
+    answered : Bool → Handed
+    answered b = pick b (handedOf (Planned n) (outputOf (onto pieces (out .pieces)) (onto cuts (out .cuts)))) (handedOf ShortOutput out)
+
+    go : (b : Bool) → (answered b .answer ≡ ShortParent → ⊥) × (answered b .answer ≡ NoReach → ⊥)
+    go true = (λ e. let z : _≡_ {A = ℕ} 0 1 = cc in omega arith, λ e. let z : _≡_ {A = ℕ} 0 1 = cc in omega arith)
+    go false = (λ e. let z : _≡_ {A = ℕ} 0 1 = cc in omega arith, λ e. let z : _≡_ {A = ℕ} 0 1 = cc in omega arith)
+
+-- 14
+pub parent-end : (g : FrameGrid) (plan : PlanConfig) (e : PlanEnd) (out : Output) → handedBy g plan e out .answer ≡ ShortParent → e ≡ short-parent
+parent-end g plan (along cs path) out q = absurd (along-answer (length path - 1) (planPieces g plan cs path) (planCuts g cs path) out .0 q)
+parent-end g plan short-parent out q = refl
+parent-end g plan without-reach out q = let z : _≡_ {A = ℕ} 0 1 = cc in absurd (omega arith)
+
+-- 18
+pub reach-end : (g : FrameGrid) (plan : PlanConfig) (e : PlanEnd) (out : Output) → handedBy g plan e out .answer ≡ NoReach → e ≡ without-reach
+reach-end g plan (along cs path) out q = absurd (along-answer (length path - 1) (planPieces g plan cs path) (planCuts g cs path) out .1 q)
+reach-end g plan short-parent out q = let z : _≡_ {A = ℕ} 0 1 = cc in absurd (omega arith)
+reach-end g plan without-reach out q = refl
+
+-- 12: the output has no room for so many pieces, and any that has gets them
+pub room-end : (g : FrameGrid) (plan : PlanConfig) (e : PlanEnd) (out : Output) → handedBy g plan e out .answer ≡ ShortOutput
+    → (k : ℕ) × (HasRoom k out → ⊥) × ((room : Output) → HasRoom k room → handedBy g plan e room .answer ≡ Planned k)
+room-end g plan (along cs path) out q = (length path - 1, along-short g plan cs path out q, along-made g plan cs path)
+room-end g plan short-parent out q = let z : _≡_ {A = ℕ} 0 1 = cc in absurd (omega arith)
+room-end g plan without-reach out q = let z : _≡_ {A = ℕ} 0 1 = cc in absurd (omega arith)
+
+-- too few entries
+pub few-parents : (count candidates parents : ℕ) → hasParents count candidates parents ≡ false → parents < min count (candidates - 1) * candidates
+unfolding hasParents
+few-parents count candidates parents e = leb-false (min count (candidates - 1) * candidates) parents e

@@ -1,0 +1,258 @@
+-- What is claimed of every call of the operation Plan (`Ended`) and of every plan that it makes (`Made`). Theorems proves it, with no hypothesis but the answer and,
+-- where costs come in, what the types of the lists say (`Fitting`).
+-- The output has three numbers for each piece, start, end and flags, and three for each cut, previous end, next start and reason; all ends are in samples.
+use mathlib.Core.Path.{_≡_}
+use mathlib.Core.Logic.{_⊎_, _↔_}
+use mathlib.Core.Bool.{true, false}
+use mathlib.Core.List.{List}
+use Prim.Native.Nat.{ℕ, zero, suc, _+_, _-_, _*_, _≤_, _<_, min}
+use lib.Ieee.{Float}
+use lib.ListN.{length, getD, take}
+use Rattle.base_terms.specs.Lists.{filled, onto}
+use Rattle.base_terms.specs.Work.{Work, cleared}
+use Rattle.grid.specs.Boundary.{boundaryOf}
+use Rattle.grid.specs.Validate.{gridOf}
+use Rattle.grid.specs.declared.boundary.FrameGrid.{FrameGrid}
+use Rattle.grid.specs.declared.validate.Recording.{Recording}
+use Rattle.silence_list.specs.declared.config.SegmentConfig.{SegmentConfig}
+use Rattle.path_pieces.specs.declared.mode.Mode.the-variants.{ByLength, ByCount}
+use Rattle.path_by_length.specs.Paths.{overCount}
+use Rattle.path_by_length.specs.BestPath.{BestPathByLength, BestPathByCount}
+use Rattle.candidate_settings.specs.declared.config.PlanConfig.{PlanConfig}
+use Rattle.candidate_span.specs.Gaps.{Cut}
+use Rattle.division.specs.Division.{Span}
+use Rattle.division.specs.Pieces.{pieceFrom, piecesOf, lengthOf, IsSingle}
+use Rattle.division.specs.Places.{cutAt}
+use Rattle.division.specs.Greedy.{Greedy}
+use Rattle.division.specs.Reach.{IsReach}
+use Rattle.division.specs.Demand.{DemandByCount, DemandByLength}
+use Rattle.candidates.specs.Entries.{costsOf}
+use Rattle.candidates.specs.Samples.{leftsOf, rightsOf}
+use Rattle.candidates.specs.declared.candidate.Candidate.{Candidate}
+use Rattle.plan_tests.specs.Fitting.{Fitting}
+use Rattle.plan_tests.specs.Refusal as tests
+use Rattle.plan_tests.specs.declared.refusal.Verdict.{Verdict}
+use Rattle.plan_tests.specs.declared.refusal.Verdict.the-variants.{Fine}
+use Rattle.candidate_finder.specs.CandidatesIn.{candidatesIn}
+use Rattle.candidate_finder.specs.SpanIn.{emptyIn}
+use Rattle.plan_division.specs.Along.{pieceBetween}
+use Rattle.plan_division.specs.Added.{addedByCount, addedByLength}
+use Rattle.plan_lengths.specs.PlanLengths.{minimumIn, maximumIn, lengthsByLength, lengthsByCount}
+use Rattle.plan_pieces.specs.Flags.{hasLong, hasShort, isLonger, isShorter}
+use Rattle.plan_pieces.specs.PlanAlong.{planPieces, planCuts}
+use Rattle.plan_pieces.specs.Output.{Output}
+use Rattle.plan_pieces.specs.Answer.{numberOf}
+use Rattle.plan_pieces.specs.declared.answer.Answer.the-variants.{Planned, Refused, ShortParent, NoReach, ShortOutput}
+use Rattle.planner.specs.Operation.{End, endOf, spanOfPlan, candidatesWith, planOf}
+
+-- ---- the output by its numbers
+
+-- piece i
+abbrev pub startAt : Output → ℕ → ℕ
+startAt out i = getD (out .pieces) (3 * i) 0
+
+abbrev pub endAt : Output → ℕ → ℕ
+endAt out i = getD (out .pieces) (3 * i + 1) 0
+
+abbrev pub flagsAt : Output → ℕ → ℕ
+flagsAt out i = getD (out .pieces) (3 * i + 2) 0
+
+-- document 01: "A piece's length is its end less its start"
+abbrev pub lengthAt : Output → ℕ → ℕ
+lengthAt out i = endAt out i - startAt out i
+
+-- cut i, between piece i and the next; its third number is its reason
+abbrev pub previousEnd : Output → ℕ → ℕ
+previousEnd out i = getD (out .cuts) (3 * i) 0
+
+abbrev pub nextStart : Output → ℕ → ℕ
+nextStart out i = getD (out .cuts) (3 * i + 1) 0
+
+-- f 0 + f 1 + .., n of them
+abbrev pub sumOf : (ℕ → ℕ) → ℕ → ℕ
+sumOf f zero = 0
+sumOf f (suc n) = f 0 + sumOf (λ (i : ℕ). f (suc i)) n
+
+-- the output has room for k pieces and the cuts between them
+abbrev pub HasRoom : ℕ → Output → Type 0
+HasRoom k out = (3 * k ≤ length (out .pieces)) × (3 * (k - 1) ≤ length (out .cuts))
+
+-- k pieces, and the cuts between them, stand at the front of the output, and nothing beyond them has changed
+pub record Written (k : ℕ) (before after : Output) : Type 0 where
+  pub fits : HasRoom k before
+  pub pieces : after .pieces ≡ onto (take (3 * k) (after .pieces)) (before .pieces)
+  pub cuts : after .cuts ≡ onto (take (3 * (k - 1)) (after .cuts)) (before .cuts)
+
+-- ---- pieces and cuts
+
+-- k pieces from sample `from` to sample `to`, and the cuts between them
+pub record Fills (from to k : ℕ) (out : Output) : Type 0 where
+  pub some : 0 < k
+  pub starts : startAt out 0 ≡ from
+  pub stops : endAt out (k - 1) ≡ to
+  -- in order: each start is below its end, each end at or before the next start
+  pub rises : (i : ℕ) → i < k → startAt out i < endAt out i
+  pub order : (i : ℕ) → suc i < k → endAt out i ≤ startAt out (suc i)
+  -- a cut goes from the end of one piece to the start of the next
+  pub cuts : (i : ℕ) → suc i < k → (previousEnd out i ≡ endAt out i) × (nextStart out i ≡ startAt out (suc i))
+  -- document 01: "Pieces plus what lies between them add up to the span."
+  pub adds : sumOf (lengthAt out) k + sumOf (λ (i : ℕ). nextStart out i - previousEnd out i) (k - 1) ≡ to - from
+
+-- each flag stands exactly where it should: "The over-long flag is always set against the maximum, never the reach."
+pub record Flagged (minimum : Float) (maximum k : ℕ) (out : Output) : Type 0 where
+  pub long : (i : ℕ) → i < k → hasLong (flagsAt out i) ≡ isLonger maximum (lengthAt out i)
+  pub short : (i : ℕ) → i < k → hasShort (flagsAt out i) ≡ isShorter minimum (lengthAt out i)
+  -- there are no other flags
+  pub both : (i : ℕ) → i < k → flagsAt out i ≤ 3
+
+-- the pieces and cuts are those of a division of the span, in samples
+pub record Shows (g : FrameGrid) (s : Span) (cuts : List Cut) (k : ℕ) (out : Output) : Type 0 where
+  pub number : length (piecesOf s cuts) ≡ k
+  pub piece-start : (i : ℕ) → i < k → startAt out i ≡ boundaryOf g (getD (piecesOf s cuts) i (pieceFrom 0 0) .start)
+  pub piece-end : (i : ℕ) → i < k → endAt out i ≡ boundaryOf g (getD (piecesOf s cuts) i (pieceFrom 0 0) .end)
+  pub cut-start : (i : ℕ) → suc i < k → previousEnd out i ≡ boundaryOf g (getD cuts i (cutAt 0) .left)
+  pub cut-end : (i : ℕ) → suc i < k → nextStart out i ≡ boundaryOf g (getD cuts i (cutAt 0) .right)
+
+-- they are the plan of a path over candidates
+pub record Follows (g : FrameGrid) (plan : PlanConfig) (cs : List Candidate) (path : List ℕ) (k : ℕ) (out : Output) : Type 0 where
+  pub number : length path ≡ suc k
+  pub pieces : take (3 * k) (out .pieces) ≡ planPieces g plan cs path
+  pub cuts : take (3 * (k - 1)) (out .cuts) ≡ planCuts g cs path
+
+module _ (r : Recording) (segment : SegmentConfig) (plan : PlanConfig) (values : List Float) (flags : List ℕ) (lent : List Float) where
+  -- frame grid and span; minimum and maximum in samples
+  abbrev g : FrameGrid
+  g = gridOf r (length values)
+
+  abbrev s : Span
+  s = spanOfPlan r segment plan values flags lent
+
+  abbrev minimum : Float
+  minimum = minimumIn g plan
+
+  abbrev maximum : ℕ
+  maximum = maximumIn g plan
+
+  -- document 01's candidates before completion, and with points added at the boundaries of some cuts
+  abbrev found : List Candidate
+  found = candidatesIn r segment plan values flags lent
+
+  abbrev completed : List Cut → List Candidate
+  completed added = candidatesWith r segment plan values flags lent added
+
+  -- ---- demand 2: the plan is that of document 01's best path
+
+  -- the best path by length: its limit is the maximum
+  abbrev pub BestByLength : List Candidate → List ℕ → Type 0
+  BestByLength cs path = BestPathByLength (lengthsByLength g plan) (leftsOf g cs) (rightsOf g cs) (costsOf cs) path
+
+  -- the best path of N pieces under a limit
+  abbrev pub BestByCount : ℕ → ℕ → List Candidate → List ℕ → Type 0
+  BestByCount count limit cs path =
+      BestPathByCount (lengthsByCount g plan (s .first) (s .last) count limit) (leftsOf g cs) (rightsOf g cs) (costsOf cs) count path
+
+  -- by length: over the candidates with points added until neighbours are within the maximum or one frame apart
+  abbrev bridged : List Candidate
+  bridged = completed (addedByLength g maximum found)
+
+  pub record PlanByLength (k : ℕ) (out : Output) : Type 0 where
+    pub neighbours : (i : ℕ) → suc i < length bridged → (lengthOf g (pieceBetween bridged i (suc i)) ≤ maximum) ⊎ IsSingle (pieceBetween bridged i (suc i))
+    pub path : List ℕ
+    pub best : BestByLength bridged path
+    pub follows : Follows g plan bridged path k out
+
+  -- a path has N pieces, and none over the maximum
+  abbrev pub Suffices : ℕ → List Candidate → List ℕ → Type 0
+  Suffices count cs path = (length path ≡ suc count) × (overCount maximum (leftsOf g cs) (rightsOf g cs) path ≡ 0)
+
+  -- by count, where the first path suffices: its limit is the maximum
+  pub record PlanAtFirst (count k : ℕ) (out : Output) : Type 0 where
+    pub path : List ℕ
+    pub best : BestByCount count maximum found path
+    pub suffices : Suffices count found path
+    pub follows : Follows g plan found path k out
+
+  -- by count, where it does not: the limit is the reach, and the cuts of the division that goes as far as it can and of equal shares are added
+  pub record PlanWithReach (count k : ℕ) (out : Output) : Type 0 where
+    pub first-path : List ℕ
+    pub first-best : BestByCount count maximum found first-path
+    pub falls-short : Suffices count found first-path → ⊥
+    pub limit : ℕ
+    pub reach : IsReach g s count maximum limit
+    pub far : List Cut
+    pub greedy : Greedy g s limit far
+    pub path : List ℕ
+    pub best : BestByCount count limit (completed (addedByCount s count far)) path
+    pub follows : Follows g plan (completed (addedByCount s count far)) path k out
+
+  -- ---- every plan
+
+  -- of a span that is not empty
+  pub record MadeOfSpan (k : ℕ) (out : Output) : Type 0 where
+    -- demand 2
+    pub best-by-length : plan .mode ≡ ByLength → PlanByLength k out
+    pub best-by-count : (count : ℕ) → plan .mode ≡ ByCount count → PlanAtFirst count k out ⊎ PlanWithReach count k out
+    -- demand 3, of the division whose pieces and cuts are handed out. By length every piece over the maximum is a single frame;
+    -- by count they are exactly N, or one for each kept frame if those are fewer, and if one exceeds the maximum, no division into at most that many has a shorter longest piece
+    pub demand-by-length : plan .mode ≡ ByLength → (cuts : List Cut) × Shows g s cuts k out × DemandByLength g s maximum cuts
+    pub demand-by-count : (count : ℕ) → plan .mode ≡ ByCount count → (cuts : List Cut) × Shows g s cuts k out × DemandByCount g s count maximum cuts
+    -- pieces, cuts and flags
+    pub fills : Fills (boundaryOf g (s .first)) (boundaryOf g (s .last)) k out
+    pub flagged : Flagged minimum maximum k out
+
+  -- a plan of k pieces was made: `before` is what the output held, `after` what it holds
+  pub record Made (k : ℕ) (before after : Output) : Type 0 where
+    pub written : Written k before after
+    -- document 01: "the span is empty, and so is the plan"
+    pub empty : emptyIn r segment plan values flags ≡ true → (k ≡ 0) × (after ≡ before)
+    pub full : emptyIn r segment plan values flags ≡ false → Fitting values lent → MadeOfSpan k after
+
+  -- ---- the later refusals
+
+  -- the candidates over which a path by count is sought: the first ones, or the completed ones under the reach
+  pub data SoughtOver (count : ℕ) : List Candidate → Type 0 where
+    at-first : SoughtOver count found
+    with-reach : (limit : ℕ) (far : List Cut) → IsReach g s count maximum limit → Greedy g s limit far → SoughtOver count (completed (addedByCount s count far))
+
+  -- 14: "parent list under pieces × candidates of the path being sought by count"
+  pub record FewParents (parents : ℕ) : Type 0 where
+    pub count : ℕ
+    pub asked : plan .mode ≡ ByCount count
+    pub candidates : List Candidate
+    pub sought : SoughtOver count candidates
+    pub few : parents < min count (length candidates - 1) * length candidates
+
+  -- 18: "no reach exists"
+  pub record ReachMissing : Type 0 where
+    pub count : ℕ
+    pub asked : plan .mode ≡ ByCount count
+    pub none : (limit : ℕ) → IsReach g s count maximum limit → ⊥
+
+  -- ---- every end
+
+  module _ (out : Output) (work : Work) (parent : List ℕ) where
+    abbrev end : End
+    end = planOf r segment plan values flags lent out work parent
+
+    -- the first test before 14 that fails
+    abbrev verdict : Verdict
+    verdict = tests.firstRefusalOf r segment plan values flags lent (length (work .u32s)) (length (work .u64s)) (length (work .f64s))
+
+    pub record Ended : Type 0 where
+      -- "Refusals before 14 .. leave work memory untouched"
+      pub refused : tests.isFine verdict ≡ false → end ≡ endOf (Refused verdict) out work parent
+      -- "All later ends, success too, leave it zeroed"
+      pub zeroed : verdict ≡ Fine → (end .work ≡ cleared work) × (end .parent ≡ filled 0 parent)
+      -- where no plan is made the output is as it was
+      pub untouched : ((k : ℕ) → end .answer ≡ Planned k → ⊥) → end .out ≡ out
+      -- an empty span that passes the tests has the empty plan: no 14, 18 or 12
+      pub empty : verdict ≡ Fine → emptyIn r segment plan values flags ≡ true → (end .answer ≡ Planned 0) × (end .out ≡ out)
+      -- 14, 18 and 12, each under its condition only; at 12 the call makes its plan with any output that has room for it
+      pub short-parent : end .answer ≡ ShortParent → FewParents (length parent)
+      pub no-reach : end .answer ≡ NoReach → ReachMissing
+      pub short-output : end .answer ≡ ShortOutput
+          → (k : ℕ) × (HasRoom k out → ⊥) × ((room : Output) → HasRoom k room → planOf r segment plan values flags lent room work parent .answer ≡ Planned k)
+      -- a plan is made only where the tests pass
+      pub accepted : (k : ℕ) → end .answer ≡ Planned k → verdict ≡ Fine
+      -- the number is 0 where a plan is made, and nowhere else
+      pub number : (numberOf (end .answer) ≡ 0) ↔ ((k : ℕ) × (end .answer ≡ Planned k))

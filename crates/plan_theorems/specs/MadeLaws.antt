@@ -1,0 +1,375 @@
+-- A plan of a span that is not empty, by length and by count: its path is the best one over a plan's candidates, so demands 2 and 3 hold of it.
+-- The first candidates are document 01's (`candidatesIn`); the tests before 14 and the types of the lists give what the theorems of the crates below ask.
+use mathlib.Core.Path.{_≡_, sym, ap, subst, _∙_}
+use mathlib.Core.Logic.{_⊎_, inl, inr}
+use mathlib.Core.Bool.{true, false}
+use mathlib.Core.List.{List, [], _++_, append-nil, List·Memᴰ}
+use Prim.Native.Nat.{ℕ, suc, _≤_, _<_}
+use borrow.Author.Tests.{eqb-true, eq-eqb}
+use lib.Dec.{eqb}
+use lib.Ieee.{Float}
+use lib.ListN.{length}
+use Rattle.base_laws.specs.Tests.{both, unmet}
+use Rattle.grid.specs.Boundary.{boundaryOf}
+use Rattle.grid.specs.Validate.{gridOf}
+use Rattle.grid.specs.declared.boundary.FrameGrid.{FrameGrid}
+use Rattle.grid.specs.declared.validate.Recording.{Recording}
+use Rattle.silence_list.specs.Silences.{silencesIn}
+use Rattle.silence_list.specs.declared.config.SegmentConfig.{SegmentConfig}
+use Rattle.path_pieces.specs.Domain.{Preferred}
+use Rattle.path_pieces.specs.declared.lengths.Lengths.{Lengths}
+use Rattle.path_pieces.specs.declared.mode.Mode.the-variants.{ByCount}
+use Rattle.path_by_length.specs.Paths.{overCount}
+use Rattle.path_by_length.specs.PathsLaws.{over-count}
+use Rattle.path_by_length.specs.Theorems.{best-path-all}
+use Rattle.path_by_length.specs.CountTheorems.{count-score, count-all}
+use Rattle.candidate_settings.specs.declared.config.PlanConfig.{PlanConfig}
+use Rattle.candidate_span.specs.Gaps.{Cut, Spread}
+use Rattle.candidate_span.specs.GapsLaws.{spread-ends}
+use Rattle.division.specs.Division.{Span, Place, Division, piecesAsked}
+use Rattle.division.specs.SpanLaws.{span-spread, span-within}
+use Rattle.division.specs.Greedy.{Greedy}
+use Rattle.division.specs.Reach.{IsReach}
+use Rattle.division.specs.Demand.{DemandByCount, DemandByLength}
+use Rattle.candidates.specs.Entries.{costsOf}
+use Rattle.candidates.specs.Candidates.{candidatesOf}
+use Rattle.candidates.specs.Samples.{leftsOf, rightsOf}
+use Rattle.candidates.specs.Sources as sources
+use Rattle.candidates.specs.declared.candidate.Candidate.{Candidate}
+use Rattle.candidates.specs.declared.context.Context.{Context}
+use Rattle.plan_tests.specs.Fitting.{Fitting}
+use Rattle.plan_tests.specs.PlanReady.{PlanReady}
+use Rattle.candidate_finder.specs.CandidatesIn.{runsIn, levelsIn, contextOf, candidatesIn}
+use Rattle.candidate_finder.specs.SpanIn.{emptyIn, firstIn, lastIn, gridPointsIn}
+use Rattle.candidate_finder.specs.Theorems as finder
+use Rattle.completion.specs.Cuts.{cutsOf, pointsIn}
+use Rattle.completion.specs.Reach.{reachOf}
+use Rattle.completion.specs.ReachLaws.{is-reach, no-reach}
+use Rattle.completion.specs.declared.reach.Sought.the-variants.{Reach}
+use Rattle.plan_division.specs.Along.{cutsAlong, Rising}
+use Rattle.plan_division.specs.Across.{Across}
+use Rattle.plan_division.specs.AcrossLaws.{planned-across}
+use Rattle.plan_division.specs.Added.{addedByCount, addedByLength}
+use Rattle.plan_division.specs.AddedLaws.{planned-completed}
+use Rattle.plan_division.specs.Completed.{CompletedByLength}
+use Rattle.plan_division.specs.CompletedLaws.{places-by-count, places-by-length, completed-by-length}
+use Rattle.plan_division.specs.CountLaws.{count-rises, length-rises}
+use Rattle.plan_division.specs.LengthLaws.{neighbours-short}
+use Rattle.plan_division.specs.HeldLaws.{far-greedy}
+use Rattle.plan_division.specs.Best.{bestOver, bestOverByCount, oversOf}
+use Rattle.plan_division.specs.Ready.{Ready, SearchableOver}
+use Rattle.plan_division.specs.PlanTheorems.{plan-searchable, first-plan, second-plan, length-plan}
+use Rattle.plan_lengths.specs.PlanLengths.{minimumIn, maximumIn, lengthsWith, lengthsByLength, lengthsByCount}
+use Rattle.plan_lengths.specs.PlanLengthsLaws.{by-length-preferred, by-count-preferred}
+use Rattle.plan_pieces.specs.Output.{Output}
+use Rattle.planner.specs.Plan.{completedByLength, pathByLength, suffices, completedByCount}
+use Rattle.planner.specs.Operation.{spanOfPlan, candidatesWith}
+use Rattle.plan_theorems.specs.Made.{Fills, Flagged, Shows, Suffices, PlanByLength, PlanAtFirst, PlanWithReach, SoughtOver, FewParents, ReachMissing}
+use Rattle.plan_theorems.specs.Made as made
+use Rattle.plan_theorems.specs.ShowsLaws.{shows-fills}
+use Rattle.plan_theorems.specs.FollowsLaws.{along-follows, along-shows, along-flagged}
+use Rattle.plan_theorems.specs.EndsLaws.{HandedAlong, along, short-parent, without-reach, CountEnd, first-short, at-first, reach-none, second-short, with-reach, few-parents}
+
+module _ (r : Recording) (segment : SegmentConfig) (plan : PlanConfig) (values : List Float) (flags : List ℕ) (lent : List Float) (n32 n64 nf : ℕ)
+    (p : PlanReady r segment plan values flags lent n32 n64 nf) (full : emptyIn r segment plan values flags ≡ false)
+  where
+    abbrev g : FrameGrid
+    g = gridOf r (length values)
+
+    abbrev s : Span
+    s = spanOfPlan r segment plan values flags lent
+
+    abbrev maximum : ℕ
+    maximum = maximumIn g plan
+
+    abbrev x : Context
+    x = contextOf r segment plan (length values)
+
+    abbrev ss : List ℕ
+    ss = silencesIn r segment values flags
+
+    abbrev runs : List ℕ
+    runs = runsIn r segment values flags
+
+    abbrev levels : List Float
+    levels = levelsIn r segment values flags lent
+
+    abbrev ks : List ℕ
+    ks = gridPointsIn r segment plan values flags lent
+
+    abbrev first : ℕ
+    first = firstIn r segment plan values flags
+
+    abbrev last : ℕ
+    last = lastIn r segment plan values flags
+
+    abbrev ds : List Candidate
+    ds = candidatesIn r segment plan values flags lent
+
+    abbrev with : List Cut → List Candidate
+    with added = candidatesWith r segment plan values flags lent added
+
+    -- ---- the span, and the first candidates
+
+    planned : sources.Planned x ss levels ks first last
+    planned = finder.planned r segment plan values flags lent n32 n64 nf p full
+
+    spread : Spread (s .first) (s .gaps) (s .last)
+    spread = span-spread (x .gap) (x .frames) (x .pre) (x .tail) ss (planned .prepared .spanned)
+
+    within : s .last ≤ length values
+    within = span-within (x .gap) (x .frames) (x .pre) (x .tail) ss (planned .prepared .spanned)
+
+    are : ds ≡ candidatesOf x ss runs levels ks first last
+    are = finder.found-are r segment plan values flags lent n32 n64 nf p full
+
+    -- no cut added, they are those of the operation
+    none-added : with [] ≡ ds
+    unfolding pointsIn
+    none-added = ap (λ (js : List ℕ). candidatesOf x ss runs levels js first last) (append-nil ks) ∙ sym are
+
+    first-across : Across s ds
+    first-across = subst (Across s) (sym are) (planned-across x ss runs levels ks first last planned)
+
+    -- ---- the later refusals
+
+    -- the candidates over which a path by count is sought
+    sought-first : (count : ℕ) → SoughtOver r segment plan values flags lent count (with [])
+    sought-first count = rw none-added made.at-first
+
+    sought-second : (count limit : ℕ) → reachOf g s count maximum ≡ Reach limit → SoughtOver r segment plan values flags lent count (completedByCount g plan s with count limit)
+    sought-second count limit e =
+        let reach = is-reach g (p .accepted) s spread count maximum limit e in
+        made.with-reach limit (cutsOf g s limit (piecesAsked s count)) reach (far-greedy g (p .accepted) s spread count maximum limit reach)
+
+    module _ (count parents : ℕ) (asked : plan .mode ≡ ByCount count) where
+      -- 14
+      pub few-made : CountEnd g plan s with count parents short-parent → FewParents r segment plan values flags lent parents
+      few-made (first-short e) =
+          record { count = count; asked = asked; candidates = with []; sought = sought-first count; few = few-parents count (length (with [])) parents e }
+      few-made (second-short limit i e) =
+          let cs = completedByCount g plan s with count limit in
+          record { count = count; asked = asked; candidates = cs; sought = sought-second count limit i; few = few-parents count (length cs) parents e }
+
+      -- 18
+      pub missing-made : CountEnd g plan s with count parents without-reach → ReachMissing r segment plan values flags lent
+      missing-made (reach-none e) = record { count = count; asked = asked; none = no-reach g (p .accepted) s spread count maximum e }
+
+    -- ---- every plan, where the lists hold what their types say
+
+    module _ (f : Fitting values lent) where
+      ready : (l : Lengths) → Preferred l → Ready x g runs levels l
+      ready l q = record {
+        sampled = finder.sampled r segment plan values flags lent n32 n64 nf p full;
+        costed = finder.costed r segment plan values flags lent n32 n64 nf p full f;
+        preferred = q;
+      }
+
+      first-searchable : (l : Lengths) → Preferred l → SearchableOver g l ds
+      first-searchable l q = subst (SearchableOver g l) (sym are) (plan-searchable x ss runs levels ks first last g l planned (ready l q))
+
+      -- ---- with points added at places
+
+      module _ (added : List Cut) (places : (k : Cut) → List·Memᴰ k added → Place s k) where
+        added-planned : sources.Planned x ss levels (ks ++ pointsIn added) first last
+        added-planned = planned-completed x ss runs levels ks added first last planned places
+
+        added-across : Across s (with added)
+        added-across = planned-across x ss runs levels (ks ++ pointsIn added) first last added-planned
+
+        added-searchable : (l : Lengths) → Preferred l → SearchableOver g l (with added)
+        added-searchable l q = plan-searchable x ss runs levels (ks ++ pointsIn added) first last g l added-planned (ready l q)
+
+      -- ---- what both ways leave
+
+      pub record Laid (k : ℕ) (after : Output) : Type 0 where
+        pub fills : Fills (boundaryOf g (s .first)) (boundaryOf g (s .last)) k after
+        pub flagged : Flagged (minimumIn g plan) maximum k after
+
+      laid : (cs : List Candidate) (path : List ℕ) (k : ℕ) (before after : Output) → Across s cs → Rising cs path → Division s (cutsAlong cs path)
+          → HandedAlong g plan cs path k before after → Laid k after
+      laid cs path k before after across rising d h = record {
+        fills = shows-fills g (p .accepted) s within (cutsAlong cs path) d k after (along-shows g plan s cs path k before after across rising h);
+        flagged = along-flagged g plan s cs path k before after across rising h;
+      }
+
+      -- ---- by length
+
+      abbrev byLength : Lengths
+      byLength = lengthsByLength g plan
+
+      -- the cuts that completion adds, and the candidates with them
+      abbrev bridges : List Cut
+      bridges = addedByLength g maximum ds
+
+      bridge-places : (k : Cut) → List·Memᴰ k bridges → Place s k
+      bridge-places =
+          subst (λ (cs : List Candidate). (k : Cut) → List·Memᴰ k (addedByLength g maximum cs) → Place s k) (sym are)
+          (places-by-length x ss runs levels ks first last planned g maximum)
+
+      length-searchable : SearchableOver g byLength (with bridges)
+      length-searchable = added-searchable bridges bridge-places byLength (by-length-preferred p)
+
+      length-completed : CompletedByLength g s maximum ds (with bridges)
+      length-completed =
+          subst (λ (cs : List Candidate). CompletedByLength g s maximum cs (with (addedByLength g maximum cs))) (sym are)
+          (completed-by-length x ss runs levels ks first last planned g maximum)
+
+      length-met : DemandByLength g s maximum (cutsAlong (with bridges) (bestOver g byLength (with bridges)))
+      unfolding lengthsWith
+      length-met =
+          subst (λ (cs : List Candidate). DemandByLength g s maximum (cutsAlong (with (addedByLength g maximum cs)) (bestOver g byLength (with (addedByLength g maximum cs))))) (sym are)
+          (length-plan x ss runs levels ks first last planned g byLength (ready byLength (by-length-preferred p)))
+
+      length-rising : Rising (with bridges) (bestOver g byLength (with bridges))
+      length-rising = length-rises g (with bridges) (byLength .limit) (bestOver g byLength (with bridges)) (best-path-all length-searchable .allowed)
+
+      pub record MadeByLength (k : ℕ) (after : Output) : Type 0 where
+        pub best : PlanByLength r segment plan values flags lent k after
+        pub demand : (cuts : List Cut) × Shows g s cuts k after × DemandByLength g s maximum cuts
+        pub laid : Laid k after
+
+      pub made-by-length : (k : ℕ) (before after : Output) → HandedAlong g plan (completedByLength g plan with) (pathByLength g plan with) k before after → MadeByLength k after
+      made-by-length k before after e =
+          let path = bestOver g byLength (with bridges) in
+          let h = subst (λ (cs : List Candidate). HandedAlong g plan (with (addedByLength g maximum cs)) (bestOver g byLength (with (addedByLength g maximum cs))) k before after) none-added e in
+          let across = added-across bridges bridge-places in
+          record {
+            best = record {
+              neighbours = neighbours-short g (p .accepted) s spread maximum ds (with bridges) length-completed;
+              path = path;
+              best = best-path-all length-searchable;
+              follows = along-follows g plan s (with bridges) path k before after across length-rising h;
+            };
+            demand = (cutsAlong (with bridges) path, along-shows g plan s (with bridges) path k before after across length-rising h, length-met);
+            laid = laid (with bridges) path k before after across length-rising (length-met .divides) h;
+          }
+
+      -- ---- by count
+
+      module _ (count : ℕ) (asked : plan .mode ≡ ByCount count) where
+        some : 0 < count
+        some = p .counted count asked .0
+
+        abbrev under : ℕ → Lengths
+        under limit = lengthsByCount g plan (s .first) (s .last) count limit
+
+        count-preferred : (limit : ℕ) → Preferred (under limit)
+        count-preferred limit =
+            by-count-preferred p (s .first) (s .last) count limit (spread-ends (s .first) (s .gaps) (s .last) spread) within some (p .counted count asked .1)
+
+        -- the first path
+        abbrev firstPath : List ℕ
+        firstPath = bestOverByCount g (under maximum) ds count
+
+        first-searchable-under : SearchableOver g (under maximum) ds
+        first-searchable-under = first-searchable (under maximum) (count-preferred maximum)
+
+        first-overs : oversOf g (under maximum) ds count ≡ overCount maximum (leftsOf g ds) (rightsOf g ds) firstPath
+        unfolding lengthsWith
+        first-overs =
+            sym (ap (λ t. t .over) (count-score first-searchable-under count some)) ∙ over-count (under maximum) (leftsOf g ds) (rightsOf g ds) (costsOf ds) firstPath
+
+        first-suffices : suffices g plan s count maximum ds ≡ true → Suffices r segment plan values flags lent count ds firstPath
+        unfolding suffices
+        first-suffices e =
+            let q = both (eqb (length firstPath) (suc count)) (eqb (oversOf g (under maximum) ds count) 0) e in
+            (eqb-true (length firstPath) (suc count) (q .0), sym first-overs ∙ eqb-true (oversOf g (under maximum) ds count) 0 (q .1))
+
+        first-falls : suffices g plan s count maximum ds ≡ false → Suffices r segment plan values flags lent count ds firstPath → ⊥
+        unfolding suffices
+        first-falls e (n, none) =
+            unmet (sym e ∙ rw (eq-eqb (length firstPath) (suc count) n, eq-eqb (oversOf g (under maximum) ds count) 0 (first-overs ∙ none)))
+
+        first-met : Suffices r segment plan values flags lent count ds firstPath → DemandByCount g s count maximum (cutsAlong ds firstPath)
+        unfolding lengthsWith
+        first-met (n, none) =
+            subst (λ (cs : List Candidate). length (bestOverByCount g (under maximum) cs count) ≡ suc count → oversOf g (under maximum) cs count ≡ 0
+            → DemandByCount g s count maximum (cutsAlong cs (bestOverByCount g (under maximum) cs count))) (sym are)
+            (first-plan x ss runs levels ks first last planned g (under maximum) (ready (under maximum) (count-preferred maximum)) count some) n (first-overs ∙ none)
+
+        -- ---- with the reach
+
+        module _ (limit : ℕ) (reach : IsReach g s count maximum limit) where
+          -- the cuts of the division that goes as far as it can, and the candidates with what is added
+          abbrev far : List Cut
+          far = cutsOf g s limit (piecesAsked s count)
+
+          abbrev shares : List Cut
+          shares = addedByCount s count far
+
+          greedy : Greedy g s limit far
+          greedy = far-greedy g (p .accepted) s spread count maximum limit reach
+
+          share-places : (k : Cut) → List·Memᴰ k shares → Place s k
+          share-places = places-by-count x ss runs levels ks first last planned g (p .accepted) count some maximum limit far reach greedy
+
+          count-searchable : SearchableOver g (under limit) (with shares)
+          count-searchable = added-searchable shares share-places (under limit) (count-preferred limit)
+
+          abbrev secondPath : List ℕ
+          secondPath = bestOverByCount g (under limit) (with shares) count
+
+          second-met : DemandByCount g s count maximum (cutsAlong (with shares) secondPath)
+          unfolding lengthsWith
+          second-met =
+              second-plan x ss runs levels ks first last planned g (under limit) (ready (under limit) (count-preferred limit)) count some maximum far reach greedy
+
+        -- ---- the plan
+
+        pub record MadeByCount (k : ℕ) (after : Output) : Type 0 where
+          pub best : PlanAtFirst r segment plan values flags lent count k after ⊎ PlanWithReach r segment plan values flags lent count k after
+          pub demand : (cuts : List Cut) × Shows g s cuts k after × DemandByCount g s count maximum cuts
+          pub laid : Laid k after
+
+        -- along the first path
+        made-first : (k : ℕ) (before after : Output) → suffices g plan s count maximum ds ≡ true → HandedAlong g plan ds firstPath k before after → MadeByCount k after
+        made-first k before after e h =
+            let best = count-all first-searchable-under count some in
+            let rising = count-rises g ds count (under maximum .limit) firstPath (best .allowed) in
+            let met = first-met (first-suffices e) in
+            record {
+              best = inl (record {
+                path = firstPath;
+                best = best;
+                suffices = first-suffices e;
+                follows = along-follows g plan s ds firstPath k before after first-across rising h;
+              });
+              demand = (cutsAlong ds firstPath, along-shows g plan s ds firstPath k before after first-across rising h, met);
+              laid = laid ds firstPath k before after first-across rising (met .divides) h;
+            }
+
+        -- along the second, under the reach
+        made-second : (k : ℕ) (before after : Output) → suffices g plan s count maximum ds ≡ false → (limit : ℕ) (reach : IsReach g s count maximum limit)
+            → HandedAlong g plan (with (shares limit reach)) (secondPath limit reach) k before after → MadeByCount k after
+        made-second k before after e limit reach h =
+            let cs = with (shares limit reach) in
+            let path = secondPath limit reach in
+            let best = count-all (count-searchable limit reach) count some in
+            let across = added-across (shares limit reach) (share-places limit reach) in
+            let rising = count-rises g cs count (under limit .limit) path (best .allowed) in
+            let met = second-met limit reach in
+            record {
+              best = inr (record {
+                first-path = firstPath;
+                first-best = count-all first-searchable-under count some;
+                falls-short = first-falls e;
+                limit = limit;
+                reach = reach;
+                far = far limit reach;
+                greedy = greedy limit reach;
+                path = path;
+                best = best;
+                follows = along-follows g plan s cs path k before after across rising h;
+              });
+              demand = (cutsAlong cs path, along-shows g plan s cs path k before after across rising h, met);
+              laid = laid cs path k before after across rising (met .divides) h;
+            }
+
+        pub made-by-count : (parents : ℕ) (cs : List Candidate) (path : List ℕ) (k : ℕ) (before after : Output) → CountEnd g plan s with count parents (along cs path)
+            → HandedAlong g plan cs path k before after → MadeByCount k after
+        made-by-count parents cs path k before after (at-first e) h =
+            made-first k before after (sym (ap (suffices g plan s count maximum) none-added) ∙ e)
+            (subst (λ (cs : List Candidate). HandedAlong g plan cs (bestOverByCount g (under maximum) cs count) k before after) none-added h)
+        made-by-count parents cs path k before after (with-reach e limit i) h =
+            made-second k before after (sym (ap (suffices g plan s count maximum) none-added) ∙ e) limit (is-reach g (p .accepted) s spread count maximum limit i) h

@@ -1,0 +1,321 @@
+-- The theorems of the operation Plan, in the words of Made.
+--   plan-made    of every answer `Planned`, with no hypothesis but the answer and, where costs come in, what the types of the lists say (`Fitting`):
+--                demand 2, demand 3 by count and by length, pieces plus what lies between them, flags, the empty span
+--   plan-ended   of every call: what is untouched, what is zeroed, that an empty span has the empty plan, that 14, 18 and 12 come under their conditions only,
+--                and that the number is 0 exactly where a plan was made
+-- Of the reach and the greedy division which they name, division has
+--   reach-one (division/specs/ReachLaws)       two limits that are the reach are one
+--   greedy-ahead (division/specs/GreedyLaws)   cut by cut the greedy division is nowhere behind any division that keeps its limit; by greedy-one there is only one
+use mathlib.Core.Path.{_≡_, refl, sym, ap, subst, _∙_}
+use mathlib.Core.Bool.{Bool, true, false}
+use mathlib.Core.List.{List}
+use Prim.Native.Nat.{ℕ}
+use native.Mathlib.Omega.{arith}
+use lib.Ieee.{Float}
+use lib.ListN.{length}
+use Rattle.base_code.specs.FrontLaws.{onto-nil}
+use Rattle.base_laws.specs.Tests.{unmet}
+use Rattle.base_terms.specs.Lists.{filled}
+use Rattle.base_terms.specs.Work.{Work, cleared}
+use Rattle.grid.specs.Validate.{gridOf}
+use Rattle.grid.specs.declared.boundary.FrameGrid.{FrameGrid}
+use Rattle.grid.specs.declared.validate.Recording.{Recording}
+use Rattle.silence_list.specs.declared.config.SegmentConfig.{SegmentConfig}
+use Rattle.path_pieces.specs.declared.mode.Mode.{Mode}
+use Rattle.path_pieces.specs.declared.mode.Mode.the-variants.{ByLength, ByCount}
+use Rattle.candidate_settings.specs.declared.config.PlanConfig.{PlanConfig}
+use Rattle.candidate_span.specs.Gaps.{Cut}
+use Rattle.division.specs.Division.{Span}
+use Rattle.candidates.specs.declared.candidate.Candidate.{Candidate}
+use Rattle.plan_tests.specs.Fitting.{Fitting}
+use Rattle.plan_tests.specs.PlanReady.{PlanReady, passed-ready}
+use Rattle.plan_tests.specs.Refusal as tests
+use Rattle.plan_tests.specs.RefusalLaws.{fine-is, passed}
+use Rattle.plan_tests.specs.declared.refusal.Verdict.{Verdict}
+use Rattle.plan_tests.specs.declared.refusal.Verdict.the-variants.{Fine}
+use Rattle.candidate_finder.specs.SpanIn.{emptyIn}
+use Rattle.plan_pieces.specs.Answer.{numberOf}
+use Rattle.plan_pieces.specs.AnswerLaws.{Numbered, refused-numbered, number-zero}
+use Rattle.plan_pieces.specs.Output.{Output, Handed, handedOf, pick}
+use Rattle.plan_pieces.specs.declared.answer.Answer.{Answer}
+use Rattle.plan_pieces.specs.declared.answer.Answer.the-variants.{Planned, Refused, ShortParent, NoReach, ShortOutput}
+use Rattle.planner.specs.Plan.{planBy}
+use Rattle.planner.specs.Operation.{End, endOf, endAfter, spanOfPlan, candidatesWith, plannedOf, planOf}
+use Rattle.plan_theorems.specs.Made.{HasRoom, Written, MadeOfSpan, Made, FewParents, ReachMissing, Ended}
+use Rattle.plan_theorems.specs.EndsLaws.{HandedAlong, along, short-parent, without-reach, handedBy, Reached, ModeEnd, by-length, by-count, mode-end, Ending, end-ending, AlongSome, made-end, parent-end, reach-end, room-end}
+use Rattle.plan_theorems.specs.FollowsLaws.{along-written}
+use Rattle.plan_theorems.specs.MadeLaws.{few-made, missing-made, Laid, MadeByLength, made-by-length, MadeByCount, made-by-count}
+
+-- nothing is written for no piece
+none-written : (out : Output) → Written 0 out out
+none-written out = record { fits = (omega arith, omega arith); pieces = sym (onto-nil (out .pieces)); cuts = sym (onto-nil (out .cuts)) }
+
+-- 14, 18 and 12
+abbrev isLater : Answer → Bool
+isLater (Planned k) = false
+isLater (Refused v) = false
+isLater ShortParent = true
+isLater NoReach = true
+isLater ShortOutput = true
+
+module _ (r : Recording) (segment : SegmentConfig) (plan : PlanConfig) (values : List Float) (flags : List ℕ) (lent : List Float) (work : Work) (parent : List ℕ) where
+  -- the first test that fails
+  abbrev verdict : Verdict
+  verdict = tests.firstRefusalOf r segment plan values flags lent (length (work .u32s)) (length (work .u64s)) (length (work .f64s))
+
+  -- the span is empty
+  abbrev isEmpty : Bool
+  isEmpty = emptyIn r segment plan values flags
+
+  abbrev g : FrameGrid
+  g = gridOf r (length values)
+
+  abbrev s : Span
+  s = spanOfPlan r segment plan values flags lent
+
+  abbrev with : List Cut → List Candidate
+  with added = candidatesWith r segment plan values flags lent added
+
+  -- what the operation leaves, for each output
+  abbrev call : Output → End
+  call o = planOf r segment plan values flags lent o work parent
+
+  abbrev planned : Output → Handed
+  planned o = plannedOf r segment plan values flags lent (length parent) o
+
+  abbrev callBy : Bool → Output → End
+  callBy b o = endAfter b (endOf (planned o .answer) (planned o .out) (cleared work) (filled 0 parent)) (endOf (Refused verdict) o work parent)
+
+  is-call : (b : Bool) → tests.isFine verdict ≡ b → (o : Output) → call o ≡ callBy b o
+  unfolding planOf
+  is-call b e o = rw e
+
+  fine-call : verdict ≡ Fine → (o : Output) → call o ≡ callBy true o
+  fine-call e o = is-call true (ap tests.isFine e) o
+
+  -- in a span that is not empty, the end that is reached
+  abbrev sought : Output → Handed
+  sought o = planBy g plan s with (plan .mode) (length parent) o
+
+  reached : Reached (ModeEnd g plan s with (length parent) (plan .mode)) g plan sought
+  reached = mode-end g plan s with (length parent) (plan .mode)
+
+  abbrev handed : Output → Handed
+  handed o = handedBy g plan (reached .end) o
+
+  abbrev plannedBy : Bool → Output → Handed
+  plannedBy b o = pick b (handedOf (Planned 0) o) (handed o)
+
+  is-planned : (b : Bool) → isEmpty ≡ b → (o : Output) → planned o ≡ plannedBy b o
+  unfolding plannedOf
+  is-planned b e o = rw (e, reached .is o)
+
+  -- ---- every end
+
+  planned-ending : (b : Bool) (o : Output) → Ending o (plannedBy b o)
+  planned-ending true o = record { untouched = λ never. refl; numbered = tt }
+  planned-ending false o = end-ending g plan (reached .end) o
+
+  ending : (o : Output) → Ending o (planned o)
+  ending o = subst (Ending o) (sym (is-planned isEmpty refl o)) (planned-ending isEmpty o)
+
+  numbered : (b : Bool) → tests.isFine verdict ≡ b → (o : Output) → Numbered (callBy b o .answer)
+  numbered true e o = ending o .numbered
+  numbered false e o = refused-numbered r segment plan values flags lent (length (work .u32s)) (length (work .u64s)) (length (work .f64s)) e
+
+  left-alone : (b : Bool) (o : Output) → ((k : ℕ) → callBy b o .answer ≡ Planned k → ⊥) → callBy b o .out ≡ o
+  left-alone true o never = ending o .untouched never
+  left-alone false o never = refl
+
+  -- a plan is made, or refused later, where the tests pass
+  made-passed : (b : Bool) (o : Output) (k : ℕ) → callBy b o .answer ≡ Planned k → b ≡ true
+  made-passed true o k e = refl
+  made-passed false o k e = let z : _≡_ {A = ℕ} 0 1 = cc in absurd (omega arith)
+
+  later-passed : (b : Bool) (o : Output) → isLater (callBy b o .answer) ≡ true → b ≡ true
+  later-passed true o e = refl
+  later-passed false o e = unmet e
+
+  -- and refused later where the span is not empty
+  later-full : (b : Bool) (o : Output) → isLater (plannedBy b o .answer) ≡ true → b ≡ false
+  later-full true o e = unmet e
+  later-full false o e = refl
+
+  -- a later refusal: that of the end which is reached
+  record Later (o : Output) : Type 0 where
+    fine : verdict ≡ Fine
+    full : isEmpty ≡ false
+    is : (room : Output) → call room .answer ≡ handed room .answer
+
+  later : (o : Output) → isLater (call o .answer) ≡ true → Later o
+  later o e = record { fine = fine; full = full; is = λ room. answer room ∙ ap (λ (h : Handed). h .answer) (is-planned false full room) }
+    where
+      fine : verdict ≡ Fine
+      fine = fine-is verdict (later-passed (tests.isFine verdict) o (sym (ap (λ (x : End). isLater (x .answer)) (is-call (tests.isFine verdict) refl o)) ∙ e))
+
+      answer : (room : Output) → call room .answer ≡ planned room .answer
+      answer room = ap (λ (x : End). x .answer) (fine-call fine room)
+
+      full : isEmpty ≡ false
+      full =
+          later-full isEmpty o
+          (sym (ap isLater (answer o) ∙ ap (λ (h : Handed). isLater (h .answer)) (is-planned isEmpty refl o)) ∙ e)
+
+  ready : verdict ≡ Fine → PlanReady r segment plan values flags lent (length (work .u32s)) (length (work .u64s)) (length (work .f64s))
+  ready fine =
+      passed-ready r segment plan values flags lent (length (work .u32s)) (length (work .u64s)) (length (work .f64s))
+      (passed r segment plan values flags lent (length (work .u32s)) (length (work .u64s)) (length (work .f64s)) fine)
+
+  -- 14
+  few : (fine : verdict ≡ Fine) (full : isEmpty ≡ false) (m : Mode) → plan .mode ≡ m → ModeEnd g plan s with (length parent) m short-parent
+      → FewParents r segment plan values flags lent (length parent)
+  few fine full (ByCount count) e (by-count c) =
+      few-made r segment plan values flags lent (length (work .u32s)) (length (work .u64s)) (length (work .f64s)) (ready fine) full count (length parent) e c
+
+  -- 18
+  missing : (fine : verdict ≡ Fine) (full : isEmpty ≡ false) (m : Mode) → plan .mode ≡ m → ModeEnd g plan s with (length parent) m without-reach
+      → ReachMissing r segment plan values flags lent
+  missing fine full (ByCount count) e (by-count c) =
+      missing-made r segment plan values flags lent (length (work .u32s)) (length (work .u64s)) (length (work .f64s)) (ready fine) full count (length parent) e c
+
+  -- ---- every plan
+
+  module _ (out : Output) (k : ℕ) (made : call out .answer ≡ Planned k) where
+    made-fine : verdict ≡ Fine
+    made-fine =
+        fine-is verdict (made-passed (tests.isFine verdict) out k (sym (ap (λ (x : End). x .answer) (is-call (tests.isFine verdict) refl out)) ∙ made))
+
+    -- answer and output, where the span is empty or not
+    made-answer : (b : Bool) → isEmpty ≡ b → plannedBy b out .answer ≡ Planned k
+    made-answer b e = sym (ap (λ (x : End). x .answer) (fine-call made-fine out) ∙ ap (λ (h : Handed). h .answer) (is-planned b e out)) ∙ made
+
+    made-out : (b : Bool) → isEmpty ≡ b → call out .out ≡ plannedBy b out .out
+    made-out b e = ap (λ (x : End). x .out) (fine-call made-fine out) ∙ ap (λ (h : Handed). h .out) (is-planned b e out)
+
+    empty-made : isEmpty ≡ true → (k ≡ 0) × (call out .out ≡ out)
+    empty-made e =
+        let q = made-answer true e in
+        let n : k ≡ 0 = cc in
+        (n, made-out true e)
+
+    module _ (full : isEmpty ≡ false) where
+      -- the path along which it was made
+      along-some : AlongSome g plan (reached .end) k out (handed out .out)
+      along-some = made-end g plan (reached .end) k out (made-answer false full)
+
+      abbrev cs : List Candidate
+      cs = along-some .candidates
+
+      abbrev path : List ℕ
+      path = along-some .path
+
+      along-handed : HandedAlong g plan cs path k out (call out .out)
+      along-handed = rw (made-out false full) (along-some .handed)
+
+      along-kind : ModeEnd g plan s with (length parent) (plan .mode) (along cs path)
+      along-kind = subst (ModeEnd g plan s with (length parent) (plan .mode)) (along-some .is) (reached .kind)
+
+      module _ (f : Fitting values lent) where
+        abbrev WayByLength : Type 0
+        WayByLength =
+            MadeByLength r segment plan values flags lent (length (work .u32s)) (length (work .u64s)) (length (work .f64s)) (ready made-fine) full f k (call out .out)
+
+        abbrev WayByCount : (count : ℕ) → plan .mode ≡ ByCount count → Type 0
+        WayByCount count e =
+            MadeByCount r segment plan values flags lent (length (work .u32s)) (length (work .u64s)) (length (work .f64s)) (ready made-fine) full f count e k (call out .out)
+
+        way-by-length : plan .mode ≡ ByLength → WayByLength
+        way-by-length e = go cs path along-handed (subst (λ (m : Mode). ModeEnd g plan s with (length parent) m (along cs path)) e along-kind)
+          where
+            go : (cs : List Candidate) (path : List ℕ) → HandedAlong g plan cs path k out (call out .out) → ModeEnd g plan s with (length parent) ByLength (along cs path) → WayByLength
+            go cs path h by-length =
+                made-by-length r segment plan values flags lent (length (work .u32s)) (length (work .u64s)) (length (work .f64s)) (ready made-fine) full f k out (call out .out) h
+
+        way-by-count : (count : ℕ) (e : plan .mode ≡ ByCount count) → WayByCount count e
+        way-by-count count e = go (subst (λ (m : Mode). ModeEnd g plan s with (length parent) m (along cs path)) e along-kind)
+          where
+            go : ModeEnd g plan s with (length parent) (ByCount count) (along cs path) → WayByCount count e
+            go (by-count c) =
+                made-by-count r segment plan values flags lent (length (work .u32s)) (length (work .u64s)) (length (work .f64s)) (ready made-fine) full f count e (length parent) cs path k out
+                (call out .out) c along-handed
+
+        laid : (m : Mode) → plan .mode ≡ m
+            → Laid r segment plan values flags lent (length (work .u32s)) (length (work .u64s)) (length (work .f64s)) (ready made-fine) full f k (call out .out)
+        laid ByLength e = way-by-length e .laid
+        laid (ByCount count) e = way-by-count count e .laid
+
+        full-made : MadeOfSpan r segment plan values flags lent k (call out .out)
+        full-made = record {
+          best-by-length = λ e. way-by-length e .best;
+          best-by-count = λ count e. way-by-count count e .best;
+          demand-by-length = λ e. way-by-length e .demand;
+          demand-by-count = λ count e. way-by-count count e .demand;
+          fills = laid (plan .mode) refl .fills;
+          flagged = laid (plan .mode) refl .flagged;
+        }
+
+    written : (b : Bool) → isEmpty ≡ b → Written k out (call out .out)
+    written true e = rw (empty-made e .0, empty-made e .1) (none-written out)
+    written false e = along-written g plan (cs e) (path e) k out (call out .out) (along-handed e)
+
+  -- ---- every call
+
+  module _ (out : Output) where
+    said-short : call out .answer ≡ ShortParent → FewParents r segment plan values flags lent (length parent)
+    said-short e =
+        let l = later out (ap isLater e) in
+        few (l .fine) (l .full) (plan .mode) refl
+        (subst (ModeEnd g plan s with (length parent) (plan .mode)) (parent-end g plan (reached .end) out (sym (l .is out) ∙ e)) (reached .kind))
+
+    said-missing : call out .answer ≡ NoReach → ReachMissing r segment plan values flags lent
+    said-missing e =
+        let l = later out (ap isLater e) in
+        missing (l .fine) (l .full) (plan .mode) refl
+        (subst (ModeEnd g plan s with (length parent) (plan .mode)) (reach-end g plan (reached .end) out (sym (l .is out) ∙ e)) (reached .kind))
+
+    said-room : call out .answer ≡ ShortOutput → (k : ℕ) × (HasRoom k out → ⊥) × ((room : Output) → HasRoom k room → call room .answer ≡ Planned k)
+    said-room e =
+        let l = later out (ap isLater e) in
+        let q = room-end g plan (reached .end) out (sym (l .is out) ∙ e) in
+        (q .0, q .1, λ room h. l .is room ∙ q .2 room h)
+
+    whole : call out ≡ callBy (tests.isFine verdict) out
+    whole = is-call (tests.isFine verdict) refl out
+
+    zero-made : numberOf (call out .answer) ≡ 0 → (k : ℕ) × (call out .answer ≡ Planned k)
+    zero-made e =
+        let f = ap (λ (x : End). x .answer) whole in
+        let m = number-zero (callBy (tests.isFine verdict) out .answer) (numbered (tests.isFine verdict) refl out) (ap numberOf (sym f) ∙ e) in
+        (m .pieces, f ∙ m .is)
+
+    ended : Ended r segment plan values flags lent out work parent
+    ended = record {
+      refused = λ e. is-call false e out;
+      zeroed = λ e. (ap (λ (x : End). x .work) (fine-call e out), ap (λ (x : End). x .parent) (fine-call e out));
+      untouched = λ never. ap (λ (x : End). x .out) whole ∙ left-alone (tests.isFine verdict) out (λ k e. never k (ap (λ (x : End). x .answer) whole ∙ e));
+      empty = λ e none. (
+        ap (λ (x : End). x .answer) (fine-call e out) ∙ ap (λ (h : Handed). h .answer) (is-planned true none out),
+        ap (λ (x : End). x .out) (fine-call e out) ∙ ap (λ (h : Handed). h .out) (is-planned true none out),
+      );
+      short-parent = said-short;
+      no-reach = said-missing;
+      short-output = said-room;
+      accepted = made-fine out;
+      number = (zero-made, λ (k, e). ap numberOf e);
+    }
+
+-- ---- the theorems
+
+module _ (r : Recording) (segment : SegmentConfig) (plan : PlanConfig) (values : List Float) (flags : List ℕ) (lent : List Float) (out : Output) (work : Work) (parent : List ℕ) where
+  -- of every answer `Planned`
+  pub plan-made : (k : ℕ) → planOf r segment plan values flags lent out work parent .answer ≡ Planned k
+      → Made r segment plan values flags lent k out (planOf r segment plan values flags lent out work parent .out)
+  plan-made k e = record {
+    written = written r segment plan values flags lent work parent out k e (emptyIn r segment plan values flags) refl;
+    empty = empty-made r segment plan values flags lent work parent out k e;
+    full = full-made r segment plan values flags lent work parent out k e;
+  }
+
+  -- of every call
+  pub plan-ended : Ended r segment plan values flags lent out work parent
+  plan-ended = ended r segment plan values flags lent work parent out

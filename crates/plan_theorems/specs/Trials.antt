@@ -1,0 +1,167 @@
+-- The operation Plan at document 01's recording R, through its whole definition and whatever the lent lists held: the plan as printed, the two trials of R by count,
+-- an empty span, and 14, 12 and 13. So what Made claims of plans by length, of plans with the reach and of these ends is claimed of something.
+use mathlib.Core.Path.{_≡_, refl}
+use mathlib.Core.List.{List, [], _∷_}
+use Prim.Native.Nat.{ℕ}
+use lib.Ieee.{Float, binary32, binary64, span, climb, size, odd, units, round, sum, add, neg, sub, mul, div, lt, eq, le, ofInt, ofBits}
+use lib.ListN.{replicate}
+use Rattle.base_terms.specs.Floats.{minOf, maxOf, clampOf}
+use Rattle.base_terms.specs.Lengths.{square, offOf, short, lengthCost}
+use Rattle.base_terms.specs.Lists.{filled, onto, tabulate, allOf}
+use Rattle.base_terms.specs.Work.{workOf, workOk}
+use Rattle.grid.specs.Boundary.{startOf, boundaryOf, covers}
+use Rattle.grid.specs.Durations.{framesIn, framesCeil, framesFloor, samplesFloor, samplesIn, secondsOf, frameSecs}
+use Rattle.grid.specs.Validate.{frameStepOk, framesOk, listsOk, valuesOk, lengthOk, validityOf}
+use Rattle.grid.specs.Validate as grid
+use Rattle.grid.specs.Values.{isScore, isFinite, isUnflagged}
+use Rattle.silence_levels.specs.Keys.{withSignal}
+use Rattle.silence_levels.specs.Levels.{levelsOver, levelsOf}
+use Rattle.silence_levels.specs.Threshold.{autoOf, resolveOf, thresholdOk}
+use Rattle.silence_runs.specs.Fill.{filledAs, fillShort}
+use Rattle.silence_runs.specs.Hysteresis.{reached, soundAt, soundsAfter, hysteresis}
+use Rattle.silence_runs.specs.Quiet.{belowAt, belowOff, quietRuns}
+use Rattle.silence_runs.specs.Runs.{joined, runs, rewritten, rewrittenAll, eachRun}
+use Rattle.silence_runs.specs.Silences.{silentRuns, silencesOf}
+use Rattle.silence_runs.specs.Sounds.{isSilent, anySound, fillSilence, soundsOf}
+use Rattle.silence_list.specs.Refusal.{durationsOk}
+use Rattle.silence_list.specs.Silences.{soundsIn, silencesIn}
+use Rattle.path_pieces.specs.Least.{lowestLeast, predecessorOf}
+use Rattle.path_pieces.specs.Pieces.{pieceLength, lengthCostOf, overOf, mayStart, withPiece, withCut, withCutAt}
+use Rattle.path_pieces.specs.Pieces as pieces
+use Rattle.path_by_length.specs.Table.{nextScore, tableOf, bestScore, parentOf, wayBack, bestPath}
+use Rattle.path_by_length.specs.ByCount.{bestWith, parentWith, wayWith, bestPathByCount, bestScoreByCount}
+use Rattle.path_tests.specs.Refusal.{isCount, countOk}
+use Rattle.candidate_settings.specs.Tests.{ratioOk, isWeight, isCutCost, isReference, weightsOk}
+use Rattle.candidate_span.specs.Bounds.{lowOf, highOf, isInner}
+use Rattle.candidate_span.specs.Gaps.{isGap, innerGaps, gapsOf, dropped}
+use Rattle.candidate_span.specs.Kept.{keptFrames, boundaries}
+use Rattle.candidate_span.specs.Spacing.{blockOf, paddingOf, edgeLimit, spacingOf}
+use Rattle.candidate_span.specs.Span.{isLeading, isTrailing, allSilent, emptySpan, firstOf, lastOf}
+use Rattle.division.specs.Divisions.{divisionsOf, keeps, anyOf, isFeasible}
+use Rattle.candidate_points.specs.Blocked.{getsGrid, touches, opens, blocksAt, blockedBy, isBlocked}
+use Rattle.candidate_points.specs.Points.{openTo, blockEnd, pointsFrom, gridPoints}
+use Rattle.candidate_cuts.specs.Cut.{splitPoint, openCut, silenceCut}
+use Rattle.candidate_cuts.specs.Place.{shareOf, chosenBy}
+use Rattle.candidate_costs.specs.Cost.{pauseOf, cutCost}
+use Rattle.candidate_costs.specs.Level.{smoothedAt, frameLevel, levelAt, boundaryLevels}
+use Rattle.candidate_costs.specs.Normalize.{rangeOf, normalizeOf}
+use Rattle.candidate_costs.specs.Quietest.{quieter, quietestIn, quietestOf}
+use Rattle.candidate_costs.specs.Stretch.{mostOf, stretchAt, secsOf}
+use Rattle.candidate_costs.specs.Window.{clipped, windowOf, widthOf, sumFrom, sumOf, meanOf}
+use Rattle.plan_tests.specs.Refusal.{pieceLengthsOk, allDurationsOk, firstRefusalOf}
+use Rattle.candidates.specs.Candidates.{pausesBy, inPause, reasonAt, pointAt, ownAt, ownFrom, allListed, withLeft, cheaper, cheapestOf, cheapest, survivors, candidatesOf}
+use Rattle.candidates.specs.Entries.{costsOf}
+use Rattle.candidate_finder.specs.CandidatesIn.{runsIn, levelsIn}
+use Rattle.completion.specs.Bridge.{bridgeFrom}
+use Rattle.completion.specs.Cuts.{pointsIn}
+use Rattle.completion.specs.Cuts as completion
+use Rattle.completion.specs.Next.{nextAt}
+use Rattle.completion.specs.Place.{placeAt}
+use Rattle.completion.specs.Reach.{leastFrom, reachOf}
+use Rattle.completion.specs.Reachable.{reachableIn}
+use Rattle.plan_lengths.specs.PlanLengths.{targetByCount, lengthsWith}
+use Rattle.plan_pieces.specs.Along.{piecesFrom, piecesAlongNumbers, cutsAlongNumbers}
+use Rattle.plan_pieces.specs.Along as along
+use Rattle.plan_pieces.specs.Flags.{shortFlag, longFlag, flagsOf}
+use Rattle.plan_pieces.specs.Output.{Output, outputOf, hasRoom, handedOutOf}
+use Rattle.plan_pieces.specs.PlanAlong.{planPieces, planCuts}
+use Rattle.planner.specs.Operation.{End, endOf, plannedOf, planOf}
+use Rattle.planner.specs.Plan.{planByLength, hasParents, suffices, plannedUnder, planByCount, planBy}
+use Rattle.grid.specs.declared.validate.Recording.{Recording}
+use Rattle.grid.specs.declared.validate.Domain.the-variants.{Scores}
+use Rattle.silence_levels.specs.declared.threshold.Threshold.the-variants.{Auto}
+use Rattle.silence_list.specs.declared.config.SegmentConfig.{SegmentConfig}
+use Rattle.path_pieces.specs.declared.mode.Mode.{Mode}
+use Rattle.path_pieces.specs.declared.mode.Mode.the-variants.{ByLength, ByCount}
+use Rattle.candidate_settings.specs.declared.config.PlanConfig.{PlanConfig}
+use Rattle.candidate_settings.specs.declared.config.Gap.{Gap}
+use Rattle.candidate_settings.specs.declared.config.Gap.the-variants.{Keep, Drop}
+use Rattle.candidate_settings.specs.declared.config.Placement.the-variants.{Quietest}
+use Rattle.plan_tests.specs.declared.refusal.Verdict.the-variants.{ShortWork}
+use Rattle.plan_pieces.specs.declared.answer.Answer.{Answer}
+use Rattle.plan_pieces.specs.declared.answer.Answer.the-variants.{Planned, Refused, ShortParent, ShortOutput}
+
+-- "1,000 Hz, 1 channel, frame rate 10, hop 1, length 700"
+abbrev recording : Recording
+recording = record { «sample_rate» = 1000; channels = 1; «frame_rate» = 10; hop = 1; len = 700; domain = Scores }
+
+-- the Rust's default settings
+abbrev defaults : SegmentConfig
+defaults = record { threshold = Auto; «min_silence» = 250000000; «min_sound» = 100000000; pre = 100000000; tail = 200000000 }
+
+-- "scores 1 1 0 0 0 1 1"
+abbrev one : Float
+one = ofBits binary32 0x3f80_0000
+
+abbrev none : Float
+none = ofBits binary32 0
+
+abbrev scores : List Float
+scores = one ∷ one ∷ none ∷ none ∷ none ∷ one ∷ one ∷ []
+
+-- "100, 300, 400 ms" or another maximum, and the default weights: 0.1 for a cut, 1 for level, pause and target, 4 for short
+abbrev settings : Mode → ℕ → Gap → PlanConfig
+settings mode most gap = record {
+  min = 100000000;
+  target = 300000000;
+  max = most;
+  mode = mode;
+  gap = gap;
+  placement = Quietest;
+  weights = record {
+    cut = ofBits binary64 0x3fb9_9999_9999_999a;
+    level = ofBits binary64 0x3ff0_0000_0000_0000;
+    pause = ofBits binary64 0x3ff0_0000_0000_0000;
+    «pause_ref» = 500000000;
+    target = ofBits binary64 0x3ff0_0000_0000_0000;
+    short = ofBits binary64 0x4010_0000_0000_0000;
+  };
+}
+
+-- a is what the output held, b, c and x what the work lists held, and d what the parent list held; a work list has 128 entries, 16 for each of R's eight frame boundaries
+module _ (a b c d : ℕ) (x : Float) where
+  abbrev output : ℕ → ℕ → Output
+  output pieces cuts = outputOf (replicate pieces a) (replicate cuts a)
+
+  -- a call whose output has so many numbers for pieces and cuts, and its parent list so many entries
+  abbrev call : PlanConfig → List Float → ℕ → ℕ → ℕ → End
+  call plan values pieces cuts parents =
+      planOf recording defaults plan values (replicate 7 0) [] (output pieces cuts) (workOf (replicate 128 b) (replicate 128 c) (replicate 128 x)) (replicate parents d)
+
+  -- an end after the tests: every work list zeroed
+  abbrev later : Answer → Output → ℕ → End
+  later answer out parents = endOf answer out (workOf (replicate 128 0) (replicate 128 0) (replicate 128 (ofBits binary64 0))) (replicate parents 0)
+
+  pub record PlanTrials : Type 0 where
+    -- "piece 0 400 -, piece 400 700 -, cut 400 400 silence"; one number more in each list stays as it was
+    pub printed : call (settings ByLength 400000000 Keep) scores 7 4 0
+        ≡ later (Planned 2) (outputOf (0 ∷ 400 ∷ 0 ∷ 400 ∷ 700 ∷ 0 ∷ a ∷ []) (400 ∷ 400 ∷ 0 ∷ a ∷ [])) 0
+    -- "maximum 300 ms and count 2: pieces 0–300, 300–700 `l`; cut silence"
+    pub count-two : call (settings (ByCount 2) 300000000 Keep) scores 6 3 16
+        ≡ later (Planned 2) (outputOf (0 ∷ 300 ∷ 0 ∷ 300 ∷ 700 ∷ 2 ∷ []) (300 ∷ 300 ∷ 0 ∷ [])) 16
+    -- "count 8: seven pieces; reasons forced, quiet, quiet, silence, forced, forced"
+    pub count-eight : call (settings (ByCount 8) 400000000 Keep) scores 21 18 56
+        ≡ later (Planned 7)
+        (outputOf (0 ∷ 100 ∷ 0 ∷ 100 ∷ 200 ∷ 0 ∷ 200 ∷ 300 ∷ 0 ∷ 300 ∷ 400 ∷ 0 ∷ 400 ∷ 500 ∷ 0 ∷ 500 ∷ 600 ∷ 0 ∷ 600 ∷ 700 ∷ 0 ∷ [])
+        (100 ∷ 100 ∷ 2 ∷ 200 ∷ 200 ∷ 1 ∷ 300 ∷ 300 ∷ 1 ∷ 400 ∷ 400 ∷ 0 ∷ 500 ∷ 500 ∷ 2 ∷ 600 ∷ 600 ∷ 2 ∷ [])) 56
+    -- silence all through, with dropped gaps: the span is empty, and so is the plan
+    pub silent : call (settings ByLength 400000000 Drop) (replicate 7 none) 0 0 0 ≡ later (Planned 0) (output 0 0) 0
+    -- 14: one entry fewer, at the path over the completed candidates
+    pub parents-short : call (settings (ByCount 8) 400000000 Keep) scores 21 18 55 ≡ later ShortParent (output 21 18) 55
+    -- 12: one number fewer
+    pub output-short : call (settings ByLength 400000000 Keep) scores 5 3 0 ≡ later ShortOutput (output 5 3) 0
+    -- 13: one entry fewer in a work list; every list is as it was
+    pub work-short : planOf recording defaults (settings ByLength 400000000 Keep) scores (replicate 7 0) [] (output 6 3) (workOf (replicate 128 b) (replicate 128 c) (replicate 127 x)) (replicate 1 d)
+        ≡ endOf (Refused ShortWork) (output 6 3) (workOf (replicate 128 b) (replicate 128 c) (replicate 127 x)) (replicate 1 d)
+
+  pub plan-trials : PlanTrials
+  unfolding minOf maxOf clampOf square offOf short lengthCost filled onto tabulate allOf workOk startOf boundaryOf covers framesIn framesCeil framesFloor samplesFloor samplesIn secondsOf frameSecs grid.isWithin frameStepOk framesOk listsOk valuesOk lengthOk validityOf isScore isFinite isUnflagged withSignal levelsOver levelsOf autoOf resolveOf thresholdOk filledAs fillShort reached soundAt soundsAfter hysteresis belowAt belowOff quietRuns joined runs rewritten rewrittenAll eachRun silentRuns silencesOf isSilent anySound fillSilence soundsOf durationsOk soundsIn silencesIn lowestLeast predecessorOf pieces.isWithin pieceLength lengthCostOf overOf mayStart withPiece withCut withCutAt nextScore tableOf bestScore parentOf wayBack bestPath bestWith parentWith wayWith bestPathByCount bestScoreByCount isCount countOk ratioOk isWeight isCutCost isReference weightsOk lowOf highOf isInner isGap innerGaps gapsOf dropped keptFrames boundaries blockOf paddingOf edgeLimit spacingOf isLeading isTrailing allSilent emptySpan firstOf lastOf divisionsOf keeps anyOf isFeasible getsGrid touches opens blocksAt blockedBy isBlocked openTo blockEnd pointsFrom gridPoints splitPoint openCut silenceCut shareOf chosenBy pauseOf cutCost smoothedAt frameLevel levelAt boundaryLevels rangeOf normalizeOf quieter quietestIn quietestOf mostOf stretchAt secsOf clipped windowOf widthOf sumFrom sumOf meanOf pieceLengthsOk allDurationsOk firstRefusalOf pausesBy inPause reasonAt pointAt ownAt ownFrom allListed withLeft cheaper cheapestOf cheapest survivors candidatesOf costsOf runsIn levelsIn bridgeFrom completion.cutsFrom pointsIn nextAt placeAt leastFrom reachOf reachableIn targetByCount lengthsWith along.cutsFrom piecesFrom piecesAlongNumbers cutsAlongNumbers shortFlag longFlag flagsOf hasRoom handedOutOf planPieces planCuts plannedOf planOf planByLength hasParents suffices plannedUnder planByCount planBy span climb size odd units round sum add neg sub mul div lt eq le ofInt ofBits
+  plan-trials = record {
+    printed = refl;
+    count-two = refl;
+    count-eight = refl;
+    silent = refl;
+    parents-short = refl;
+    output-short = refl;
+    work-short = refl;
+  }

@@ -1,0 +1,1 @@
+// What every plan is that the operation Plan hands out; specs alone.
