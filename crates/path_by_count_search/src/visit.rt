@@ -18,7 +18,7 @@ ghost use Rattle.path_by_count_search.specs.Tree.{Covers};
 ghost use Rattle.path_by_count_search.specs.Visit.{lengthsOf, FirstIn, through};
 
 // So few candidates are compared one after the other: a bound costs about as much as a score, so that halving on would cost more than it leaves out.
-pub const FEW: usize = 8;
+pub const FEW: usize = 16;
 
 // What is sought: the best predecessor among the candidates from..to of a piece that ends at the place `end`.
 // The leaf of candidate i stands at leaves + i.
