@@ -1,72 +1,12 @@
-// The call, and tests of what it left in the lent lists.
+// Tests of what a call left in the lent lists.
 use answers_shared::answer;
 use answers_shared::number;
-use answers_shared::plan::Plan;
-use answers_shared::plan::Weights;
-use answers_shared::recording::Recording;
 use answers_shared::tests;
 use answers_shared::tests::BEFORE;
-use capi::plan;
 ghost use mathlib.Core.Path.{_≡_};
 ghost use Prim.Native.Nat.{_+_, _*_, _≤_};
 ghost use lib.ListN.{length};
 ghost use Rattle.answers_plan.specs.Record.{sameLists, parentLeft, sameMemory};
-
-// Asks the port.
-pub fn ask(
-    recording: Recording,
-    settings: Plan,
-    weights: Weights,
-    values: &[f32],
-    flags: &[u8],
-    levels: &[f64],
-    work_u32: &mut [u32],
-    work_u64: &mut [u64],
-    work_f64: &mut [f64],
-    parent: &mut [u32],
-    pieces: &mut [u64],
-    cuts: &mut [u64],
-    found: &mut u64,
-) -> u32 {
-    plan::buchawzer_plan(
-        recording.sample_rate,
-        recording.channels,
-        recording.frame_rate,
-        recording.hop,
-        recording.len,
-        recording.decibels,
-        values,
-        flags,
-        levels,
-        recording.threshold_kind,
-        recording.threshold,
-        recording.min_silence,
-        recording.min_sound,
-        recording.pre,
-        recording.tail,
-        settings.min,
-        settings.target,
-        settings.max,
-        settings.by_count,
-        settings.count,
-        settings.drop_gaps,
-        settings.placement_kind,
-        settings.ratio,
-        weights.cut,
-        weights.level,
-        weights.pause,
-        weights.pause_ref,
-        weights.target,
-        weights.short,
-        work_u32,
-        work_u64,
-        work_f64,
-        parent,
-        pieces,
-        cuts,
-        found,
-    )
-}
 
 // Both outputs are as the record says, from a place on: n pieces, then m cuts.
 pub fn same_lists(r: &[u8], at: usize, n: usize, m: usize, pieces: &[u64], cuts: &[u64]) -> bool

@@ -11,13 +11,73 @@ use answers_shared::answer;
 use answers_shared::lists;
 use answers_shared::number;
 use answers_shared::plan;
+use answers_shared::plan::Plan;
+use answers_shared::plan::Weights;
 use answers_shared::record::Replayed;
 use answers_shared::record::broken;
 use answers_shared::recording;
+use answers_shared::recording::Recording;
 use answers_shared::tests::BEFORE;
+use capi::plan::buchawzer_plan;
 ghost use Prim.Native.Nat.{_+_, _*_, _≤_, _<_};
 ghost use lib.ListN.{length};
 ghost use Rattle.answers_plan.specs.Sizes.{Fitting, listBytes, planBytes};
+
+// Asks the port.
+fn ask(
+    recording: Recording,
+    settings: Plan,
+    weights: Weights,
+    values: &[f32],
+    flags: &[u8],
+    levels: &[f64],
+    work_u32: &mut [u32],
+    work_u64: &mut [u64],
+    work_f64: &mut [f64],
+    parent: &mut [u32],
+    pieces: &mut [u64],
+    cuts: &mut [u64],
+    found: &mut u64,
+) -> u32 {
+    buchawzer_plan(
+        recording.sample_rate,
+        recording.channels,
+        recording.frame_rate,
+        recording.hop,
+        recording.len,
+        recording.decibels,
+        values,
+        flags,
+        levels,
+        recording.threshold_kind,
+        recording.threshold,
+        recording.min_silence,
+        recording.min_sound,
+        recording.pre,
+        recording.tail,
+        settings.min,
+        settings.target,
+        settings.max,
+        settings.by_count,
+        settings.count,
+        settings.drop_gaps,
+        settings.placement_kind,
+        settings.ratio,
+        weights.cut,
+        weights.level,
+        weights.pause,
+        weights.pause_ref,
+        weights.target,
+        weights.short,
+        work_u32,
+        work_u64,
+        work_f64,
+        parent,
+        pieces,
+        cuts,
+        found,
+    )
+}
 
 // Calls the port: it answers with the record's numbers and lists, n pieces and m cuts from a place on, and leaves work memory as it should.
 fn same_call(
@@ -41,7 +101,7 @@ fn same_call(
     requires { ⌜ 3 * m ≤ length (now cuts) ⌝ }
 {
     let mut found = number::NO_ANSWER;
-    let refusal = lent::ask(
+    let refusal = ask(
         recording::recording_in(r),
         plan::plan_in(r),
         plan::weights_in(r),
