@@ -142,3 +142,43 @@ number-fine r segment plan values flags levels n32 n64 nf =
     (numbered (weightsOk (plan .weights)) BadWeights _ (λ e. absurd (omega (arith, e)))
     (numbered (thresholdOk (segment .threshold)) BadThreshold _ (λ e. absurd (omega (arith, e)))
     (numbered (workOk (length values + 1) n32 n64 nf) ShortWork Fine (λ e. absurd (omega (arith, e))) (λ e. refl)))))))
+
+-- ---- which numbers there are
+
+recording-most : (v : Validity) → refusalOf v ≤ 6
+recording-most Valid = omega arith
+recording-most BadSampleRate = omega arith
+recording-most NoChannels = omega arith
+recording-most BadFrames = omega arith
+recording-most BadLists = omega arith
+recording-most BadValue = omega arith
+recording-most NotCovered = omega arith
+
+-- 12 is not among them
+pub never-output : (v : Verdict) → numberOf v ≡ 12 → ⊥
+never-output Fine e = omega (arith, e)
+never-output (BadRecording v) e = omega (arith, recording-most v, e)
+never-output BadDurations e = omega (arith, e)
+never-output BadCount e = omega (arith, e)
+never-output BadRatio e = omega (arith, e)
+never-output BadWeights e = omega (arith, e)
+never-output BadThreshold e = omega (arith, e)
+never-output ShortWork e = omega (arith, e)
+
+-- a chain that has a number has it of its first test or of its rest
+neither : (n : ℕ) (b : Bool) (refusal rest : Verdict) → (numberOf refusal ≡ n → ⊥) → (numberOf rest ≡ n → ⊥) → numberOf (orElse b refusal rest) ≡ n → ⊥
+neither n true refusal rest f g e = g e
+neither n false refusal rest f g e = f e
+
+-- 13 is that of work lists which are too short alone
+pub never-work : (r : Recording) (segment : SegmentConfig) (plan : PlanConfig) (values : List Float) (flags : List ℕ) (levels : List Float) (n32 n64 nf : ℕ)
+    → workOk (length values + 1) n32 n64 nf ≡ true → numberOf (firstRefusalOf r segment plan values flags levels n32 n64 nf) ≡ 13 → ⊥
+unfolding firstRefusalOf
+never-work r segment plan values flags levels n32 n64 nf t = rw t
+    (neither 13 (isValid (validityOf r values flags levels)) (BadRecording (validityOf r values flags levels)) _
+    (λ e. omega (arith, recording-most (validityOf r values flags levels), e))
+    (neither 13 (allDurationsOk segment plan) BadDurations _ (λ e. omega (arith, e))
+    (neither 13 (countOk (plan .mode)) BadCount _ (λ e. omega (arith, e))
+    (neither 13 (ratioOk (plan .placement)) BadRatio _ (λ e. omega (arith, e))
+    (neither 13 (weightsOk (plan .weights)) BadWeights _ (λ e. omega (arith, e))
+    (neither 13 (thresholdOk (segment .threshold)) BadThreshold Fine (λ e. omega (arith, e)) (λ e. omega (arith, e))))))))

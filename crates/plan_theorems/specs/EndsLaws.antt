@@ -14,6 +14,7 @@ use Rattle.candidate_settings.specs.declared.config.PlanConfig.{PlanConfig}
 use Rattle.candidate_span.specs.Gaps.{Cut}
 use Rattle.division.specs.Division.{Span}
 use Rattle.candidates.specs.declared.candidate.Candidate.{Candidate}
+use Rattle.plan_tests.specs.declared.refusal.Verdict.{Verdict}
 use Rattle.completion.specs.Reach.{reachOf}
 use Rattle.completion.specs.declared.reach.Sought.{Sought}
 use Rattle.completion.specs.declared.reach.Sought.the-variants.{Reach, Nothing}
@@ -22,7 +23,7 @@ use Rattle.plan_pieces.specs.PlanAlong.{planPieces, planCuts}
 use Rattle.plan_pieces.specs.Output.{Output, outputOf, Handed, handedOf, pick, hasRoom, handedOutOf}
 use Rattle.plan_pieces.specs.OutputLaws.{room-parts}
 use Rattle.plan_pieces.specs.AnswerLaws.{Numbered}
-use Rattle.plan_pieces.specs.declared.answer.Answer.the-variants.{Planned, ShortParent, NoReach, ShortOutput}
+use Rattle.plan_pieces.specs.declared.answer.Answer.the-variants.{Planned, Refused, ShortParent, NoReach, ShortOutput}
 use Rattle.planner.specs.Plan.{planAlong, completedByLength, pathByLength, planByLength, hasParents, pathByCount, suffices, plannedUnder, completedByCount, plannedAfter, planByCount, planBy}
 use Rattle.plan_theorems.specs.Made.{HasRoom}
 
@@ -145,23 +146,24 @@ mode-end g plan s with parents (ByCount count) =
 
 -- ---- what holds of every end
 
--- where no plan is made the output is as it was, and a plan alone has the number 0
+-- where no plan is made the output is as it was, a plan alone has the number 0, and no test before 14 is named
 pub record Ending (out : Output) (h : Handed) : Type 0 where
   pub untouched : ((k : ℕ) → h .answer ≡ Planned k → ⊥) → h .out ≡ out
   pub numbered : Numbered (h .answer)
+  pub unrefused : (v : Verdict) → h .answer ≡ Refused v → ⊥
 
 along-ending : (n : ℕ) (pieces cuts : List ℕ) (out : Output) → Ending out (handedOutOf n pieces cuts out)
 unfolding handedOutOf
 along-ending n pieces cuts out = go (hasRoom n (length (out .pieces)) (length (out .cuts)))
   where
     go : (b : Bool) → Ending out (pick b (handedOf (Planned n) (outputOf (onto pieces (out .pieces)) (onto cuts (out .cuts)))) (handedOf ShortOutput out))
-    go true = record { untouched = λ never. absurd (never n refl); numbered = tt }
-    go false = record { untouched = λ never. refl; numbered = tt }
+    go true = record { untouched = λ never. absurd (never n refl); numbered = tt; unrefused = λ v e. let z : _≡_ {A = ℕ} 0 1 = cc in omega arith }
+    go false = record { untouched = λ never. refl; numbered = tt; unrefused = λ v e. let z : _≡_ {A = ℕ} 0 1 = cc in omega arith }
 
 pub end-ending : (g : FrameGrid) (plan : PlanConfig) (e : PlanEnd) (out : Output) → Ending out (handedBy g plan e out)
 end-ending g plan (along cs path) out = along-ending (length path - 1) (planPieces g plan cs path) (planCuts g cs path) out
-end-ending g plan short-parent out = record { untouched = λ never. refl; numbered = tt }
-end-ending g plan without-reach out = record { untouched = λ never. refl; numbered = tt }
+end-ending g plan short-parent out = record { untouched = λ never. refl; numbered = tt; unrefused = λ v e. let z : _≡_ {A = ℕ} 0 1 = cc in omega arith }
+end-ending g plan without-reach out = record { untouched = λ never. refl; numbered = tt; unrefused = λ v e. let z : _≡_ {A = ℕ} 0 1 = cc in omega arith }
 
 -- ---- which end it was
 

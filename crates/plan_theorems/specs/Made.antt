@@ -196,7 +196,8 @@ module _ (r : Recording) (segment : SegmentConfig) (plan : PlanConfig) (values :
     -- by count they are exactly N, or one for each kept frame if those are fewer, and if one exceeds the maximum, no division into at most that many has a shorter longest piece
     pub demand-by-length : plan .mode ≡ ByLength → (cuts : List Cut) × Shows g s cuts k out × DemandByLength g s maximum cuts
     pub demand-by-count : (count : ℕ) → plan .mode ≡ ByCount count → (cuts : List Cut) × Shows g s cuts k out × DemandByCount g s count maximum cuts
-    -- pieces, cuts and flags
+    -- pieces, cuts and flags; no more pieces than frames
+    pub few : k ≤ length values
     pub fills : Fills (boundaryOf g (s .first)) (boundaryOf g (s .last)) k out
     pub flagged : Flagged minimum maximum k out
 
@@ -239,8 +240,9 @@ module _ (r : Recording) (segment : SegmentConfig) (plan : PlanConfig) (values :
     verdict = tests.firstRefusalOf r segment plan values flags lent (length (work .u32s)) (length (work .u64s)) (length (work .f64s))
 
     pub record Ended : Type 0 where
-      -- "Refusals before 14 .. leave work memory untouched"
+      -- "Refusals before 14 .. leave work memory untouched", and each is that of the first test that fails
       pub refused : tests.isFine verdict ≡ false → end ≡ endOf (Refused verdict) out work parent
+      pub first-failed : (v : Verdict) → end .answer ≡ Refused v → v ≡ verdict
       -- "All later ends, success too, leave it zeroed"
       pub zeroed : verdict ≡ Fine → (end .work ≡ cleared work) × (end .parent ≡ filled 0 parent)
       -- where no plan is made the output is as it was
@@ -252,6 +254,8 @@ module _ (r : Recording) (segment : SegmentConfig) (plan : PlanConfig) (values :
       pub no-reach : end .answer ≡ NoReach → ReachMissing
       pub short-output : end .answer ≡ ShortOutput
           → (k : ℕ) × (HasRoom k out → ⊥) × ((room : Output) → HasRoom k room → planOf r segment plan values flags lent room work parent .answer ≡ Planned k)
+      -- 12 never comes where there is room for a piece at each frame
+      pub roomy : Fitting values lent → HasRoom (length values) out → end .answer ≡ ShortOutput → ⊥
       -- a plan is made only where the tests pass
       pub accepted : (k : ℕ) → end .answer ≡ Planned k → verdict ≡ Fine
       -- the number is 0 where a plan is made, and nowhere else

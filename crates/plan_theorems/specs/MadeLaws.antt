@@ -5,6 +5,7 @@ use mathlib.Core.Logic.{_⊎_, inl, inr}
 use mathlib.Core.Bool.{true, false}
 use mathlib.Core.List.{List, [], _++_, append-nil, List·Memᴰ}
 use Prim.Native.Nat.{ℕ, suc, _≤_, _<_}
+use native.Mathlib.Omega.{arith}
 use borrow.Author.Tests.{eqb-true, eq-eqb}
 use lib.Dec.{eqb}
 use lib.Ieee.{Float}
@@ -26,7 +27,10 @@ use Rattle.path_by_length.specs.CountTheorems.{count-score, count-all}
 use Rattle.candidate_settings.specs.declared.config.PlanConfig.{PlanConfig}
 use Rattle.candidate_span.specs.Gaps.{Cut, Spread}
 use Rattle.candidate_span.specs.GapsLaws.{spread-ends}
+use Rattle.candidate_span.specs.Kept.{keptFrames}
 use Rattle.division.specs.Division.{Span, Place, Division, piecesAsked}
+use Rattle.division.specs.Pieces.{piecesOf}
+use Rattle.division.specs.PlacesLaws.{at-most-kept}
 use Rattle.division.specs.SpanLaws.{span-spread, span-within}
 use Rattle.division.specs.Greedy.{Greedy}
 use Rattle.division.specs.Reach.{IsReach}
@@ -119,6 +123,11 @@ module _ (r : Recording) (segment : SegmentConfig) (plan : PlanConfig) (values :
 
     within : s .last ≤ length values
     within = span-within (x .gap) (x .frames) (x .pre) (x .tail) ss (planned .prepared .spanned)
+
+    -- a division has no more pieces than there are frames
+    pub divided-few : (cuts : List Cut) → Division s cuts → length (piecesOf s cuts) ≤ length values
+    unfolding keptFrames
+    divided-few cuts d = omega (arith, at-most-kept s spread cuts d, within)
 
     are : ds ≡ candidatesOf x ss runs levels ks first last
     are = finder.found-are r segment plan values flags lent n32 n64 nf p full

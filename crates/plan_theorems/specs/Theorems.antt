@@ -1,7 +1,7 @@
 -- The theorems of the operation Plan, in the words of Made.
 --   plan-made    of every answer `Planned`, with no hypothesis but the answer and, where costs come in, what the types of the lists say (`Fitting`):
---                demand 2, demand 3 by count and by length, pieces plus what lies between them, flags, the empty span
---   plan-ended   of every call: what is untouched, what is zeroed, that an empty span has the empty plan, that 14, 18 and 12 come under their conditions only,
+--                demand 2, demand 3 by count and by length, pieces plus what lies between them, no more of them than frames, flags, the empty span
+--   plan-ended   of every call: what is untouched, what is zeroed, that an empty span has the empty plan, that 14, 18 and 12 come under their conditions only, 12 never where there is room for a piece at each frame,
 --                and that the number is 0 exactly where a plan was made
 -- Of the reach and the greedy division which they name, division has
 --   reach-one (division/specs/ReachLaws)       two limits that are the reach are one
@@ -9,10 +9,10 @@
 use mathlib.Core.Path.{_≡_, refl, sym, ap, subst, _∙_}
 use mathlib.Core.Bool.{Bool, true, false}
 use mathlib.Core.List.{List}
-use Prim.Native.Nat.{ℕ}
+use Prim.Native.Nat.{ℕ, _*_, _≤_}
 use native.Mathlib.Omega.{arith}
 use lib.Ieee.{Float}
-use lib.ListN.{length}
+use lib.ListN.{length, replicate, length-replicate}
 use Rattle.base_code.specs.FrontLaws.{onto-nil}
 use Rattle.base_laws.specs.Tests.{unmet}
 use Rattle.base_terms.specs.Lists.{filled}
@@ -25,7 +25,8 @@ use Rattle.path_pieces.specs.declared.mode.Mode.{Mode}
 use Rattle.path_pieces.specs.declared.mode.Mode.the-variants.{ByLength, ByCount}
 use Rattle.candidate_settings.specs.declared.config.PlanConfig.{PlanConfig}
 use Rattle.candidate_span.specs.Gaps.{Cut}
-use Rattle.division.specs.Division.{Span}
+use Rattle.division.specs.Division.{Span, Division}
+use Rattle.division.specs.Pieces.{piecesOf}
 use Rattle.candidates.specs.declared.candidate.Candidate.{Candidate}
 use Rattle.plan_tests.specs.Fitting.{Fitting}
 use Rattle.plan_tests.specs.PlanReady.{PlanReady, passed-ready}
@@ -36,7 +37,7 @@ use Rattle.plan_tests.specs.declared.refusal.Verdict.the-variants.{Fine}
 use Rattle.candidate_finder.specs.SpanIn.{emptyIn}
 use Rattle.plan_pieces.specs.Answer.{numberOf}
 use Rattle.plan_pieces.specs.AnswerLaws.{Numbered, refused-numbered, number-zero}
-use Rattle.plan_pieces.specs.Output.{Output, Handed, handedOf, pick}
+use Rattle.plan_pieces.specs.Output.{Output, outputOf, Handed, handedOf, pick}
 use Rattle.plan_pieces.specs.declared.answer.Answer.{Answer}
 use Rattle.plan_pieces.specs.declared.answer.Answer.the-variants.{Planned, Refused, ShortParent, NoReach, ShortOutput}
 use Rattle.planner.specs.Plan.{planBy}
@@ -44,7 +45,7 @@ use Rattle.planner.specs.Operation.{End, endOf, endAfter, spanOfPlan, candidate
 use Rattle.plan_theorems.specs.Made.{HasRoom, Written, MadeOfSpan, Made, FewParents, ReachMissing, Ended}
 use Rattle.plan_theorems.specs.EndsLaws.{HandedAlong, along, short-parent, without-reach, handedBy, Reached, ModeEnd, by-length, by-count, mode-end, Ending, end-ending, AlongSome, made-end, parent-end, reach-end, room-end}
 use Rattle.plan_theorems.specs.FollowsLaws.{along-written}
-use Rattle.plan_theorems.specs.MadeLaws.{few-made, missing-made, Laid, MadeByLength, made-by-length, MadeByCount, made-by-count}
+use Rattle.plan_theorems.specs.MadeLaws.{divided-few, few-made, missing-made, Laid, MadeByLength, made-by-length, MadeByCount, made-by-count}
 
 -- nothing is written for no piece
 none-written : (out : Output) → Written 0 out out
@@ -113,7 +114,7 @@ module _ (r : Recording) (segment : SegmentConfig) (plan : PlanConfig) (values :
   -- ---- every end
 
   planned-ending : (b : Bool) (o : Output) → Ending o (plannedBy b o)
-  planned-ending true o = record { untouched = λ never. refl; numbered = tt }
+  planned-ending true o = record { untouched = λ never. refl; numbered = tt; unrefused = λ v e. let z : _≡_ {A = ℕ} 0 1 = cc in omega arith }
   planned-ending false o = end-ending g plan (reached .end) o
 
   ending : (o : Output) → Ending o (planned o)
@@ -126,6 +127,11 @@ module _ (r : Recording) (segment : SegmentConfig) (plan : PlanConfig) (values :
   left-alone : (b : Bool) (o : Output) → ((k : ℕ) → callBy b o .answer ≡ Planned k → ⊥) → callBy b o .out ≡ o
   left-alone true o never = ending o .untouched never
   left-alone false o never = refl
+
+  -- a refusal before 14 is that of the first test which fails
+  refused-first : (b : Bool) (o : Output) (v : Verdict) → callBy b o .answer ≡ Refused v → v ≡ verdict
+  refused-first true o v e = absurd (ending o .unrefused v e)
+  refused-first false o v e = cc
 
   -- a plan is made, or refused later, where the tests pass
   made-passed : (b : Bool) (o : Output) (k : ℕ) → callBy b o .answer ≡ Planned k → b ≡ true
@@ -215,6 +221,12 @@ module _ (r : Recording) (segment : SegmentConfig) (plan : PlanConfig) (values :
       along-kind : ModeEnd g plan s with (length parent) (plan .mode) (along cs path)
       along-kind = subst (ModeEnd g plan s with (length parent) (plan .mode)) (along-some .is) (reached .kind)
 
+      -- the division that it shows has no more pieces than frames
+      shown-few : (cuts : List Cut) → length (piecesOf s cuts) ≡ k → Division s cuts → k ≤ length values
+      shown-few cuts e d =
+          subst (λ (n : ℕ). n ≤ length values) e
+          (divided-few r segment plan values flags lent (length (work .u32s)) (length (work .u64s)) (length (work .f64s)) (ready made-fine) full cuts d)
+
       module _ (f : Fitting values lent) where
         abbrev WayByLength : Type 0
         WayByLength =
@@ -244,12 +256,17 @@ module _ (r : Recording) (segment : SegmentConfig) (plan : PlanConfig) (values :
         laid ByLength e = way-by-length e .laid
         laid (ByCount count) e = way-by-count count e .laid
 
+        few-pieces : (m : Mode) → plan .mode ≡ m → k ≤ length values
+        few-pieces ByLength e = let d = way-by-length e .demand in shown-few (d .0) (d .1 .number) (d .2 .divides)
+        few-pieces (ByCount count) e = let d = way-by-count count e .demand in shown-few (d .0) (d .1 .number) (d .2 .divides)
+
         full-made : MadeOfSpan r segment plan values flags lent k (call out .out)
         full-made = record {
           best-by-length = λ e. way-by-length e .best;
           best-by-count = λ count e. way-by-count count e .best;
           demand-by-length = λ e. way-by-length e .demand;
           demand-by-count = λ count e. way-by-count count e .demand;
+          few = few-pieces (plan .mode) refl;
           fills = laid (plan .mode) refl .fills;
           flagged = laid (plan .mode) refl .flagged;
         }
@@ -279,6 +296,15 @@ module _ (r : Recording) (segment : SegmentConfig) (plan : PlanConfig) (values :
         let q = room-end g plan (reached .end) out (sym (l .is out) ∙ e) in
         (q .0, q .1, λ room h. l .is room ∙ q .2 room h)
 
+    said-roomy : Fitting values lent → HasRoom (length values) out → call out .answer ≡ ShortOutput → ⊥
+    said-roomy f (p, c) e =
+        let q = said-room e in
+        let k = q .0 in
+        let size = length-replicate {A = ℕ} (3 * k) 0 in
+        let room = outputOf (replicate (3 * k) 0) (replicate (3 * k) 0) in
+        let few = few-pieces room k (q .2 room (omega (arith, size), omega (arith, size))) (later out (ap isLater e) .full) f (plan .mode) refl in
+        q .1 (omega (arith, few, p), omega (arith, few, c))
+
     whole : call out ≡ callBy (tests.isFine verdict) out
     whole = is-call (tests.isFine verdict) refl out
 
@@ -291,6 +317,7 @@ module _ (r : Recording) (segment : SegmentConfig) (plan : PlanConfig) (values :
     ended : Ended r segment plan values flags lent out work parent
     ended = record {
       refused = λ e. is-call false e out;
+      first-failed = λ v e. refused-first (tests.isFine verdict) out v (sym (ap (λ (x : End). x .answer) whole) ∙ e);
       zeroed = λ e. (ap (λ (x : End). x .work) (fine-call e out), ap (λ (x : End). x .parent) (fine-call e out));
       untouched = λ never. ap (λ (x : End). x .out) whole ∙ left-alone (tests.isFine verdict) out (λ k e. never k (ap (λ (x : End). x .answer) whole ∙ e));
       empty = λ e none. (
@@ -300,6 +327,7 @@ module _ (r : Recording) (segment : SegmentConfig) (plan : PlanConfig) (values :
       short-parent = said-short;
       no-reach = said-missing;
       short-output = said-room;
+      roomy = said-roomy;
       accepted = made-fine out;
       number = (zero-made, λ (k, e). ap numberOf e);
     }
