@@ -1,32 +1,44 @@
-# make run                    the main job: shows what the library does so far
-# make test                   the gate, which .ci/run calls: every crate proved from nothing, the trace and the reading lists
-#                             checked, then the comparison with the Rust
+# make run                    the main job: proves and builds the program cutplan, runs it on document 01's recording R, and
+#                             prints its listing; JOB=file runs it on a job of one's own, as tools/job makes it
+# make test                   the gate, which .ci/run calls: every crate proved from nothing, the trace, the reading lists and
+#                             the declarations checked, trials and examples run, then the comparison with the Rust
 # make compare N=.. SEED=..   the comparison alone, N inputs a subject; SUBJECTS=silences,path names some of them,
 #                             LARGE=.. sets the number of the largest inputs
 # make bench                  times beside the Rust's; PARTS=path names some of them
 # make sample                 writes the stored answers anew, from the Rust alone; PART=candidates names one of the
-#                             samples, COUNT=.. sets the number of records, of which 64 KiB are kept
+#                             samples, COUNT=.. sets the number of records, of which 64 KiB are kept, of jobs 128
 #
-# FEATURES names the parts that the library has beyond the frame grid: silences, candidates, path, plan.
+# FEATURES names the parts that the library has beyond the frame grid: silences, candidates, path, plan, jobs.
 # The published sources of the Rust stay in $(SHARED). Where they are not there, what needs them says so and does nothing.
 SHARED ?= ../shared
+JOB ?= examples/r.job
 N ?= 200000
 SEED ?= 1
 SUBJECTS ?= all
 LARGE ?=
 PARTS ?= all
-FEATURES ?= silences,candidates,path,plan
-PART ?= grid silences candidates path plan
+FEATURES ?= silences,candidates,path,plan,jobs
+PART ?= grid silences candidates path plan jobs
 COUNT ?= 1024
 
+CUTPLAN := target/cutplan
 STATICLIB := target/staticlib/libcapi.a
 DRIVER := target/reference/release/driver
 
-.PHONY: run test reference compare bench sample $(STATICLIB)
+.PHONY: run test reference compare bench sample
 
-run:
-	@rt check show_grid
-	@target/bin/show_grid
+run: $(CUTPLAN)
+	@$(CUTPLAN) <$(JOB)
+
+$(CUTPLAN): program/cutplan.c target/staticlib/libcutplan_program.a
+	@$(CC) -O2 -Wall -Wextra -o $@ $^
+
+# Proving takes minutes, so an archive is made anew only where something that it is made from changed.
+target/staticlib/libcutplan_program.a: $(shell tools/prove_shown --sources cutplan_program)
+	@tools/prove_shown cutplan_program
+
+$(STATICLIB): $(shell tools/prove_shown --sources capi)
+	@tools/prove_shown capi
 
 test:
 	@tools/test
@@ -53,9 +65,5 @@ sample: reference
 	set -e; for part in $(PART); do \
 		$(DRIVER) sample $$part $(COUNT) $(SEED) > crates/answers_$$part/stdin; \
 	done
-
-# rt knows by itself whether the library is up to date.
-$(STATICLIB):
-	rt staticlib capi
 
 endif

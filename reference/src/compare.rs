@@ -5,6 +5,8 @@ mod aims;
 #[cfg(feature = "candidates")]
 mod candidates;
 mod grid;
+#[cfg(feature = "jobs")]
+mod jobs;
 #[cfg(any(feature = "silences", feature = "path"))]
 mod lists;
 #[cfg(feature = "path")]
@@ -86,5 +88,7 @@ fn subjects() -> Vec<Subject> {
     all.extend(path::subjects());
     #[cfg(feature = "plan")]
     all.extend(plan::subjects());
+    #[cfg(feature = "jobs")]
+    all.extend(jobs::subjects());
     all
 }

@@ -2,12 +2,16 @@
 //! inputs, and writes the Rust's answers down for tests that run without it.
 
 mod bench;
+mod bytes;
 mod case;
 mod compare;
 mod conversions;
 mod domain;
+mod first_refusal;
+// The stored samples alone need less of these three.
+#[cfg_attr(not(feature = "jobs"), allow(dead_code))]
+mod job_bytes;
 mod ours;
-// The stored samples alone need less of these two.
 #[cfg_attr(not(feature = "path"), allow(dead_code))]
 mod path_job;
 #[cfg_attr(not(feature = "plan"), allow(dead_code))]
@@ -25,7 +29,7 @@ use compare::Amount;
 
 /// Subjects and parts are names with commas between them, or `all`.
 const USAGE: &str = "usage: driver compare N SEED [SUBJECTS [LARGE]]
-       driver sample grid|silences|candidates|path|plan COUNT SEED
+       driver sample grid|silences|candidates|path|plan|jobs COUNT SEED
        driver bench [PARTS]";
 
 fn main() -> ExitCode {

@@ -4,22 +4,27 @@
 
 mod candidates;
 mod grid;
+mod jobs;
 mod path;
 mod plan;
 mod silences;
 
 use std::io::{self, Write};
 
+use crate::bytes::Bytes;
 use crate::rng::Rng;
 
 /// A sample is at most so long.
 const MOST_BYTES: usize = 64 * 1024;
+/// One of jobs, a few of which are large.
+const MOST_BYTES_OF_JOBS: usize = 128 * 1024;
 
 struct Part {
     /// Writes a record by its number.
     record: fn(&mut Bytes, &mut Rng, u64),
     /// Writes records whose answers are none.
     spoiled: fn(&mut Bytes),
+    most_bytes: usize,
 }
 
 fn part(name: &str) -> Option<Part> {
@@ -29,9 +34,18 @@ fn part(name: &str) -> Option<Part> {
         "candidates" => (candidates::record, candidates::spoiled),
         "path" => (path::record, path::spoiled),
         "plan" => (plan::record, plan::spoiled),
+        "jobs" => (jobs::record, jobs::spoiled),
         _ => return None,
     };
-    Some(Part { record, spoiled })
+    let most_bytes = match name {
+        "jobs" => MOST_BYTES_OF_JOBS,
+        _ => MOST_BYTES,
+    };
+    Some(Part {
+        record,
+        spoiled,
+        most_bytes,
+    })
 }
 
 /// Writes `count` records to standard output, fewer where one more would be too many bytes, then
@@ -44,7 +58,7 @@ pub fn write(name: &str, count: u64, seed: u64) -> Result<(), String> {
     for i in 0..count {
         let whole = bytes.0.len();
         (part.record)(&mut bytes, &mut rng, i);
-        if bytes.0.len() + spoiled.len() > MOST_BYTES {
+        if bytes.0.len() + spoiled.len() > part.most_bytes {
             bytes.0.truncate(whole);
             eprintln!("{name}: {i} of {count} records");
             break;
@@ -63,26 +77,5 @@ impl Part {
         (self.record)(&mut bytes, &mut Rng::new(seed), 0);
         bytes.0.pop();
         bytes.0
-    }
-}
-
-/// Little-endian fields, one after the other without padding.
-struct Bytes(Vec<u8>);
-
-impl Bytes {
-    fn u32(&mut self, x: u32) {
-        self.0.extend(x.to_le_bytes());
-    }
-
-    fn u64(&mut self, x: u64) {
-        self.0.extend(x.to_le_bytes());
-    }
-
-    fn f32(&mut self, x: f32) {
-        self.u32(x.to_bits());
-    }
-
-    fn f64(&mut self, x: f64) {
-        self.u64(x.to_bits());
     }
 }

@@ -53,6 +53,13 @@ impl Tally {
         }
     }
 
+    /// What was asked for and never occurred.
+    #[cfg_attr(not(feature = "jobs"), allow(dead_code))]
+    pub fn never(&self) -> Vec<&'static str> {
+        let never = self.occurred.iter().filter(|(_, times)| *times == 0);
+        never.map(|(what, _)| *what).collect()
+    }
+
     pub fn inputs(&self) -> u64 {
         self.inputs
     }

@@ -4,8 +4,7 @@
 // Behind it stand the values (floats of 32 bits), the flags (bytes) and, for decibels alone, the levels (floats of 64 bits) of its frames;
 // left boundary, right boundary and reason of each candidate, of 32 bits each, and their costs (floats of 64 bits).
 use answers_shared::answer;
-use answers_shared::lists;
-use answers_shared::number;
+use answers_shared::pattern;
 use answers_shared::plan;
 use answers_shared::plan::Plan;
 use answers_shared::plan::Weights;
@@ -17,6 +16,8 @@ use answers_shared::settings;
 use answers_shared::tests;
 use answers_shared::tests::BEFORE;
 use capi::candidates;
+use numbers_in::lists;
+use numbers_in::number;
 ghost use mathlib.Core.Path.{_≡_};
 ghost use Prim.Native.Nat.{_+_, _*_, _≤_, _<_};
 ghost use lib.ListN.{length};
@@ -135,7 +136,7 @@ fn agrees(r: &[u8], values: &[f32], flags: &[u8], levels: &[f64], at: usize, n: 
     let mut work_f64 = [1f64; WORK];
     let mut ends = [BEFORE; ENDS];
     let mut costs = [1f64; COSTS];
-    let mut found = number::NO_ANSWER;
+    let mut found = pattern::NO_ANSWER;
     let refusal = ask(
         recording::recording_in(r),
         plan::plan_in(r),

@@ -1,10 +1,10 @@
 // One record: eight little-endian words of 64 bits, the subject, six arguments and the Rust's answer, a float as its bit pattern.
-use answers_shared::number;
-use answers_shared::number::bits;
-use answers_shared::number::narrow;
+use answers_shared::pattern::bits;
 use answers_shared::record::Replayed;
 use answers_shared::record::broken;
 use capi::convert;
+use numbers_in::number;
+use numbers_in::number::narrow;
 ghost use mathlib.Core.Path.{_≡_};
 ghost use Prim.Native.Nat.{_≤_, _<_};
 ghost use lib.ListN.{length};

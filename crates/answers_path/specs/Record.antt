@@ -5,7 +5,8 @@ use mathlib.Core.List.{List}
 use lib.Dec.{eqb}
 use lib.Ieee.{Float, binary64, ofBits}
 use Rattle.base_terms.specs.Lists.{allOf}
-use Rattle.answers_shared.specs.Sample.{u32At, u64At, bitsOf, before, isOnly, holds, areOnly}
+use Rattle.numbers_in.specs.Numbers.{u32At, u64At}
+use Rattle.answers_shared.specs.Sample.{bitsOf, before, isOnly, holds, areOnly}
 
 -- no refusal; a path of as many candidates as stored, with the score of the record's front, its cost bit for bit
 abbrev pub sameScore : (r : List ℕ) (n refusal found over : ℕ) (cost : Float) → Bool

@@ -1,13 +1,14 @@
 // One record: candidates, preferences, and the path that the Rust found. All numbers are little-endian, with nothing between them.
 // Its front has 68 bytes. From byte 0 on, of 32 bits each: candidates, 0 by length or 1 by count, count, candidates on the path, pieces over the limit; from byte 20 on, of 64 bits each: limit, and as floats min, target, target weight, short weight, cost of the path.
 // Then of each candidate the left ends, the right ends and the costs, of 64 bits each, and the path, of 32 bits each.
-use answers_shared::lists;
-use answers_shared::number;
+use answers_shared::pattern;
 use answers_shared::record::Replayed;
 use answers_shared::record::broken;
 use answers_shared::tests;
 use answers_shared::tests::BEFORE;
 use capi::best_path;
+use numbers_in::lists;
+use numbers_in::number;
 ghost use mathlib.Core.Path.{_≡_};
 ghost use Prim.Native.Nat.{_+_, _*_, _≤_, _<_};
 ghost use lib.ListN.{length};
@@ -69,7 +70,7 @@ fn same_score(r: &[u8], n: usize, refusal: u32, found: u64, over: u32, cost: f64
     (refusal == 0)
         & (found == n as u64)
         & (over == number::u32_at(r, 16))
-        & (number::bits(cost) == number::u64_at(r, 60))
+        & (pattern::bits(cost) == number::u64_at(r, 60))
 }
 
 // The lists are as the record says, the path from a place on.
@@ -104,7 +105,7 @@ fn agrees(r: &[u8], left: &[u64], right: &[u64], cost: &[f64], at: usize, n: usi
     let mut work_f64 = [1f64; WORK];
     let mut parent = [BEFORE; PARENTS];
     let mut path = [BEFORE; MOST];
-    let mut found = number::NO_ANSWER;
+    let mut found = pattern::NO_ANSWER;
     let mut over = BEFORE;
     let mut score_cost = 0.0 / 0.0;
     let refusal = ask(

@@ -4,7 +4,8 @@ use mathlib.Core.Bool.{Bool, _&&_, cond}
 use mathlib.Core.List.{List}
 use lib.Ieee.{Float}
 use Rattle.base_terms.specs.Lists.{allOf}
-use Rattle.answers_shared.specs.Sample.{u32At, before, isOnly, holdsWords}
+use Rattle.numbers_in.specs.Numbers.{u32At}
+use Rattle.answers_shared.specs.Sample.{before, isOnly, holdsWords}
 use Rattle.answers_shared.specs.Answer.{clearsWork, sameWork}
 
 -- the pieces stand in the record from a place on, and the cuts behind them; both lists are beyond them as before

@@ -3,7 +3,7 @@ use Prim.Native.Nat.{ℕ, _+_, _*_, _/_, _≤_}
 use mathlib.Core.Bool.{Bool, _&&_, cond}
 use mathlib.Core.List.{List}
 use lib.Dec.{leb, eqb}
-use Rattle.answers_shared.specs.Sample.{u32At}
+use Rattle.numbers_in.specs.Numbers.{u32At}
 use Rattle.answers_plan.specs.declared.sizes.Sizes.{Sizes}
 
 unfoldable pub sizesIn : List ℕ → Sizes

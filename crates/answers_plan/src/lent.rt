@@ -1,8 +1,8 @@
 // Tests of what a call left in the lent lists.
 use answers_shared::answer;
-use answers_shared::number;
 use answers_shared::tests;
 use answers_shared::tests::BEFORE;
+use numbers_in::number;
 ghost use mathlib.Core.Path.{_≡_};
 ghost use Prim.Native.Nat.{_+_, _*_, _≤_};
 ghost use lib.ListN.{length};

@@ -8,8 +8,7 @@ use crate::sizes::ROOM;
 use crate::sizes::Sizes;
 use crate::sizes::WORK;
 use answers_shared::answer;
-use answers_shared::lists;
-use answers_shared::number;
+use answers_shared::pattern;
 use answers_shared::plan;
 use answers_shared::plan::Plan;
 use answers_shared::plan::Weights;
@@ -19,6 +18,7 @@ use answers_shared::recording;
 use answers_shared::recording::Recording;
 use answers_shared::tests::BEFORE;
 use capi::plan::buchawzer_plan;
+use numbers_in::lists;
 ghost use Prim.Native.Nat.{_+_, _*_, _≤_, _<_};
 ghost use lib.ListN.{length};
 ghost use Rattle.answers_plan.specs.Sizes.{Fitting, listBytes, planBytes};
@@ -100,7 +100,7 @@ fn same_call(
     requires { ⌜ 3 * n ≤ length (now pieces) ⌝ }
     requires { ⌜ 3 * m ≤ length (now cuts) ⌝ }
 {
-    let mut found = number::NO_ANSWER;
+    let mut found = pattern::NO_ANSWER;
     let refusal = ask(
         recording::recording_in(r),
         plan::plan_in(r),

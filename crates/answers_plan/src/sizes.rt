@@ -4,8 +4,8 @@
 // entries of each work list, of the parent list, of the list for pieces and of the list for cuts.
 // Behind it stand the values (floats of 32 bits), the flags (bytes) and, for decibels alone, the levels (floats of 64 bits) of its frames;
 // start, end and flags of each piece, and previous end, next start and reason of each cut, of 64 bits each.
-use answers_shared::number;
 use answers_shared::settings;
+use numbers_in::number;
 ghost use mathlib.Core.Path.{_≡_};
 ghost use Prim.Native.Nat.{_+_, _≤_};
 ghost use lib.ListN.{length};

@@ -4,7 +4,8 @@ use mathlib.Core.Bool.{Bool, _&&_, _||_, cond}
 use mathlib.Core.List.{List}
 use lib.Dec.{eqb}
 use lib.Ieee.{Float, binary64, ofBits}
-use Rattle.answers_shared.specs.Sample.{u32At, noAnswer, before, areOnly}
+use Rattle.numbers_in.specs.Numbers.{u32At}
+use Rattle.answers_shared.specs.Sample.{noAnswer, before, areOnly}
 
 -- document 01's number is that of the record, and the number of those found is the stored one where there is no refusal, and as before where there is one
 abbrev pub sameNumbers : (r : List ℕ) (n refusal found : ℕ) → Bool

@@ -3,7 +3,7 @@ use Prim.Native.Nat.{ℕ}
 use mathlib.Core.Bool.{cond}
 use mathlib.Core.List.{List}
 use lib.Dec.{ltb, eqb}
-use Rattle.answers_shared.specs.Sample.{u32At, u64At, f32At, f64At}
+use Rattle.numbers_in.specs.Numbers.{u32At, u64At, f32At, f64At}
 use Rattle.answers_shared.specs.declared.recording.Recording.{Recording}
 use Rattle.answers_shared.specs.declared.plan.Plan.{Plan}
 use Rattle.answers_shared.specs.declared.plan.Weights.{Weights}

@@ -1,40 +1,12 @@
--- What a stored sample says at a place of its bytes: little-endian numbers, and floats by their bit patterns. Contracts cite these definitions.
-use Prim.Native.Nat.{ℕ, zero, suc, _+_, _*_, _%_}
+-- How an answer stands in a stored sample, and tests of lists against it. Contracts cite these definitions; numbers in bytes are those of numbers_in.
+use Prim.Native.Nat.{ℕ, zero, suc, _+_, _*_}
 use mathlib.Core.Bool.{Bool, true, _&&_, cond}
-use mathlib.Core.List.{List, [], _∷_}
-use lib.Dec.{ltb, eqb}
-use lib.Ieee.{Float, Format, nan, binary32, binary64, ofBits, toBits, isNan}
-use lib.ListN.{getD, take, drop}
+use mathlib.Core.List.{List}
+use lib.Dec.{eqb}
+use lib.Ieee.{Float, nan, binary64, toBits, isNan}
+use lib.ListN.{getD, drop}
 use Rattle.base_terms.specs.Lists.{allOf}
-
--- the number of some bytes, the lowest first; 64 bits of it are kept
-unfoldable pub numberOf : List ℕ → ℕ
-numberOf [] = 0
-numberOf (b ∷ bs) = numberOf bs % 72057594037927936 * 256 + b
-
--- of so many bytes at a place
-abbrev pub numberAt : List ℕ → ℕ → ℕ → ℕ
-numberAt s at size = numberOf (take size (drop at s))
-
-abbrev pub u64At : List ℕ → ℕ → ℕ
-u64At s at = numberAt s at 8
-
--- the low 32 bits
-abbrev pub low : ℕ → ℕ
-low w = w % 4294967296
-
-abbrev pub u32At : List ℕ → ℕ → ℕ
-u32At s at = low (numberAt s at 4)
-
--- the float of a pattern; one above the infinity's, but for its sign, is a NaN
-unfoldable pub floatOf : Format → ℕ → ℕ → ℕ → Float
-floatOf f infinity sign w = cond (ltb infinity (w % sign)) nan (ofBits f w)
-
-abbrev pub f32At : List ℕ → ℕ → Float
-f32At s at = floatOf binary32 2139095040 2147483648 (u32At s at)
-
-abbrev pub f64At : List ℕ → ℕ → Float
-f64At s at = floatOf binary64 9218868437227405312 9223372036854775808 (u64At s at)
+use Rattle.numbers_in.specs.Numbers.{u32At, u64At}
 
 -- a number that no function answers
 abbrev pub noAnswer : ℕ

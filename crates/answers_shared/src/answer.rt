@@ -1,7 +1,8 @@
 // What a call answered and left in work memory, beside what its record says: the refusal, 0 where there is none, stands at byte 164.
-use crate::number;
+use crate::pattern;
 use crate::tests;
 use crate::tests::BEFORE;
+use numbers_in::number;
 ghost use mathlib.Core.Path.{_≡_};
 ghost use mathlib.Core.Bool.{cond};
 ghost use Prim.Native.Nat.{_≤_};
@@ -17,7 +18,7 @@ fn count_left(refusal: u32, n: usize) -> u64
     if refusal == 0 {
         return n as u64;
     }
-    number::NO_ANSWER
+    pattern::NO_ANSWER
 }
 
 // The refusal and the number of those found are as the record says.

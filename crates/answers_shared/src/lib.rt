@@ -1,7 +1,6 @@
-// What the programs share that replay stored answers: numbers and lists in a sample's bytes, tests of what an operation left in lent lists, and the line that is printed.
+// What the programs share that replay stored answers: what a sample's bytes say, tests of what an operation left in lent lists, and the line that is printed.
 pub mod answer;
-pub mod lists;
-pub mod number;
+pub mod pattern;
 pub mod plan;
 pub mod record;
 pub mod recording;

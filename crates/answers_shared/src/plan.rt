@@ -2,8 +2,8 @@
 // From byte 72 on, of 64 bits each: min, target, max;
 // from byte 96 on, of 32 bits each: 1 by count, count, 1 where gaps are dropped, kind of placement, its ratio (a float);
 // from byte 116 on, of 64 bits each: cut, level, pause (floats), pause reference, target weight, short weight (floats). They end at byte 164.
-use crate::number;
 use crate::settings;
+use numbers_in::number;
 ghost use mathlib.Core.Path.{_≡_};
 ghost use Prim.Native.Nat.{_≤_};
 ghost use lib.ListN.{length};

@@ -1,8 +1,8 @@
 // The numbers of a recording and of its segment settings, at the front of a record.
 // From byte 0 on, of 32 bits each: frames, sample rate, channels, frame rate, hop, domain (1 for decibels), kind of threshold, its number (a float);
 // from byte 32 on, of 64 bits each: length, min silence, min sound, pre, tail. These are 72 bytes.
-use crate::number;
 use crate::settings;
+use numbers_in::number;
 ghost use mathlib.Core.Path.{_≡_};
 ghost use Prim.Native.Nat.{_≤_};
 ghost use lib.ListN.{length};

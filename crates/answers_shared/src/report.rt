@@ -3,7 +3,7 @@ ghost use mathlib.Core.Path.{_≡_};
 ghost use Rattle.answers_shared.specs.Tally.{UpTo, withRecord};
 
 // A sample has at most so many bytes. A program has room for one more, so that longer input is seen and not cut.
-pub const MOST: usize = 65_536;
+pub const MOST: usize = 131_072;
 
 // How many records were replayed, how many of them before the first that differs, and how many were answered otherwise or are not whole.
 // The last records of a sample are spoiled on purpose: where these three are known, so is which records differ.
@@ -37,7 +37,7 @@ pub fn too_long() -> Tally
 
 // With one record more, answered as it is stored or not.
 pub fn with_record(t: Tally, same: bool) -> Tally
-    requires { ⌜ UpTo 65536 t ⌝ }
+    requires { ⌜ UpTo 131072 t ⌝ }
     ensures { λ r. ⌜ r ≡ withRecord t same ⌝ }
 {
     let records = t.records + 1;

@@ -1,5 +1,6 @@
 // Tests of what an operation left in lent lists.
-use crate::number;
+use crate::pattern;
+use numbers_in::number;
 ghost use mathlib.Core.Path.{_≡_};
 ghost use mathlib.Core.Bool.{_&&_};
 ghost use Prim.Native.Nat.{_+_, _*_, _≤_};
@@ -45,7 +46,7 @@ fn same_f64(n: usize, list: &[f64], s: &[u8], at: usize) -> bool
 {
     let mut ok = true;
     for i in 0..n {
-        ok = ok & (number::bits(list[i]) == number::u64_at(s, at + 8 * i));
+        ok = ok & (pattern::bits(list[i]) == number::u64_at(s, at + 8 * i));
     }
     ok
 }
@@ -78,7 +79,7 @@ fn only_f64(list: &[f64], x: f64) -> bool
 {
     let mut ok = true;
     for i in 0..list.len() {
-        ok = ok & (number::bits(list[i]) == number::bits(x));
+        ok = ok & (pattern::bits(list[i]) == pattern::bits(x));
     }
     ok
 }

@@ -1,8 +1,7 @@
 // One record: a recording, settings, and the silences that the Rust found. All numbers are little-endian, with nothing between them.
 // Its front has 72 bytes, which are the recording (answers_shared::recording).
 // Then the values (floats of 32 bits), the flags (bytes) and, for decibels alone, the levels (floats of 64 bits) of its frames; the number of silences, and two numbers of 32 bits for each.
-use answers_shared::lists;
-use answers_shared::number;
+use answers_shared::pattern;
 use answers_shared::record::Replayed;
 use answers_shared::record::broken;
 use answers_shared::recording;
@@ -11,6 +10,8 @@ use answers_shared::settings;
 use answers_shared::tests;
 use answers_shared::tests::BEFORE;
 use capi::silences;
+use numbers_in::lists;
+use numbers_in::number;
 ghost use mathlib.Core.Path.{_≡_};
 ghost use Prim.Native.Nat.{_+_, _*_, _≤_, _<_};
 ghost use lib.ListN.{length};
@@ -103,7 +104,7 @@ fn agrees(
     let mut work_u64 = [1u64; WORK];
     let mut work_f64 = [1f64; WORK];
     let mut out = [BEFORE; OUT];
-    let mut count = number::NO_ANSWER;
+    let mut count = pattern::NO_ANSWER;
     let refusal = ask(
         recording::recording_in(r),
         values,

@@ -20,3 +20,5 @@ pub mod CandidatesTheorems
 pub mod Plans
 -- PlansTheorems: the call's number is 0 exactly where a plan was made (`plan-called-zero`), and then all theorems on plans hold of it (`plan-called`)
 pub mod PlansTheorems
+-- RecordsTheorems: of a plan that was made, record i is piece i with its flags (`records-made`), or the cut after it (`cut-records-made`)
+pub mod RecordsTheorems

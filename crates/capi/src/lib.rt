@@ -2,7 +2,9 @@
 pub mod best_path;
 pub mod candidates;
 pub mod convert;
+pub mod jobs;
 pub mod plan;
 pub mod recording;
+pub mod records;
 pub mod silences;
 pub mod work;

@@ -120,7 +120,7 @@ pub fn frames_ok(sample_rate: u32, frame_rate: u32, hop: u32) -> bool
 }
 
 // How many levels go with so many frames.
-fn level_count(domain: Domain, frames: usize) -> usize
+pub fn level_count(domain: Domain, frames: usize) -> usize
     ensures { λ r. ⌜ r ≡ levelCount domain frames ⌝ }
 {
     match domain {

@@ -7,10 +7,10 @@ use Rattle.base_laws.specs.Tests.{holds}
 use Rattle.grid.specs.declared.validate.Recording.{Recording}
 use Rattle.silence_list.specs.declared.config.SegmentConfig.{SegmentConfig}
 use Rattle.candidate_settings.specs.declared.config.PlanConfig.{PlanConfig}
-use Prim.Native.Nat.{ℕ}
+use Prim.Native.Nat.{ℕ, _≤_}
 use native.Mathlib.Omega.{arith}
 use Rattle.plan_tests.specs.Refusal as tests
-use Rattle.plan_tests.specs.RefusalLaws.{number-fine}
+use Rattle.plan_tests.specs.RefusalLaws.{number-fine, number-most}
 use Rattle.plan_pieces.specs.Answer.{numberOf}
 use Rattle.plan_pieces.specs.declared.answer.Answer.{Answer}
 use Rattle.plan_pieces.specs.declared.answer.Answer.the-variants.{Planned, Refused, ShortParent, NoReach, ShortOutput}
@@ -42,3 +42,11 @@ number-zero (Refused v) n e = absurd (n e)
 number-zero ShortParent n e = absurd (omega (arith, e))
 number-zero NoReach n e = absurd (omega (arith, e))
 number-zero ShortOutput n e = absurd (omega (arith, e))
+
+-- the highest is 18
+pub answer-most : (a : Answer) → numberOf a ≤ 18
+answer-most (Planned pieces) = omega arith
+answer-most (Refused v) = omega (arith, number-most v)
+answer-most ShortParent = omega arith
+answer-most NoReach = omega arith
+answer-most ShortOutput = omega arith

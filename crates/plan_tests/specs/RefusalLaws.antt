@@ -182,3 +182,14 @@ never-work r segment plan values flags levels n32 n64 nf t = rw t
     (neither 13 (ratioOk (plan .placement)) BadRatio _ (λ e. omega (arith, e))
     (neither 13 (weightsOk (plan .weights)) BadWeights _ (λ e. omega (arith, e))
     (neither 13 (thresholdOk (segment .threshold)) BadThreshold Fine (λ e. omega (arith, e)) (λ e. omega (arith, e))))))))
+
+-- the highest is 13
+pub number-most : (v : Verdict) → numberOf v ≤ 13
+number-most Fine = omega arith
+number-most (BadRecording v) = omega (arith, recording-most v)
+number-most BadDurations = omega arith
+number-most BadCount = omega arith
+number-most BadRatio = omega arith
+number-most BadWeights = omega arith
+number-most BadThreshold = omega arith
+number-most ShortWork = omega arith

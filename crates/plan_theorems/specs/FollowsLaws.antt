@@ -1,5 +1,5 @@
 -- A plan that is handed out along a path: its numbers are those of the path's pieces and cuts, which are the pieces and cuts of the division along it.
-use mathlib.Core.Path.{_≡_, refl, sym, ap, _∙_}
+use mathlib.Core.Path.{_≡_, refl, sym, ap, subst, _∙_}
 use mathlib.Core.List.{List, [], _∷_}
 use Prim.Native.Nat.{ℕ, zero, suc, _+_, _-_, _*_, _≤_, _<_}
 use native.Mathlib.Omega.{arith}
@@ -25,11 +25,10 @@ use Rattle.plan_pieces.specs.Flags.{flagsOf}
 use Rattle.plan_pieces.specs.FlagsLaws.{long-stands, short-stands, flags-most}
 use Rattle.plan_pieces.specs.NumbersLaws.{Numbers, piece-numbers, cut-numbers}
 use Rattle.plan_pieces.specs.PlanAlong.{reasonsOf, planPieces, planCuts}
-use Rattle.plan_pieces.specs.PlanAlongLaws.{plan-lengths}
-use Rattle.plan_pieces.specs.Output.{Output}
+use Rattle.plan_pieces.specs.PlanAlongLaws.{reasons-few, plan-lengths}
 use Rattle.plan_pieces.specs.Output.{Output}
 use Rattle.plan_theorems.specs.EndsLaws.{HandedAlong}
-use Rattle.plan_theorems.specs.Made.{startAt, endAt, flagsAt, lengthAt, Written, Flagged, Shows, Follows}
+use Rattle.plan_theorems.specs.Made.{startAt, endAt, flagsAt, lengthAt, reasonAt, Written, Flagged, Shows, Follows}
 
 -- ---- a path by its numbers
 
@@ -151,3 +150,8 @@ module _ (g : FrameGrid) (plan : PlanConfig) (s : Span) (cs : List Candidate) (p
     short = λ i l. rw (flags-are i l) (short-stands (minimumIn g plan) (maximumIn g plan) (lengthAt after i));
     both = λ i l. rw (flags-are i l) (flags-most (minimumIn g plan) (maximumIn g plan) (lengthAt after i));
   }
+
+  -- the reasons are those of candidates
+  pub along-reasoned : (i : ℕ) → suc i < k → reasonAt after i ≤ 2
+  along-reasoned i l =
+      subst (λ (n : ℕ). n ≤ 2) (sym (cut-number-at g plan cs path k before after h (3 * i + 2) (omega (arith, l)) ∙ cut-three i l .three)) (reasons-few cs (getD path (suc i) 0))

@@ -61,12 +61,15 @@ flagsAt out i = getD (out .pieces) (3 * i + 2) 0
 abbrev pub lengthAt : Output → ℕ → ℕ
 lengthAt out i = endAt out i - startAt out i
 
--- cut i, between piece i and the next; its third number is its reason
+-- cut i, between piece i and the next
 abbrev pub previousEnd : Output → ℕ → ℕ
 previousEnd out i = getD (out .cuts) (3 * i) 0
 
 abbrev pub nextStart : Output → ℕ → ℕ
 nextStart out i = getD (out .cuts) (3 * i + 1) 0
+
+abbrev pub reasonAt : Output → ℕ → ℕ
+reasonAt out i = getD (out .cuts) (3 * i + 2) 0
 
 -- f 0 + f 1 + .., n of them
 abbrev pub sumOf : (ℕ → ℕ) → ℕ → ℕ
@@ -200,6 +203,8 @@ module _ (r : Recording) (segment : SegmentConfig) (plan : PlanConfig) (values :
     pub few : k ≤ length values
     pub fills : Fills (boundaryOf g (s .first)) (boundaryOf g (s .last)) k out
     pub flagged : Flagged minimum maximum k out
+    -- silence, quiet or forced: there are no other reasons
+    pub reasoned : (i : ℕ) → suc i < k → reasonAt out i ≤ 2
 
   -- a plan of k pieces was made: `before` is what the output held, `after` what it holds
   pub record Made (k : ℕ) (before after : Output) : Type 0 where

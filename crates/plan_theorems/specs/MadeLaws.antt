@@ -68,10 +68,10 @@ use Rattle.plan_lengths.specs.PlanLengthsLaws.{by-length-preferred, by-count-pr
 use Rattle.plan_pieces.specs.Output.{Output}
 use Rattle.planner.specs.Plan.{completedByLength, pathByLength, suffices, completedByCount}
 use Rattle.planner.specs.Operation.{spanOfPlan, candidatesWith}
-use Rattle.plan_theorems.specs.Made.{Fills, Flagged, Shows, Suffices, PlanByLength, PlanAtFirst, PlanWithReach, SoughtOver, FewParents, ReachMissing}
+use Rattle.plan_theorems.specs.Made.{reasonAt, Fills, Flagged, Shows, Suffices, PlanByLength, PlanAtFirst, PlanWithReach, SoughtOver, FewParents, ReachMissing}
 use Rattle.plan_theorems.specs.Made as made
 use Rattle.plan_theorems.specs.ShowsLaws.{shows-fills}
-use Rattle.plan_theorems.specs.FollowsLaws.{along-follows, along-shows, along-flagged}
+use Rattle.plan_theorems.specs.FollowsLaws.{along-follows, along-shows, along-flagged, along-reasoned}
 use Rattle.plan_theorems.specs.EndsLaws.{HandedAlong, along, short-parent, without-reach, CountEnd, first-short, at-first, reach-none, second-short, with-reach, few-parents}
 
 module _ (r : Recording) (segment : SegmentConfig) (plan : PlanConfig) (values : List Float) (flags : List ℕ) (lent : List Float) (n32 n64 nf : ℕ)
@@ -194,12 +194,14 @@ module _ (r : Recording) (segment : SegmentConfig) (plan : PlanConfig) (values :
       pub record Laid (k : ℕ) (after : Output) : Type 0 where
         pub fills : Fills (boundaryOf g (s .first)) (boundaryOf g (s .last)) k after
         pub flagged : Flagged (minimumIn g plan) maximum k after
+        pub reasoned : (i : ℕ) → suc i < k → reasonAt after i ≤ 2
 
       laid : (cs : List Candidate) (path : List ℕ) (k : ℕ) (before after : Output) → Across s cs → Rising cs path → Division s (cutsAlong cs path)
           → HandedAlong g plan cs path k before after → Laid k after
       laid cs path k before after across rising d h = record {
         fills = shows-fills g (p .accepted) s within (cutsAlong cs path) d k after (along-shows g plan s cs path k before after across rising h);
         flagged = along-flagged g plan s cs path k before after across rising h;
+        reasoned = along-reasoned g plan s cs path k before after across rising h;
       }
 
       -- ---- by length

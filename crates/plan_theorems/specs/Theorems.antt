@@ -269,6 +269,7 @@ module _ (r : Recording) (segment : SegmentConfig) (plan : PlanConfig) (values :
           few = few-pieces (plan .mode) refl;
           fills = laid (plan .mode) refl .fills;
           flagged = laid (plan .mode) refl .flagged;
+          reasoned = laid (plan .mode) refl .reasoned;
         }
 
     written : (b : Bool) → isEmpty ≡ b → Written k out (call out .out)

@@ -66,7 +66,7 @@ fn times(name: &str, job: &Job) -> Times {
             let answer = Answer {
                 ends: &mut ends,
                 costs: &mut costs,
-                count: &mut count,
+                found: &mut count,
             };
             let lent = black_box(case).lent();
             ours::candidates::candidates(&lent, settings, &job.plan, work, answer)

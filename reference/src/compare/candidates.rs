@@ -191,7 +191,7 @@ impl Caller {
         let answer = ours::candidates::Answer {
             ends: self.ends.lend(),
             costs: self.costs.lend(),
-            count,
+            found: count,
         };
         let (case, settings) = (&job.recording.case, &job.recording.settings);
         let work = self.silences.work.lend();

@@ -15,6 +15,15 @@ pub trait Entry: Copy + Debug {
     fn word(self) -> u64;
 }
 
+impl Entry for u8 {
+    fn of(word: u64) -> Self {
+        word as u8
+    }
+    fn word(self) -> u64 {
+        self.into()
+    }
+}
+
 impl Entry for u32 {
     fn of(word: u64) -> Self {
         word as u32

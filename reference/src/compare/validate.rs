@@ -1,15 +1,13 @@
 //! The recording's tests: which recordings are covered, and which refusal comes first.
 
 pub(super) mod changes;
-pub(super) mod expected;
 
 use std::iter;
-
-use expected::expected;
 
 use super::Subject;
 use crate::case::Case;
 use crate::domain::MOST_FRAMES;
+use crate::first_refusal;
 use crate::ours;
 use crate::recording::{self, Recording};
 use crate::rng::Rng;
@@ -35,7 +33,8 @@ pub fn subjects() -> impl Iterator<Item = Subject> {
 fn each(n: u64, tally: &mut Tally, trials: &[Case], mut make: impl FnMut(u64) -> Case) {
     for i in 0..n {
         let case = trials.get(i as usize).cloned().unwrap_or_else(|| make(i));
-        let (ours, expected) = (ours::validate(&case.lent()), expected(&case));
+        let ours = ours::validate(&case.lent());
+        let expected = first_refusal::of_recording(&case);
         tally.take(ours == expected, case.weight(), || {
             format!("{}: ours {ours}, expected {expected}", case.show())
         });

@@ -10,7 +10,7 @@ use Rattle.answers_candidates.proofs.replay_all.Statement.{statement}
 use Rattle.answers_candidates.proofs.replay_all.Tie as tie
 
 abbrev Inv-loop : tie.InvT-loop
-Inv-loop s tally₀ at₀ tally at = (at ≤ length s) × (length s ≤ 65536) × UpTo at tally
+Inv-loop s tally₀ at₀ tally at = (at ≤ length s) × (length s ≤ 131072) × UpTo at tally
 
 abbrev μ-loop : tie.MeasureT-loop
 μ-loop s tally₀ at₀ tally at = length s - at
@@ -43,7 +43,7 @@ add-at : tie.Need-add-at Inv-loop μ-loop
 add-at c = omega (arith, rest-length (c .before .before .before .before .loop .at) (c .before .before .before .before .before .before .before .before .args .s .now))
 
 with-record-requires : tie.Need-with-record-requires Inv-loop μ-loop
-with-record-requires c κs = let l = c .before .before .before .before .loop in up-more (l .at) 65536 (l .tally) (omega (arith, l .inv .0, l .inv .1)) (l .inv .2)
+with-record-requires c κs = let l = c .before .before .before .before .loop in up-more (l .at) 131072 (l .tally) (omega (arith, l .inv .0, l .inv .1)) (l .inv .2)
 
 loop-less : tie.Need-loop-less Inv-loop μ-loop
 loop-less c =

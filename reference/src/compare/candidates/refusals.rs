@@ -5,6 +5,7 @@ use crate::compare::Amount;
 use crate::compare::aims::aims;
 use crate::compare::silences::{WORK, refusals as silences};
 use crate::domain::{MOST_COUNT, MOST_FRAMES, MOST_NANOS};
+use crate::first_refusal;
 use crate::plan_job::{Found, Job, Settings};
 use crate::rng::Rng;
 use crate::silence_job;
@@ -28,7 +29,7 @@ pub fn refusals(amount: Amount, rng: &mut Rng, tally: &mut Tally) {
         for number in &aims {
             change(&mut job, rng, *number);
         }
-        let refusal = before_lists(&job);
+        let refusal = first_refusal::of_plan(&job);
         let frames = job.recording.case.values.len();
         // A large job is refused by its lists, and its candidates would take long.
         let found = if refusal == 0 && (frames as u64) < MOST_FRAMES {
@@ -128,31 +129,6 @@ fn weights(plan: &mut Settings, rng: &mut Rng) {
             ];
             *five[i as usize - 1] = rng.choose(&any);
         }
-    }
-}
-
-/// The first refusal for what the recording and the settings are, or 0. Document 01's order is up
-/// to here the order of its numbers.
-pub fn before_lists(job: &Job) -> u32 {
-    let found = [
-        silences::before_lists(&job.recording),
-        only_document_01(&job.plan),
-        job.plan.refusal(),
-    ];
-    found.into_iter().filter(|n| *n != 0).min().unwrap_or(0)
-}
-
-/// The limits that the Rust does not have.
-fn only_document_01(plan: &Settings) -> u32 {
-    let lengths = [plan.min, plan.target, plan.max];
-    if lengths.iter().any(|d| *d > MOST_NANOS) {
-        7
-    } else if plan.by_count && !(1..=MOST_COUNT).contains(&plan.count.into()) {
-        8
-    } else if plan.weights.pause_ref > MOST_NANOS {
-        10
-    } else {
-        0
     }
 }
 

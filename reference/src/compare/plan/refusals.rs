@@ -3,9 +3,10 @@
 use super::{Caller, Sizes, take};
 use crate::compare::Amount;
 use crate::compare::aims::aims;
-use crate::compare::candidates::refusals::{any_levels, before_lists, change};
+use crate::compare::candidates::refusals::{any_levels, change};
 use crate::compare::silences::{WORK, refusals as silences};
 use crate::domain::MOST_FRAMES;
+use crate::first_refusal;
 use crate::plan_job::Job;
 use crate::plan_job::planned::{Course, Planned};
 use crate::rng::Rng;
@@ -35,7 +36,7 @@ pub fn refusals(amount: Amount, rng: &mut Rng, tally: &mut Tally) {
             change(&mut job, rng, *number);
         }
         job.only_rusts_thresholds();
-        let first = before_lists(&job);
+        let first = first_refusal::of_plan(&job);
         let answer = if first == 0 { answer(&mut job) } else { None };
         let sizes = sizes(rng, &job, answer.as_ref(), &aims);
         let refusal = match first {

@@ -4,8 +4,9 @@ use super::{Caller, Sizes, WORK, take};
 use crate::compare::Amount;
 use crate::compare::aims::aims;
 use crate::compare::lists::enough;
-use crate::compare::validate::{changes, expected};
+use crate::compare::validate::changes;
 use crate::domain::{MOST_FRAMES, MOST_NANOS};
+use crate::first_refusal;
 use crate::rng::Rng;
 use crate::silence_job::Job;
 use crate::tally::Tally;
@@ -29,7 +30,7 @@ pub fn refusals(amount: Amount, rng: &mut Rng, tally: &mut Tally) {
         for number in &aims {
             change(&mut job, rng, *number);
         }
-        let refusal = before_lists(&job);
+        let refusal = first_refusal::of_silences(&job);
         let silences = if refusal == 0 {
             job.silences()
         } else {
@@ -70,17 +71,6 @@ pub fn change(job: &mut Job, rng: &mut Rng, number: u32) {
             job.settings.threshold = rng.choose(&[numbers, finite].concat());
         }
         _ => {}
-    }
-}
-
-/// The first refusal for what the recording and the settings are, or 0.
-pub fn before_lists(job: &Job) -> u32 {
-    let s = &job.settings;
-    let durations = [s.min_silence, s.min_sound, s.pre, s.tail];
-    match expected::expected(&job.case) {
-        0 if durations.iter().any(|d| *d > MOST_NANOS) => 7,
-        0 if s.kind > 2 || (s.kind > 0 && !s.threshold.is_finite()) => 11,
-        first => first,
     }
 }
 

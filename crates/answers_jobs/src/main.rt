@@ -1,0 +1,26 @@
+// Replays a stored sample of jobs with the listings of the Rust's plans, which stands on standard input, and prints how many records agree and how many differ.
+// What a record holds is said in record.rt.
+mod record;
+
+use answers_shared::report;
+use answers_shared::report::Tally;
+
+fn replay_all(s: &[u8]) -> Tally {
+    if report::MOST < s.len() {
+        return report::too_long();
+    }
+    let mut tally = report::nothing();
+    let mut at: usize = 0;
+    while at < s.len() {
+        let replayed = record::replay(&s[at..]);
+        at += replayed.size;
+        tally = report::with_record(tally, replayed.same);
+    }
+    tally
+}
+
+fn main() {
+    let mut buf = [0u8; report::MOST + 1];
+    let n = io::read_full(0, &mut buf);
+    report::print(b"jobs", replay_all(&buf[..n]));
+}

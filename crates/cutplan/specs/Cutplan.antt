@@ -1,0 +1,39 @@
+-- Document 01's program `cutplan`, from the bytes of a job to those of its listing: `cutplanOf`.
+use Prim.Native.Nat.{ℕ}
+use mathlib.Core.Bool.{Bool, cond}
+use mathlib.Core.List.{List}
+use lib.Dec.{ltb}
+use lib.ListN.{length}
+use Rattle.base_terms.specs.Lists.{onto}
+use Rattle.job.specs.Answer.{faultNumber}
+use Rattle.job.specs.Job.{Outcome, asks, fails, jobOf}
+use Rattle.listing.specs.Listing.{refusalLine}
+use Rattle.cutplan.specs.Lines.{longestListing, linesOfPlan}
+
+-- the lines for a job, or that of refusal 19
+unfoldable pub printedFor : Outcome → List ℕ
+printedFor (asks a) = linesOfPlan (a .recording) (a .segment) (a .settings) (a .values) (a .flags) (a .levels)
+printedFor (fails fault at) = refusalLine (faultNumber fault)
+
+-- what `cutplan` prints for the bytes that it reads
+abbrev pub cutplanOf : List ℕ → List ℕ
+cutplanOf job = printedFor (jobOf job)
+
+-- ---- into a lent list
+
+-- how many bytes the listing has, and the list that it was written to
+pub record Printed : Type 0 where
+  pub size : ℕ
+  pub listing : List ℕ
+
+abbrev pub printed : ℕ → List ℕ → Printed
+printed size listing = record { size = size; listing = listing }
+
+abbrev pub pickPrinted : Bool → Printed → Printed → Printed
+pickPrinted test a b = cond test a b
+
+-- the listing at the front of a lent list, which is untouched beyond it; nothing where the list could be too short for some listing
+unfoldable pub printedInto : List ℕ → List ℕ → Printed
+printedInto job listing =
+    pickPrinted (ltb (length listing) longestListing) (printed 0 listing)
+    (printed (length (cutplanOf job)) (onto (cutplanOf job) listing))

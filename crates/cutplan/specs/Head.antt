@@ -1,0 +1,9 @@
+-- The lines for a job by its head.
+use Prim.Native.Nat.{ℕ}
+use mathlib.Core.List.{List}
+use Rattle.job.specs.Job.{valuesIn, flagsIn, levelsIn}
+use Rattle.job.specs.declared.answer.Head.{Head}
+use Rattle.cutplan.specs.Lines.{linesOfPlan}
+
+abbrev pub linesOfHead : List ℕ → Head → List ℕ
+linesOfHead job h = linesOfPlan (h .recording) (h .segment) (h .settings) (valuesIn job h) (flagsIn job h) (levelsIn job h)

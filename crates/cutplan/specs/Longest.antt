@@ -1,0 +1,108 @@
+-- No listing is longer than `longestListing`, whatever the input: a plan has at most 511 pieces, and no number of it has more than 64 bits.
+use mathlib.Core.Path.{_≡_, refl, sym, ap, subst, _∙_}
+use mathlib.Core.List.{List}
+use Prim.Native.Nat.{ℕ, suc, _+_, _-_, _*_, _≤_, _<_}
+use native.Mathlib.Omega.{arith}
+use lib.ListN.{length, getD}
+use Rattle.grid.specs.Boundary.{boundaryOf}
+use Rattle.grid.specs.BoundaryLaws.{boundary-le-len}
+use Rattle.grid.specs.Validate.{gridOf}
+use Rattle.grid.specs.declared.boundary.FrameGrid.{FrameGrid}
+use Rattle.path_pieces.specs.declared.mode.Mode.{Mode}
+use Rattle.path_pieces.specs.declared.mode.Mode.the-variants.{ByLength, ByCount}
+use Rattle.candidate_span.specs.Gaps.{Cut}
+use Rattle.division.specs.Division.{Span}
+use Rattle.plan_tests.specs.PlanReady.{PlanReady, passed-ready}
+use Rattle.plan_tests.specs.RefusalLaws.{passed}
+use Rattle.plan_pieces.specs.Answer.{numberOf}
+use Rattle.plan_pieces.specs.AnswerLaws.{answer-most}
+use Rattle.plan_pieces.specs.Output.{Output}
+use Rattle.plan_pieces.specs.declared.answer.Answer.{Answer}
+use Rattle.plan_pieces.specs.declared.answer.Answer.the-variants.{Planned, Refused, ShortParent, NoReach, ShortOutput}
+use Rattle.planner.specs.Operation.{spanOfPlan}
+use Rattle.plan_theorems.specs.Made.{startAt, endAt, Shows, Written}
+use Rattle.plan_theorems.specs.Theorems.{plan-made, plan-ended}
+use Rattle.job.specs.Job.{Asked, Outcome, asks, fails, jobOf}
+use Rattle.job.specs.Theorems.{fault-number}
+use Rattle.job.specs.declared.answer.Fault.{Fault}
+use Rattle.listing.specs.Listing.{listingOf}
+use Rattle.listing.specs.Rows.{Wide, AllWide}
+use Rattle.listing.specs.FitsLaws.{listing-fits, refusal-fits}
+use Rattle.cutplan.specs.Memory.{lentWork, lentParents}
+use Rattle.cutplan.specs.Lines.{longestListing, linesFor, lentOutput}
+use Rattle.cutplan.specs.Cutplan.{printedFor, cutplanOf}
+use Rattle.cutplan.specs.WideLaws.{wide-rows}
+use Rattle.cutplan.specs.Theorems.{endFor, job-lines, of-span}
+
+module _ (job : List ℕ) (a : Asked) (read : jobOf job ≡ asks a) where
+  abbrev out : Output
+  out = endFor job a read .out
+
+  abbrev g : FrameGrid
+  g = gridOf (a .recording) (length (a .values))
+
+  abbrev s : Span
+  s = spanOfPlan (a .recording) (a .segment) (a .settings) (a .values) (a .flags) (a .levels)
+
+  module _ (n : ℕ) (made : endFor job a read .answer ≡ Planned n) where
+    written : Written n lentOutput out
+    written = plan-made (a .recording) (a .segment) (a .settings) (a .values) (a .flags) (a .levels) lentOutput lentWork lentParents n made .written
+
+    ready : PlanReady (a .recording) (a .segment) (a .settings) (a .values) (a .flags) (a .levels) (length (lentWork .u32s)) (length (lentWork .u64s)) (length (lentWork .f64s))
+    ready =
+        passed-ready (a .recording) (a .segment) (a .settings) (a .values) (a .flags) (a .levels) _ _ _
+        (passed (a .recording) (a .segment) (a .settings) (a .values) (a .flags) (a .levels) _ _ _
+        (plan-ended (a .recording) (a .segment) (a .settings) (a .values) (a .flags) (a .levels) lentOutput lentWork lentParents .accepted n made))
+
+    -- a boundary lies within the recording, which has at most 2^40 samples
+    boundary-wide : (k : ℕ) → Wide (boundaryOf g k)
+    boundary-wide k = omega (arith, boundary-le-len g (ready .accepted) k, ready .length-bounded)
+
+    -- pieces and cuts stand at boundaries
+    shown : 0 < n → (cuts : List Cut) × Shows g s cuts n out
+    shown pieces = go (a .settings .mode) refl
+      where
+        go : (m : Mode) → a .settings .mode ≡ m → (cuts : List Cut) × Shows g s cuts n out
+        go ByLength e = let d = of-span job a read n made pieces .demand-by-length e in (d .0, d .1)
+        go (ByCount count) e = let d = of-span job a read n made pieces .demand-by-count count e in (d .0, d .1)
+
+    piece-wide : (k : ℕ) → k < n → Wide (startAt out k) × Wide (endAt out k)
+    piece-wide k h =
+        let shows = shown (omega (arith, h)) .1 in
+        (subst Wide (sym (shows .piece-start k h)) (boundary-wide _), subst Wide (sym (shows .piece-end k h)) (boundary-wide _))
+
+    pieces-wide : AllWide (out .pieces)
+    pieces-wide = wide-rows (out .pieces) n 1533 (written .pieces)
+        (λ k h. (piece-wide k h .0, piece-wide k h .1, omega (arith, of-span job a read n made (omega (arith, h)) .flagged .both k h)))
+
+    cuts-wide : AllWide (out .cuts)
+    cuts-wide = wide-rows (out .cuts) (n - 1) 1533 (written .cuts)
+        (λ k h.
+        let span = of-span job a read n made (omega (arith, h)) in
+        let lies = span .fills .cuts k (omega (arith, h)) in (
+          subst Wide (sym (lies .0)) (piece-wide k (omega (arith, h)) .1),
+          subst Wide (sym (lies .1)) (piece-wide (suc k) (omega (arith, h)) .0),
+          omega (arith, span .reasoned k (omega (arith, h))),
+        ))
+
+    plan-short : length (listingOf n (out .pieces) (out .cuts)) ≤ longestListing
+    plan-short = omega (arith, listing-fits n (out .pieces) (out .cuts) (omega (arith, written .fits .0)) pieces-wide cuts-wide, written .fits .0)
+
+  answer-short : (b : Answer) → endFor job a read .answer ≡ b → length (linesFor b out) ≤ longestListing
+  unfolding linesFor
+  answer-short (Planned n) e = plan-short n e
+  answer-short (Refused v) e = omega (arith, refusal-fits (numberOf (Refused v)) (omega (arith, answer-most (Refused v))))
+  answer-short ShortParent e = omega (arith, refusal-fits 14 (omega arith))
+  answer-short NoReach e = omega (arith, refusal-fits 18 (omega arith))
+  answer-short ShortOutput e = omega (arith, refusal-fits 12 (omega arith))
+
+-- whatever the input
+pub cutplan-short : (job : List ℕ) → length (cutplanOf job) ≤ longestListing
+cutplan-short job = go (jobOf job) refl
+  where
+    go : (o : Outcome) → jobOf job ≡ o → length (cutplanOf job) ≤ longestListing
+    go (asks a) e = subst (λ (text : List ℕ). length text ≤ longestListing) (sym (job-lines job a e)) (answer-short job a e (endFor job a e .answer) refl)
+    go (fails fault at) e = subst (λ (o : Outcome). length (printedFor o) ≤ longestListing) (sym e) (fault-short fault at)
+      where
+        fault-short : (fault : Fault) (at : ℕ) → length (printedFor (fails fault at)) ≤ longestListing
+        fault-short fault at = unfold printedFor in rw (fault-number fault) (omega (arith, refusal-fits 19 (omega arith)))

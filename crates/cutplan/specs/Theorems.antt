@@ -1,0 +1,148 @@
+-- What is claimed of `cutplan`, for every input, with no hypothesis but what the reader makes of it.
+--   never-short       of a job that is read, Plan never says 12 or 13: the lists that it is lent are long enough
+--   cutplan-parsed    what is printed for an accepted job, parsed, is the plan's pieces and cuts
+--   cutplan-refused   what is printed for one that Plan refuses, parsed, is its number; cutplan-unread: bytes that are no job are refused by 19
+--   cutplan-encoded   of every job within the limits, encoded, that job's lines are printed
+use mathlib.Core.Path.{_≡_, refl, sym, ap, subst, _∙_}
+use mathlib.Core.Bool.{Bool, true, false}
+use mathlib.Core.Logic.{inl, inr}
+use mathlib.Core.List.{List}
+use mathlib.Core.Option.{some}
+use Prim.Native.Nat.{ℕ, _-_, _≤_, _<_}
+use native.Mathlib.Omega.{arith}
+use lib.Dec.{T}
+use lib.Ieee.{Float, Format, nan, binary32, binary64, fits}
+use lib.Ieee.Bits.{ofBits-fits}
+use lib.Ieee.Fits.{nan-fits}
+use lib.ListN.{length, getD, List·getD-eq-default}
+use Rattle.base_terms.specs.Lists.{tabulate}
+use Rattle.base_code.specs.FrontLaws.{tabulate-length, tabulate-at}
+use Rattle.base_laws.specs.Tests.{holds, lt-or-le, tested}
+use Rattle.grid.specs.declared.validate.Domain.{Domain}
+use Rattle.grid.specs.declared.validate.Domain.the-variants.{Decibels, Scores}
+use Rattle.candidate_finder.specs.SpanIn.{emptyIn}
+use Rattle.plan_tests.specs.Fitting.{Fitting}
+use Rattle.plan_pieces.specs.Answer.{numberOf}
+use Rattle.plan_pieces.specs.declared.answer.Answer.the-variants.{Planned}
+use Rattle.planner.specs.Operation.{End}
+use Rattle.plan_theorems.specs.Made.{MadeOfSpan}
+use Rattle.plan_theorems.specs.Theorems.{plan-made}
+use Rattle.job.specs.Job.{readOf, valuesIn, levelsFor, levelsIn, Asked, Outcome, asks, fails, withLists, jobOf}
+use Rattle.job.specs.JobLaws.{read-within, values-length}
+use Rattle.job.specs.Encode.{encode, Encodable}
+use Rattle.job.specs.Theorems.{fault-number, read-encoded}
+use Rattle.job.specs.declared.answer.Fault.{Fault}
+use Rattle.job.specs.declared.answer.Head.{Head}
+use Rattle.job.specs.declared.answer.Reading.{Reading}
+use Rattle.job.specs.declared.answer.Reading.the-variants.{Job, Refused}
+use Rattle.listing.specs.Rows.{rowsOf}
+use Rattle.listing.specs.Parse.{parsedOf, planned, refused}
+use Rattle.listing.specs.ParseLaws.{parsed-listing, parsed-refusal}
+use Rattle.cutplan.specs.Memory.{lentWork, lentParents, endWithin, handedWithin}
+use Rattle.cutplan.specs.MemoryLaws.{never-12, never-13}
+use Rattle.cutplan.specs.Lines.{linesFor, lentOutput, linesOfPlan}
+use Rattle.cutplan.specs.RoomyLaws.{planned-lines, refused-lines}
+use Rattle.cutplan.specs.Cutplan.{printedFor, cutplanOf}
+
+-- ---- the lists of a job that was read
+
+-- each float that is read is one of its format, and so is what stands past the end of a list
+read-fits : (f : Format) (g : ℕ → Float) (n i : ℕ) → ((k : ℕ) → T (fits f (g k))) → T (fits f (getD (tabulate g n) i nan))
+read-fits f g n i each = elim (lt-or-le i n) [
+  | inl h ↦ subst (λ (x : Float). T (fits f x)) (sym (tabulate-at g n i nan h)) (each i)
+  | inr h ↦ subst (λ (x : Float). T (fits f x)) (sym (List·getD-eq-default (tabulate g n) nan (omega (arith, h, tabulate-length g n)))) (nan-fits f)
+]
+
+module _ (job : List ℕ) (h : Head) where
+  fitting : Fitting (valuesIn job h) (levelsIn job h)
+  unfolding valuesIn levelsIn
+  fitting = record {
+    values-fit = λ i. read-fits binary32 _ (h .frames) i (λ k. ofBits-fits binary32 _);
+    levels-fit = λ i. go (h .recording .domain) (h .lists) (h .frames) i;
+  }
+    where
+      go : (d : Domain) (at n i : ℕ) → T (fits binary64 (getD (levelsFor job d at n) i nan))
+      go Decibels at n i = read-fits binary64 _ n i (λ k. ofBits-fits binary64 _)
+      go Scores at n i = nan-fits binary64
+
+  few : readOf job ≡ Job h → length (valuesIn job h) ≤ 511
+  few e = omega (arith, values-length job h, read-within job h e .few-frames)
+
+-- what is known of a job: few frames, and its floats are of their formats
+record Asking (a : Asked) : Type 0 where
+  few : length (a .values) ≤ 511
+  fitting : Fitting (a .values) (a .levels)
+
+-- a job, and whether there is one
+abbrev askedOr : Asked → Outcome → Asked
+askedOr other (asks a) = a
+askedOr other (fails fault at) = other
+
+abbrev isAsked : Outcome → Bool
+isAsked (asks a) = true
+isAsked (fails fault at) = false
+
+asking : (job : List ℕ) (a : Asked) → jobOf job ≡ asks a → Asking a
+unfolding jobOf withLists
+asking job a = go (readOf job) refl
+  where
+    go : (r : Reading) → readOf job ≡ r → withLists job r ≡ asks a → Asking a
+    go (Job h) e f = subst Asking (ap (askedOr a) f) (record { few = few job h e; fitting = fitting job h })
+    go (Refused fault at) e f = absurd (holds (ap isAsked f))
+
+-- ---- the answer
+
+module _ (job : List ℕ) (a : Asked) (read : jobOf job ≡ asks a) where
+  -- what Plan leaves in the lists that it is lent
+  abbrev pub endFor : End
+  endFor = endWithin (a .recording) (a .segment) (a .settings) (a .values) (a .flags) (a .levels) lentOutput
+
+  -- its lines are printed
+  pub job-lines : cutplanOf job ≡ linesFor (endFor .answer) (endFor .out)
+  unfolding printedFor handedWithin
+  job-lines = rw read
+
+  pub never-short : (numberOf (endFor .answer) ≡ 12 → ⊥) × (numberOf (endFor .answer) ≡ 13 → ⊥)
+  never-short =
+      let known = asking job a read in (
+        never-12 (a .recording) (a .segment) (a .settings) (a .values) (a .flags) (a .levels) lentOutput (known .fitting) (omega (arith, known .few), omega (arith, known .few)),
+        never-13 (a .recording) (a .segment) (a .settings) (a .values) (a .flags) (a .levels) lentOutput (known .few),
+      )
+
+  -- ---- a plan
+
+  module _ (n : ℕ) (made : endFor .answer ≡ Planned n) where
+    -- one that has a piece is that of a span
+    pub of-span : 0 < n → MadeOfSpan (a .recording) (a .segment) (a .settings) (a .values) (a .flags) (a .levels) n (endFor .out)
+    of-span pieces =
+        let m = plan-made (a .recording) (a .segment) (a .settings) (a .values) (a .flags) (a .levels) lentOutput lentWork lentParents n made in
+        elim (tested (emptyIn (a .recording) (a .segment) (a .settings) (a .values) (a .flags))) [
+          | inl e ↦ absurd (omega (arith, pieces, m .empty e .0))
+          | inr e ↦ m .full e (asking job a read .fitting)
+        ]
+
+    pub cutplan-parsed : parsedOf (cutplanOf job) ≡ some (planned (rowsOf n (endFor .out .pieces)) (rowsOf (n - 1) (endFor .out .cuts)))
+    cutplan-parsed =
+        ap parsedOf (job-lines ∙ sym (planned-lines (endFor .answer) n (endFor .out) made))
+        ∙ parsed-listing n (endFor .out .pieces) (endFor .out .cuts)
+        (λ i l. of-span (omega (arith, l)) .flagged .both i l)
+        (λ i l. of-span (omega (arith, l)) .reasoned i (omega (arith, l)))
+
+  -- ---- a refusal of Plan
+
+  pub cutplan-refused : ((n : ℕ) → endFor .answer ≡ Planned n → ⊥) → parsedOf (cutplanOf job) ≡ some (refused (numberOf (endFor .answer)))
+  cutplan-refused never =
+      ap parsedOf (job-lines ∙ sym (refused-lines (endFor .answer) (endFor .out) never)) ∙ parsed-refusal (numberOf (endFor .answer))
+
+-- ---- bytes that are no job
+
+pub cutplan-unread : (job : List ℕ) (fault : Fault) (at : ℕ) → jobOf job ≡ fails fault at → parsedOf (cutplanOf job) ≡ some (refused 19)
+unfolding printedFor
+cutplan-unread job fault at e = ap (λ o. parsedOf (printedFor o)) e ∙ rw (fault-number fault) (parsed-refusal 19)
+
+-- ---- jobs that are written as bytes
+
+pub cutplan-encoded : (j : Asked) → Encodable j
+    → cutplanOf (encode j) ≡ linesOfPlan (j .recording) (j .segment) (j .settings) (j .values) (j .flags) (j .levels)
+unfolding printedFor
+cutplan-encoded j e = ap printedFor (read-encoded j e)

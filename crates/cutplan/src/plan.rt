@@ -1,0 +1,66 @@
+// From a job to its listing.
+use crate::lists;
+use grid::validate;
+use job::answer;
+use job::answer::Head;
+use job::answer::Reading;
+use job::lists as held;
+use job::read;
+use listing::write;
+ghost use mathlib.Core.Path.{_≡_};
+ghost use Prim.Native.Nat.{_≤_};
+ghost use lib.ListN.{length};
+ghost use Rattle.base_terms.specs.Lists.{onto};
+ghost use Rattle.io.specs.Counts.{Counts};
+ghost use Rattle.job.specs.Job.{Within};
+ghost use Rattle.cutplan.specs.Lines.{longestListing};
+ghost use Rattle.cutplan.specs.Cutplan.{printed, printedInto};
+ghost use Rattle.cutplan.specs.Head.{linesOfHead};
+
+// No listing is longer.
+pub const LONGEST_LISTING: usize = 53_702;
+
+// The listing of a job that was read.
+fn plan_read(job: &[u8], head: Head, out: &mut [u8]) -> usize
+    requires { ⌜ Within (now job) head ⌝ }
+    requires { ⌜ longestListing ≤ length (now out) ⌝ }
+    ensures { λ n. ⌜ n ≡ length (linesOfHead (now (job .entry)) head) ⌝ }
+    ensures { λ _. ⌜ now (out .exit) ≡ onto (linesOfHead (now (job .entry)) head) (now (out .entry)) ⌝ }
+{
+    let mut values = [0f32; read::MOST_FRAMES];
+    let mut flags = [0u8; read::MOST_FRAMES];
+    let mut levels = [0f64; read::MOST_FRAMES];
+    held::put_values(job, head, &mut values);
+    held::put_flags(job, head, &mut flags);
+    held::put_levels(job, head, &mut levels);
+    let recording = head.recording;
+    let segment = head.segment;
+    let settings = head.settings;
+    let frames = head.frames;
+    let domain = recording.domain;
+    let levelled = validate::level_count(domain, frames);
+    lists::plan_lists(
+        recording,
+        segment,
+        settings,
+        &values[..frames],
+        &flags[..frames],
+        &levels[..levelled],
+        out,
+    )
+}
+
+// Document 01's program `cutplan`, from bytes to bytes: writes the listing of a job to the front of `out`, and answers how many bytes it has.
+// Where `out` is shorter than some listings it stays as it was, and the answer is 0. `Counts` lets a caller hand on that front.
+pub fn plan_job(job: &[u8], out: &mut [u8]) -> usize
+    ensures { λ n. ⌜ printed n (now (out .exit)) ≡ printedInto (now (job .entry)) (now (out .entry)) ⌝ }
+    ensures { λ n. ⌜ Counts n (now (out .exit)) ⌝ }
+{
+    if out.len() < LONGEST_LISTING {
+        return 0;
+    }
+    match read::read(job) {
+        Reading::Job(head) => plan_read(job, head, out),
+        Reading::Refused(fault, _) => write::write_refusal(answer::number(fault), out),
+    }
+}

@@ -1,0 +1,26 @@
+-- A count that is present takes four bytes.
+use borrow.Author.Needs.{needs}
+use native.Mathlib.Omega.{arith}
+use Rattle.job.specs.Settings.{modeAt}
+use Rattle.job.proofs.settings.mode_at.Statement.{statement}
+use Rattle.job.proofs.settings.mode_at.Tie as tie
+
+stands-requires : tie.Need-stands-requires
+stands-requires c κs = search needs
+
+u32-at-requires : tie.Need-u32-at-requires
+u32-at-requires c κs = search needs
+
+add-t7 : tie.Need-add-t7
+add-t7 c = search needs
+
+returns : tie.Need-returns
+unfolding modeAt
+returns c = (omega arith, rw (c .u32-at .ensures, ← c .before .before .stands .ensures, c .before .if1 .taken))
+
+returns-2 : tie.Need-returns-2
+unfolding modeAt
+returns-2 c = (omega arith, rw (← c .before .stands .ensures, c .if1 .left))
+
+pub mode-at-spec : {M : Type 1} → statement M
+mode-at-spec = tie.close (tie.spec stands-requires u32-at-requires add-t7 returns returns-2)

@@ -1,0 +1,48 @@
+-- The lines and the listing as the texts that they are made of: where there is room for one of them, there is room for its texts.
+use Prim.Native.Nat.{ℕ, _-_}
+use mathlib.Core.Path.{_≡_}
+use mathlib.Core.List.{List, [], _∷_}
+use lib.ListN.{length}
+use Rattle.base_code.specs.FrontLaws.{tabulate-length}
+use Rattle.listing.specs.Text.{bytesOf, decimalOf}
+use Rattle.listing.specs.Rows.{rowAt, rowsOf}
+use Rattle.listing.specs.Listing.{flagsWord, reasonWord, numbersLine, planLine, pieceLine, cutLine, linesOf, listed, listingOf, refusalLine}
+use Rattle.listing.specs.Written.{Room, Written}
+use Rattle.listing.specs.WrittenLaws.{Rooms, Wrote}
+
+module _ {list : List ℕ} {at : ℕ} where
+  pub numbers-rooms : (word : List ℕ) (a b : ℕ) → Room (length (numbersLine word a b)) list at
+      → Rooms (word ∷ decimalOf a ∷ bytesOf " " ∷ decimalOf b ∷ []) list at
+  unfolding numbersLine
+  numbers-rooms word a b r = record { all = r }
+
+  pub plan-rooms : (pieces cuts : ℕ) → Room (length (planLine pieces cuts)) list at → Rooms (numbersLine (bytesOf "plan ") pieces cuts ∷ bytesOf "\n" ∷ []) list at
+  unfolding planLine
+  plan-rooms pieces cuts r = record { all = r }
+
+  pub piece-rooms : (start end flags : ℕ) → Room (length (pieceLine start end flags)) list at
+      → Rooms (numbersLine (bytesOf "piece ") start end ∷ bytesOf " " ∷ flagsWord flags ∷ bytesOf "\n" ∷ []) list at
+  unfolding pieceLine
+  piece-rooms start end flags r = record { all = r }
+
+  pub cut-rooms : (end start reason : ℕ) → Room (length (cutLine end start reason)) list at
+      → Rooms (numbersLine (bytesOf "cut ") end start ∷ bytesOf " " ∷ reasonWord reason ∷ bytesOf "\n" ∷ []) list at
+  unfolding cutLine
+  cut-rooms end start reason r = record { all = r }
+
+  pub refusal-rooms : (number : ℕ) → Room (length (refusalLine number)) list at → Rooms (bytesOf "refused " ∷ decimalOf number ∷ bytesOf "\n" ∷ []) list at
+  unfolding refusalLine
+  refusal-rooms number r = record { all = r }
+
+-- the listing of a plan of n pieces and m cuts
+module _ (n m : ℕ) (pieces cuts : List ℕ) (counts : m ≡ n - 1) {list : List ℕ} {at : ℕ} where
+  pub listing-rooms : Room (length (listingOf n pieces cuts)) list at
+      → Rooms (planLine n m ∷ linesOf pieceLine (rowsOf n pieces) ∷ linesOf cutLine (rowsOf m cuts) ∷ []) list at
+  unfolding listingOf listed
+  listing-rooms r = rw counts (record { all = rw (tabulate-length (rowAt pieces) n, tabulate-length (rowAt cuts) (n - 1)) at r })
+
+  pub listing-wrote : {after : List ℕ} {next : ℕ}
+      → Wrote (planLine n m ∷ linesOf pieceLine (rowsOf n pieces) ∷ linesOf cutLine (rowsOf m cuts) ∷ []) list at after next
+      → Written (listingOf n pieces cuts) list at after next
+  unfolding listingOf listed
+  listing-wrote w = rw (tabulate-length (rowAt pieces) n, tabulate-length (rowAt cuts) (n - 1), ← counts) (w .all)

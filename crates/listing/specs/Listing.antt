@@ -1,0 +1,69 @@
+-- Document 01's listing: what `cutplan` prints, in ASCII, with a line feed after each line.
+use Prim.Native.Nat.{ℕ, _+_, _-_, _*_}
+use mathlib.Core.Bool.{cond}
+use mathlib.Core.List.{List, [], _∷_, map}
+use lib.Dec.{eqb}
+use lib.ListN.{length}
+use Rattle.listing.specs.Text.{bytesOf, decimalOf, joined}
+use Rattle.listing.specs.Rows.{Row, rowsOf}
+
+-- "flags (`s` short, `l` long, `sl`, `-`)": 0 none, 1 short, 2 long, and every other number both
+unfoldable pub flagsWord : ℕ → List ℕ
+flagsWord flags = cond (eqb flags 0) (bytesOf "-") (cond (eqb flags 1) (bytesOf "s") (cond (eqb flags 2) (bytesOf "l") (bytesOf "sl")))
+
+-- "reason (silence, quiet, forced)": 0 silence, 1 quiet, and every other number forced
+unfoldable pub reasonWord : ℕ → List ℕ
+reasonWord reason = cond (eqb reason 0) (bytesOf "silence") (cond (eqb reason 1) (bytesOf "quiet") (bytesOf "forced"))
+
+-- how a plan's lines begin: a word and two numbers
+unfoldable pub numbersLine : List ℕ → ℕ → ℕ → List ℕ
+numbersLine word a b = joined (word ∷ decimalOf a ∷ bytesOf " " ∷ decimalOf b ∷ [])
+
+-- "counts of pieces and cuts"
+unfoldable pub planLine : ℕ → ℕ → List ℕ
+planLine pieces cuts = joined (numbersLine (bytesOf "plan ") pieces cuts ∷ bytesOf "\n" ∷ [])
+
+-- "start, end, flags"
+unfoldable pub pieceLine : ℕ → ℕ → ℕ → List ℕ
+pieceLine start end flags = joined (numbersLine (bytesOf "piece ") start end ∷ bytesOf " " ∷ flagsWord flags ∷ bytesOf "\n" ∷ [])
+
+-- "previous end, next start, reason"
+unfoldable pub cutLine : ℕ → ℕ → ℕ → List ℕ
+cutLine end start reason = joined (numbersLine (bytesOf "cut ") end start ∷ bytesOf " " ∷ reasonWord reason ∷ bytesOf "\n" ∷ [])
+
+-- a line for each row
+abbrev pub lineOf : (ℕ → ℕ → ℕ → List ℕ) → Row → List ℕ
+lineOf line row = line (row .from) (row .to) (row .mark)
+
+unfoldable pub linesOf : (ℕ → ℕ → ℕ → List ℕ) → List Row → List ℕ
+linesOf line rows = joined (map (lineOf line) rows)
+
+-- the listing of these pieces and cuts
+unfoldable pub listed : List Row → List Row → List ℕ
+listed pieces cuts = joined (planLine (length pieces) (length cuts) ∷ linesOf pieceLine pieces ∷ linesOf cutLine cuts ∷ [])
+
+-- the listing of a plan of n pieces, and so of n − 1 cuts, by its numbers
+unfoldable pub listingOf : ℕ → List ℕ → List ℕ → List ℕ
+listingOf n pieces cuts = listed (rowsOf n pieces) (rowsOf (n - 1) cuts)
+
+-- "A refusal prints `refused` and its number."
+unfoldable pub refusalLine : ℕ → List ℕ
+refusalLine number = joined (bytesOf "refused " ∷ decimalOf number ∷ bytesOf "\n" ∷ [])
+
+-- ---- the most bytes, where no number has more than 20 digits, and a refusal's no more than 10
+
+abbrev pub planLineRoom : ℕ
+planLineRoom = 47
+
+abbrev pub pieceLineRoom : ℕ
+pieceLineRoom = 51
+
+abbrev pub cutLineRoom : ℕ
+cutLineRoom = 54
+
+abbrev pub refusalRoom : ℕ
+refusalRoom = 19
+
+-- a listing of n pieces
+abbrev pub roomFor : ℕ → ℕ
+roomFor n = planLineRoom + (pieceLineRoom + cutLineRoom) * n

@@ -1,0 +1,120 @@
+-- A listing read back: the plan or the refusal that was printed, and nothing where the bytes are no listing.
+use Prim.Native.Nat.{ℕ, zero, suc, _+_, _-_, _*_}
+use mathlib.Core.Bool.{Bool, false, _&&_, cond}
+use mathlib.Core.List.{List, [], _∷_}
+use mathlib.Core.Option.{Option, none, some}
+use lib.Dec.{eqb, leb}
+use Rattle.listing.specs.Text.{bytesOf}
+use Rattle.listing.specs.Rows.{Row}
+
+-- what was printed
+pub data Printed : Type 0 where
+  planned : List Row → List Row → Printed
+  refused : ℕ → Printed
+
+-- a value that was read, and the bytes behind it
+pub record Read (A : Type 0) : Type 0 where
+  pub value : A
+  pub rest : List ℕ
+
+abbrev pub readOf : {A : Type 0} → A → List ℕ → Read A
+readOf value rest = record { value = value; rest = rest }
+
+-- goes on with what was read
+abbrev pub andThen : {A B : Type 0} → Option A → (A → Option B) → Option B
+andThen none next = none
+andThen (some a) next = next a
+
+-- the first that is something
+abbrev pub orElse : {A : Type 0} → Option A → Option A → Option A
+orElse none other = other
+orElse (some a) other = some a
+
+-- ---- words and numbers
+
+-- the bytes behind a word
+unfoldable pub wordIn : List ℕ → List ℕ → Option (List ℕ)
+wordIn [] bytes = some bytes
+wordIn (b ∷ word) [] = none
+wordIn (b ∷ word) (c ∷ bytes) = cond (eqb b c) (wordIn word bytes) none
+
+abbrev pub isDigit : ℕ → Bool
+isDigit b = leb 48 b && leb b 57
+
+unfoldable pub beginsWithDigit : List ℕ → Bool
+beginsWithDigit [] = false
+beginsWithDigit (b ∷ bytes) = isDigit b
+
+-- digits up to the first byte that is none, behind those of n
+unfoldable pub digitsIn : ℕ → List ℕ → Read ℕ
+digitsIn n [] = readOf n []
+digitsIn n (b ∷ bytes) = cond (isDigit b) (digitsIn (10 * n + (b - 48)) bytes) (readOf n (b ∷ bytes))
+
+-- a number, of at least one digit
+unfoldable pub numberIn : List ℕ → Option (Read ℕ)
+numberIn bytes = cond (beginsWithDigit bytes) (some (digitsIn 0 bytes)) none
+
+-- one of some words: its place among them, counted from k
+unfoldable pub choiceIn : ℕ → List (List ℕ) → List ℕ → Option (Read ℕ)
+choiceIn k [] bytes = none
+choiceIn k (word ∷ words) bytes = orElse (andThen (wordIn word bytes) (λ rest. some (readOf k rest))) (choiceIn (suc k) words bytes)
+
+-- ---- lines
+
+-- how the line of a piece ends, by its flags
+abbrev pub flagEnds : List (List ℕ)
+flagEnds = bytesOf "-\n" ∷ bytesOf "s\n" ∷ bytesOf "l\n" ∷ bytesOf "sl\n" ∷ []
+
+-- how the line of a cut ends, by its reason
+abbrev pub reasonEnds : List (List ℕ)
+reasonEnds = bytesOf "silence\n" ∷ bytesOf "quiet\n" ∷ bytesOf "forced\n" ∷ []
+
+-- a line of a word, two numbers and one of some ends
+unfoldable pub rowIn : List ℕ → List (List ℕ) → List ℕ → Option (Read Row)
+rowIn word ends bytes =
+    andThen (wordIn word bytes) (λ first.
+    andThen (numberIn first) (λ from.
+    andThen (wordIn (bytesOf " ") (from .rest)) (λ second.
+    andThen (numberIn second) (λ to.
+    andThen (wordIn (bytesOf " ") (to .rest)) (λ third.
+    andThen (choiceIn 0 ends third) (λ mark.
+    some (readOf (record { from = from .value; to = to .value; mark = mark .value }) (mark .rest))))))))
+
+-- so many of them
+unfoldable pub rowsIn : List ℕ → List (List ℕ) → ℕ → List ℕ → Option (Read (List Row))
+rowsIn word ends zero bytes = some (readOf [] bytes)
+rowsIn word ends (suc n) bytes =
+    andThen (rowIn word ends bytes) (λ row.
+    andThen (rowsIn word ends n (row .rest)) (λ rows.
+    some (readOf (row .value ∷ rows .value) (rows .rest))))
+
+-- ---- the whole
+
+-- nothing follows
+unfoldable pub ended : List ℕ → Printed → Option Printed
+ended [] printed = some printed
+ended (b ∷ bytes) printed = none
+
+-- the listing of a plan: its counts say how many lines follow
+unfoldable pub planIn : List ℕ → Option Printed
+planIn bytes =
+    andThen (wordIn (bytesOf "plan ") bytes) (λ first.
+    andThen (numberIn first) (λ pieceCount.
+    andThen (wordIn (bytesOf " ") (pieceCount .rest)) (λ second.
+    andThen (numberIn second) (λ cutCount.
+    andThen (wordIn (bytesOf "\n") (cutCount .rest)) (λ lines.
+    andThen (rowsIn (bytesOf "piece ") flagEnds (pieceCount .value) lines) (λ pieces.
+    andThen (rowsIn (bytesOf "cut ") reasonEnds (cutCount .value) (pieces .rest)) (λ cuts.
+    ended (cuts .rest) (planned (pieces .value) (cuts .value)))))))))
+
+-- the line of a refusal
+unfoldable pub refusalIn : List ℕ → Option Printed
+refusalIn bytes =
+    andThen (wordIn (bytesOf "refused ") bytes) (λ first.
+    andThen (numberIn first) (λ number.
+    andThen (wordIn (bytesOf "\n") (number .rest)) (λ rest.
+    ended rest (refused (number .value)))))
+
+-- what the bytes say
+unfoldable pub parsedOf : List ℕ → Option Printed
+parsedOf bytes = orElse (planIn bytes) (refusalIn bytes)

@@ -1,0 +1,179 @@
+-- A listing loses nothing: read back, it gives the plan or the refusal that was printed.
+use Prim.Native.Nat.{ℕ, zero, suc, _+_, _-_, _*_, _/_, _%_, _≤_, _<_}
+use mathlib.Core.Path.{_≡_, refl, ap, _∙_}
+use mathlib.Core.Bool.{true, false}
+use mathlib.Core.Logic.{inl, inr}
+use mathlib.Core.List.{List, [], _∷_, _++_, append-assoc}
+use mathlib.Core.Option.{some}
+use native.Mathlib.Omega.{arith}
+use borrow.Author.Tests.{lt-ltb, le-ltb, le-leb}
+use lib.ListN.{length, getD}
+use Rattle.base_laws.specs.Tests.{lt-or-le}
+use Rattle.base_terms.specs.Lists.{tabulate}
+use Rattle.listing.specs.Text.{bytesOf, digitOf, decimalWithin, decimalOf, joined}
+use Rattle.listing.specs.Rows.{Row, rowAt, rowsOf, MarksTo}
+use Rattle.listing.specs.Listing.{flagsWord, reasonWord, numbersLine, planLine, pieceLine, cutLine, lineOf, linesOf, listed, listingOf, refusalLine}
+use Rattle.listing.specs.Parse.{planned, refused, readOf, wordIn, isDigit, beginsWithDigit, digitsIn, numberIn, choiceIn, flagEnds, reasonEnds, rowIn, rowsIn, ended, planIn, refusalIn, parsedOf}
+
+-- ---- numbers
+
+digit-is : (d : ℕ) → d < 10 → isDigit (digitOf d) ≡ true
+digit-is d h = rw (le-leb 48 (48 + d) (omega arith), le-leb (48 + d) 57 (omega arith))
+
+digit-read : (n d : ℕ) (bytes : List ℕ) → d < 10 → digitsIn n (digitOf d ∷ bytes) ≡ digitsIn (10 * n + d) bytes
+unfolding digitsIn
+digit-read n d bytes h =
+    let e : 48 + d - 48 ≡ d = omega arith in
+    rw (digit-is d h, e)
+
+alone : (n : ℕ) → 10 * 0 + n ≡ n
+alone n = omega arith
+
+behind : (n : ℕ) → 10 * (n / 10) + n % 10 ≡ n
+behind n = omega arith
+
+digits-read : (most n : ℕ) (bytes : List ℕ) → n ≤ most → digitsIn 0 (decimalWithin most n ++ bytes) ≡ digitsIn n bytes
+unfolding decimalWithin
+digits-read zero n bytes h = digit-read 0 n bytes (omega arith) ∙ ap (λ (k : ℕ). digitsIn k bytes) (alone n)
+digits-read (suc most) n bytes h = elim (lt-or-le n 10) [
+  | inl l ↦ rw (lt-ltb n 10 l) (digit-read 0 n bytes l ∙ ap (λ (k : ℕ). digitsIn k bytes) (alone n))
+  | inr g ↦ rw (le-ltb n 10 g, append-assoc) (digits-read most (n / 10) (digitOf (n % 10) ∷ bytes) (omega arith)
+      ∙ digit-read (n / 10) (n % 10) bytes (omega arith) ∙ ap (λ (k : ℕ). digitsIn k bytes) (behind n))
+]
+
+begins : (most n : ℕ) (bytes : List ℕ) → n ≤ most → beginsWithDigit (decimalWithin most n ++ bytes) ≡ true
+unfolding decimalWithin beginsWithDigit
+begins zero n bytes h = digit-is n (omega arith)
+begins (suc most) n bytes h = elim (lt-or-le n 10) [
+  | inl l ↦ rw (lt-ltb n 10 l) (digit-is n l)
+  | inr g ↦ rw (le-ltb n 10 g, append-assoc) (begins most (n / 10) (digitOf (n % 10) ∷ bytes) (omega arith))
+]
+
+digits-stop : (n b : ℕ) (bytes : List ℕ) → isDigit b ≡ false → digitsIn n (b ∷ bytes) ≡ readOf n (b ∷ bytes)
+unfolding digitsIn
+digits-stop n b bytes e = rw e
+
+-- a number ends where a byte follows that is no digit
+number-read : (n b : ℕ) (bytes : List ℕ) → isDigit b ≡ false → numberIn (decimalOf n ++ (b ∷ bytes)) ≡ some (readOf n (b ∷ bytes))
+unfolding numberIn decimalOf
+number-read n b bytes e =
+    rw (begins n n (b ∷ bytes) (omega arith), digits-read n n (b ∷ bytes) (omega arith), digits-stop n b bytes e)
+
+-- ---- lines
+
+flags-read : (flags : ℕ) (bytes : List ℕ) → flags ≤ 3 → choiceIn 0 flagEnds (flagsWord flags ++ (bytesOf "\n" ++ bytes)) ≡ some (readOf flags bytes)
+unfolding choiceIn wordIn flagsWord
+flags-read zero bytes h = refl
+flags-read (suc zero) bytes h = refl
+flags-read (suc (suc zero)) bytes h = refl
+flags-read (suc (suc (suc zero))) bytes h = refl
+flags-read (suc (suc (suc (suc flags)))) bytes h = absurd (omega arith)
+
+reason-read : (reason : ℕ) (bytes : List ℕ) → reason ≤ 2
+    → choiceIn 0 reasonEnds (reasonWord reason ++ (bytesOf "\n" ++ bytes)) ≡ some (readOf reason bytes)
+unfolding choiceIn wordIn reasonWord
+reason-read zero bytes h = refl
+reason-read (suc zero) bytes h = refl
+reason-read (suc (suc zero)) bytes h = refl
+reason-read (suc (suc (suc reason))) bytes h = absurd (omega arith)
+
+-- how a plan's lines begin, with what follows
+begun : (word : List ℕ) (a b : ℕ) (bytes : List ℕ)
+    → numbersLine word a b ++ bytes ≡ word ++ (decimalOf a ++ (bytesOf " " ++ (decimalOf b ++ bytes)))
+unfolding numbersLine joined
+begun word a b bytes = simp append-assoc
+
+piece-is : (start end flags : ℕ) (bytes : List ℕ)
+    → pieceLine start end flags ++ bytes ≡ numbersLine (bytesOf "piece ") start end ++ (bytesOf " " ++ (flagsWord flags ++ (bytesOf "\n" ++ bytes)))
+unfolding pieceLine joined
+piece-is start end flags bytes = simp append-assoc
+
+cut-is : (end start reason : ℕ) (bytes : List ℕ)
+    → cutLine end start reason ++ bytes ≡ numbersLine (bytesOf "cut ") end start ++ (bytesOf " " ++ (reasonWord reason ++ (bytesOf "\n" ++ bytes)))
+unfolding cutLine joined
+cut-is end start reason bytes = simp append-assoc
+
+piece-read : (row : Row) (bytes : List ℕ) → row .mark ≤ 3 → rowIn (bytesOf "piece ") flagEnds (lineOf pieceLine row ++ bytes) ≡ some (readOf row bytes)
+unfolding rowIn wordIn
+piece-read row bytes h =
+    let ending = flagsWord (row .mark) ++ (bytesOf "\n" ++ bytes) in
+    rw (
+      piece-is (row .from) (row .to) (row .mark) bytes,
+      begun (bytesOf "piece ") (row .from) (row .to) (bytesOf " " ++ ending),
+      number-read (row .from) 32 (decimalOf (row .to) ++ (32 ∷ ending)) refl,
+      number-read (row .to) 32 ending refl,
+      flags-read (row .mark) bytes h,
+    )
+
+cut-read : (row : Row) (bytes : List ℕ) → row .mark ≤ 2 → rowIn (bytesOf "cut ") reasonEnds (lineOf cutLine row ++ bytes) ≡ some (readOf row bytes)
+unfolding rowIn wordIn
+cut-read row bytes h =
+    let ending = reasonWord (row .mark) ++ (bytesOf "\n" ++ bytes) in
+    rw (
+      cut-is (row .from) (row .to) (row .mark) bytes,
+      begun (bytesOf "cut ") (row .from) (row .to) (bytesOf " " ++ ending),
+      number-read (row .from) 32 (decimalOf (row .to) ++ (32 ∷ ending)) refl,
+      number-read (row .to) 32 ending refl,
+      reason-read (row .mark) bytes h,
+    )
+
+-- ---- rows
+
+module _ (line : ℕ → ℕ → ℕ → List ℕ) (word : List ℕ) (ends : List (List ℕ)) (most : ℕ)
+    (row-read : (row : Row) (bytes : List ℕ) → row .mark ≤ most → rowIn word ends (lineOf line row ++ bytes) ≡ some (readOf row bytes)) where
+  rows-read : (rows : List Row) (bytes : List ℕ) → MarksTo most rows
+      → rowsIn word ends (length rows) (linesOf line rows ++ bytes) ≡ some (readOf rows bytes)
+  unfolding rowsIn linesOf joined
+  rows-read [] bytes h = refl
+  rows-read (row ∷ rows) bytes (h, t) = rw (append-assoc, row-read row (linesOf line rows ++ bytes) h, rows-read rows bytes t)
+
+-- ---- the whole
+
+plan-is : (pieces cuts : ℕ) (bytes : List ℕ) → planLine pieces cuts ++ bytes ≡ numbersLine (bytesOf "plan ") pieces cuts ++ (bytesOf "\n" ++ bytes)
+unfolding planLine joined
+plan-is pieces cuts bytes = simp append-assoc
+
+listed-is : (pieces cuts : List Row) → listed pieces cuts ≡ planLine (length pieces) (length cuts) ++ (linesOf pieceLine pieces ++ (linesOf cutLine cuts ++ []))
+unfolding listed joined
+listed-is pieces cuts = refl
+
+plan-read : (pieces cuts : List Row) → MarksTo 3 pieces → MarksTo 2 cuts → planIn (listed pieces cuts) ≡ some (planned pieces cuts)
+unfolding planIn wordIn ended
+plan-read pieces cuts p c =
+    let cutLines = linesOf cutLine cuts ++ [] in
+    let lines = linesOf pieceLine pieces ++ cutLines in
+    rw (
+      listed-is pieces cuts,
+      plan-is (length pieces) (length cuts) lines,
+      begun (bytesOf "plan ") (length pieces) (length cuts) (bytesOf "\n" ++ lines),
+      number-read (length pieces) 32 (decimalOf (length cuts) ++ (10 ∷ lines)) refl,
+      number-read (length cuts) 10 lines refl,
+      rows-read pieceLine (bytesOf "piece ") flagEnds 3 piece-read pieces cutLines p,
+      rows-read cutLine (bytesOf "cut ") reasonEnds 2 cut-read cuts [] c,
+    )
+
+-- the plan that was printed, by its rows
+pub parsed-listed : (pieces cuts : List Row) → MarksTo 3 pieces → MarksTo 2 cuts → parsedOf (listed pieces cuts) ≡ some (planned pieces cuts)
+unfolding parsedOf
+parsed-listed pieces cuts p c = rw (plan-read pieces cuts p c)
+
+marks-snoc : (most : ℕ) (rows : List Row) (row : Row) → MarksTo most rows → row .mark ≤ most → MarksTo most (rows ++ (row ∷ []))
+marks-snoc most [] row h l = (l, tt)
+marks-snoc most (first ∷ rows) row (h, t) l = (h, marks-snoc most rows row t l)
+
+marks-of : (most n : ℕ) (numbers : List ℕ) → ((i : ℕ) → i < n → getD numbers (3 * i + 2) 0 ≤ most) → MarksTo most (rowsOf n numbers)
+unfolding tabulate
+marks-of most zero numbers h = tt
+marks-of most (suc n) numbers h =
+    marks-snoc most (rowsOf n numbers) (rowAt numbers n) (marks-of most n numbers (λ i l. h i (omega arith))) (h n (omega arith))
+
+-- the plan that was printed, by its numbers: flags are at most 3 and reasons at most 2
+pub parsed-listing : (n : ℕ) (pieces cuts : List ℕ) → ((i : ℕ) → i < n → getD pieces (3 * i + 2) 0 ≤ 3)
+    → ((i : ℕ) → i < n - 1 → getD cuts (3 * i + 2) 0 ≤ 2) → parsedOf (listingOf n pieces cuts) ≡ some (planned (rowsOf n pieces) (rowsOf (n - 1) cuts))
+unfolding listingOf
+parsed-listing n pieces cuts p c = parsed-listed (rowsOf n pieces) (rowsOf (n - 1) cuts) (marks-of 3 n pieces p) (marks-of 2 (n - 1) cuts c)
+
+-- the refusal that was printed
+pub parsed-refusal : (number : ℕ) → parsedOf (refusalLine number) ≡ some (refused number)
+unfolding parsedOf planIn refusalIn refusalLine joined wordIn ended
+parsed-refusal number = rw (number-read number 10 [] refl)

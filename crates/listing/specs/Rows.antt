@@ -1,0 +1,31 @@
+-- A plan as the operation Plan gives it: three numbers for each piece, one piece behind another, and three for each cut.
+use Prim.Native.Nat.{ℕ, _+_, _*_, _≤_, _<_}
+use mathlib.Core.List.{List, [], _∷_}
+use lib.ListN.{getD}
+use Rattle.base_terms.specs.Lists.{tabulate}
+
+-- a piece's start, end and flags; a cut's previous end, next start and reason
+pub record Row : Type 0 where
+  pub from : ℕ
+  pub to : ℕ
+  pub mark : ℕ
+
+abbrev pub rowAt : List ℕ → ℕ → Row
+rowAt numbers i = record { from = getD numbers (3 * i) 0; to = getD numbers (3 * i + 1) 0; mark = getD numbers (3 * i + 2) 0 }
+
+-- the first n
+abbrev pub rowsOf : ℕ → List ℕ → List Row
+rowsOf n numbers = tabulate (rowAt numbers) n
+
+-- no mark is above `most`
+abbrev pub MarksTo : ℕ → List Row → Type 0
+MarksTo most [] = Unit {0}
+MarksTo most (row ∷ rows) = (row .mark ≤ most) × MarksTo most rows
+
+-- a number of 64 bits
+abbrev pub Wide : ℕ → Type 0
+Wide n = n < 18446744073709551616
+
+-- a list of them
+pub record AllWide (numbers : List ℕ) : Type 0 where
+  pub at : (i : ℕ) → Wide (getD numbers i 0)
