@@ -4,8 +4,9 @@ use mathlib.Core.Logic.{inl, inr}
 use mathlib.Core.List.{List, [], _∷_, _++_, append-assoc, append-nil}
 use Prim.Native.Nat.{ℕ, zero, suc, _≤_, _<_}
 use native.Mathlib.Nat.{le-of-lt}
+use native.Mathlib.Numerals.{add-one}
 use native.Mathlib.Omega.{arith}
-use lib.ListN.{length, getD, take, drop, set, length-append, length-drop, List·getD-append}
+use lib.ListN.{length, getD, take, drop, set, replicate, length-append, length-drop, replicate-append-replicate, List·getD-append}
 use lib.Seq.{drop-length, drop-cons, drop-set-lt, take-suc, take-at, set-at, getD-at, length-take-le}
 use Rattle.base_terms.specs.Lists.{onto, tabulate}
 use Rattle.base_laws.specs.Tests.{lt-or-le}
@@ -65,6 +66,18 @@ module _ {A : Type 0} where
     | inl l ↦ List·getD-append (tabulate f n) (f n ∷ []) z k (rw tabulate-length l) ∙ tabulate-at f n k z l
     | inr g ↦ let e : k ≡ n = omega arith in rw e (getD-at (tabulate f n) (f n) [] z n (tabulate-length f n))
   ]
+
+  -- one more, in front
+  pub tabulate-first : (f : ℕ → A) (n : ℕ) → tabulate f (suc n) ≡ f 0 ∷ tabulate (λ (i : ℕ). f (suc i)) n
+  unfolding tabulate
+  tabulate-first f zero = refl
+  tabulate-first f (suc n) = ap (λ (xs : List A). xs ++ (f (suc n) ∷ [])) (tabulate-first f n)
+
+  -- of one value only
+  pub tabulate-same : (v : A) (n : ℕ) → tabulate (λ (i : ℕ). v) n ≡ replicate n v
+  unfolding tabulate
+  tabulate-same v zero = refl
+  tabulate-same v (suc n) = ap (λ (xs : List A). xs ++ (v ∷ [])) (tabulate-same v n) ∙ replicate-append-replicate n 1 v ∙ rw add-one
 
   -- one more is written
   pub onto-tabulate-next : (f : ℕ → A) (xs : List A) (n : ℕ) → n < length xs → set (onto (tabulate f n) xs) n (f n) ≡ onto (tabulate f (suc n)) xs

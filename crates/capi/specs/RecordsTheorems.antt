@@ -1,7 +1,6 @@
 -- The records of a plan that was made (PlansTheorems has when one is, and that `found` is then k): a piece's record has its start and end, and its flags against the plan's
 -- minimum and maximum; a cut's has the end of the piece before it, the start of the next, and its reason.
 use mathlib.Core.Path.{_≡_, ap, _∙_}
-use mathlib.Core.Logic.{inl, inr}
 use mathlib.Core.List.{List}
 use Prim.Native.Nat.{ℕ, suc, _+_, _-_, _*_, _≤_, _<_}
 use native.Mathlib.Omega.{arith}
@@ -9,13 +8,11 @@ use lib.Ieee.{Float}
 use lib.ListN.{length, getD, take, length-take}
 use lib.Seq.{length-take-le, getD-take}
 use Rattle.base_terms.specs.Lists.{onto}
-use Rattle.base_laws.specs.Tests.{tested}
 use Rattle.base_code.specs.FrontLaws.{onto-length}
 use Rattle.grid.specs.Validate.{gridOf}
 use Rattle.grid.specs.declared.validate.Recording.{Recording}
 use Rattle.silence_list.specs.declared.config.SegmentConfig.{SegmentConfig}
 use Rattle.candidate_settings.specs.declared.config.PlanConfig.{PlanConfig}
-use Rattle.candidate_finder.specs.SpanIn.{emptyIn}
 use Rattle.plan_tests.specs.Fitting.{Fitting}
 use Rattle.plan_lengths.specs.PlanLengths.{minimumIn, maximumIn}
 use Rattle.plan_pieces.specs.Flags.{isShorter, isLonger}
@@ -28,6 +25,7 @@ use Rattle.plan_records.specs.Cuts.{cutOf}
 use Rattle.plan_records.specs.declared.pieces.Piece.{Piece}
 use Rattle.plan_records.specs.declared.cuts.Cut.{Cut}
 use Rattle.plan_theorems.specs.Made.{startAt, endAt, lengthAt, reasonAt, Made, MadeOfSpan}
+use Rattle.plan_theorems.specs.Theorems.{made-of-span}
 
 -- of the first 3 k numbers, those of row i
 front-numbers : (ns : List ℕ) (k i : ℕ) → i < k → Numbers (take (3 * k) ns) i (getD ns (3 * i) 0) (getD ns (3 * i + 1) 0) (getD ns (3 * i + 2) 0)
@@ -47,13 +45,8 @@ front-length n before after fits e =
 module _ (r : Recording) (segment : SegmentConfig) (plan : PlanConfig) (values : List Float) (flags : List ℕ) (levels : List Float) (k : ℕ) (before after : Output)
     (made : Made r segment plan values flags levels k before after) (fitting : Fitting values levels)
   where
-    -- a plan that has a piece is that of a span
     of-span : 0 < k → MadeOfSpan r segment plan values flags levels k after
-    of-span some =
-        elim (tested (emptyIn r segment plan values flags)) [
-          | inl e ↦ absurd (omega (arith, some, made .empty e .0))
-          | inr e ↦ made .full e fitting
-        ]
+    of-span pieces = made-of-span r segment plan values flags levels k before after made fitting pieces
 
     -- pieces, of the first 3 k numbers
     pub records-made : (records : List Piece) → k ≤ length records → (i : ℕ) (z : Piece) → i < k → getD (recordsEndOf pieceOf (take (3 * k) (after .pieces)) records .records) i z

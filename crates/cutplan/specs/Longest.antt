@@ -4,6 +4,7 @@ use mathlib.Core.List.{List}
 use Prim.Native.Nat.{ℕ, suc, _+_, _-_, _*_, _≤_, _<_}
 use native.Mathlib.Omega.{arith}
 use lib.ListN.{length, getD}
+use Rattle.base_terms.specs.Limits.{isU64}
 use Rattle.grid.specs.Boundary.{boundaryOf}
 use Rattle.grid.specs.BoundaryLaws.{boundary-le-len}
 use Rattle.grid.specs.Validate.{gridOf}
@@ -26,7 +27,7 @@ use Rattle.job.specs.Job.{Asked, Outcome, asks, fails, jobOf}
 use Rattle.job.specs.Theorems.{fault-number}
 use Rattle.job.specs.declared.answer.Fault.{Fault}
 use Rattle.listing.specs.Listing.{listingOf}
-use Rattle.listing.specs.Rows.{Wide, AllWide}
+use Rattle.listing.specs.Rows.{AllWide}
 use Rattle.listing.specs.FitsLaws.{listing-fits, refusal-fits}
 use Rattle.cutplan.specs.Memory.{lentWork, lentParents}
 use Rattle.cutplan.specs.Lines.{longestListing, linesFor, lentOutput}
@@ -55,7 +56,7 @@ module _ (job : List ℕ) (a : Asked) (read : jobOf job ≡ asks a) where
         (plan-ended (a .recording) (a .segment) (a .settings) (a .values) (a .flags) (a .levels) lentOutput lentWork lentParents .accepted n made))
 
     -- a boundary lies within the recording, which has at most 2^40 samples
-    boundary-wide : (k : ℕ) → Wide (boundaryOf g k)
+    boundary-wide : (k : ℕ) → isU64 (boundaryOf g k)
     boundary-wide k = omega (arith, boundary-le-len g (ready .accepted) k, ready .length-bounded)
 
     -- pieces and cuts stand at boundaries
@@ -66,10 +67,10 @@ module _ (job : List ℕ) (a : Asked) (read : jobOf job ≡ asks a) where
         go ByLength e = let d = of-span job a read n made pieces .demand-by-length e in (d .0, d .1)
         go (ByCount count) e = let d = of-span job a read n made pieces .demand-by-count count e in (d .0, d .1)
 
-    piece-wide : (k : ℕ) → k < n → Wide (startAt out k) × Wide (endAt out k)
+    piece-wide : (k : ℕ) → k < n → isU64 (startAt out k) × isU64 (endAt out k)
     piece-wide k h =
         let shows = shown (omega (arith, h)) .1 in
-        (subst Wide (sym (shows .piece-start k h)) (boundary-wide _), subst Wide (sym (shows .piece-end k h)) (boundary-wide _))
+        (subst isU64 (sym (shows .piece-start k h)) (boundary-wide _), subst isU64 (sym (shows .piece-end k h)) (boundary-wide _))
 
     pieces-wide : AllWide (out .pieces)
     pieces-wide = wide-rows (out .pieces) n 1533 (written .pieces)
@@ -80,8 +81,8 @@ module _ (job : List ℕ) (a : Asked) (read : jobOf job ≡ asks a) where
         (λ k h.
         let span = of-span job a read n made (omega (arith, h)) in
         let lies = span .fills .cuts k (omega (arith, h)) in (
-          subst Wide (sym (lies .0)) (piece-wide k (omega (arith, h)) .1),
-          subst Wide (sym (lies .1)) (piece-wide (suc k) (omega (arith, h)) .0),
+          subst isU64 (sym (lies .0)) (piece-wide k (omega (arith, h)) .1),
+          subst isU64 (sym (lies .1)) (piece-wide (suc k) (omega (arith, h)) .0),
           omega (arith, span .reasoned k (omega (arith, h))),
         ))
 

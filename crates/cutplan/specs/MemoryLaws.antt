@@ -20,10 +20,11 @@ use Rattle.plan_pieces.specs.declared.answer.Answer.{Answer}
 use Rattle.plan_pieces.specs.declared.answer.Answer.the-variants.{Planned, Refused, ShortParent, NoReach, ShortOutput}
 use Rattle.plan_theorems.specs.Made.{HasRoom}
 use Rattle.plan_theorems.specs.Theorems.{plan-made, plan-ended}
+use Rattle.job.specs.Limits.{mostFrames}
 use Rattle.cutplan.specs.Memory.{lentWork, lentParents, endWithin}
 
 -- 16 entries for each frame, and 16 more
-work-lent : (n : ℕ) → n ≤ 511 → workOk (n + 1) (length (lentWork .u32s)) (length (lentWork .u64s)) (length (lentWork .f64s)) ≡ true
+work-lent : (n : ℕ) → n ≤ mostFrames → workOk (n + 1) (length (lentWork .u32s)) (length (lentWork .u64s)) (length (lentWork .f64s)) ≡ true
 unfolding workOk
 work-lent n h = rw (le-leb (workLength (n + 1)) 8192 (omega (arith, h)))
 
@@ -35,7 +36,7 @@ module _ (r : Recording) (segment : SegmentConfig) (plan : PlanConfig) (values :
   pub planned-room : (n : ℕ) → answer ≡ Planned n → HasRoom n out
   planned-room n e = plan-made r segment plan values flags levels out lentWork lentParents n e .written .fits
 
-  module _ (few : length values ≤ 511) where
+  module _ (few : length values ≤ mostFrames) where
     pub never-13 : numberOf answer ≡ 13 → ⊥
     never-13 = go answer refl
       where

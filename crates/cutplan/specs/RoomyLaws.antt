@@ -12,6 +12,7 @@ use Rattle.plan_pieces.specs.Answer.{numberOf}
 use Rattle.plan_pieces.specs.Output.{Output, Handed, handedOf}
 use Rattle.plan_pieces.specs.declared.answer.Answer.{Answer}
 use Rattle.plan_pieces.specs.declared.answer.Answer.the-variants.{Planned, Refused, ShortParent, NoReach, ShortOutput}
+use Rattle.job.specs.Limits.{mostFrames}
 use Rattle.listing.specs.Listing.{listingOf, refusalLine}
 use Rattle.cutplan.specs.Memory.{handedWithin}
 use Rattle.cutplan.specs.MemoryLaws.{planned-room}
@@ -31,7 +32,7 @@ roomy r segment plan values flags levels NoReach out e p c = tt
 roomy r segment plan values flags levels ShortOutput out e p c = tt
 
 -- of a plan of n pieces
-pub planned-roomy : (a : Answer) (n pieces cuts : ℕ) → a ≡ Planned n → Roomy a pieces cuts → (3 * n ≤ pieces) × (3 * (n - 1) ≤ cuts) × (n ≤ 511)
+pub planned-roomy : (a : Answer) (n pieces cuts : ℕ) → a ≡ Planned n → Roomy a pieces cuts → (3 * n ≤ pieces) × (3 * (n - 1) ≤ cuts) × (n ≤ mostFrames)
 planned-roomy a n pieces cuts e h = subst (λ (b : Answer). Roomy b pieces cuts) e h
 
 -- ---- the lines

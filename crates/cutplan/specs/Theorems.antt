@@ -17,16 +17,16 @@ use lib.Ieee.Fits.{nan-fits}
 use lib.ListN.{length, getD, List·getD-eq-default}
 use Rattle.base_terms.specs.Lists.{tabulate}
 use Rattle.base_code.specs.FrontLaws.{tabulate-length, tabulate-at}
-use Rattle.base_laws.specs.Tests.{holds, lt-or-le, tested}
+use Rattle.base_laws.specs.Tests.{holds, lt-or-le}
 use Rattle.grid.specs.declared.validate.Domain.{Domain}
 use Rattle.grid.specs.declared.validate.Domain.the-variants.{Decibels, Scores}
-use Rattle.candidate_finder.specs.SpanIn.{emptyIn}
 use Rattle.plan_tests.specs.Fitting.{Fitting}
 use Rattle.plan_pieces.specs.Answer.{numberOf}
 use Rattle.plan_pieces.specs.declared.answer.Answer.the-variants.{Planned}
 use Rattle.planner.specs.Operation.{End}
 use Rattle.plan_theorems.specs.Made.{MadeOfSpan}
-use Rattle.plan_theorems.specs.Theorems.{plan-made}
+use Rattle.plan_theorems.specs.Theorems.{plan-made, made-of-span}
+use Rattle.job.specs.Limits.{mostFrames}
 use Rattle.job.specs.Job.{readOf, valuesIn, levelsFor, levelsIn, Asked, Outcome, asks, fails, withLists, jobOf}
 use Rattle.job.specs.JobLaws.{read-within, values-length}
 use Rattle.job.specs.Encode.{encode, Encodable}
@@ -65,12 +65,12 @@ module _ (job : List ℕ) (h : Head) where
       go Decibels at n i = read-fits binary64 _ n i (λ k. ofBits-fits binary64 _)
       go Scores at n i = nan-fits binary64
 
-  few : readOf job ≡ Job h → length (valuesIn job h) ≤ 511
+  few : readOf job ≡ Job h → length (valuesIn job h) ≤ mostFrames
   few e = omega (arith, values-length job h, read-within job h e .few-frames)
 
 -- what is known of a job: few frames, and its floats are of their formats
 record Asking (a : Asked) : Type 0 where
-  few : length (a .values) ≤ 511
+  few : length (a .values) ≤ mostFrames
   fitting : Fitting (a .values) (a .levels)
 
 -- a job, and whether there is one
@@ -115,11 +115,8 @@ module _ (job : List ℕ) (a : Asked) (read : jobOf job ≡ asks a) where
     -- one that has a piece is that of a span
     pub of-span : 0 < n → MadeOfSpan (a .recording) (a .segment) (a .settings) (a .values) (a .flags) (a .levels) n (endFor .out)
     of-span pieces =
-        let m = plan-made (a .recording) (a .segment) (a .settings) (a .values) (a .flags) (a .levels) lentOutput lentWork lentParents n made in
-        elim (tested (emptyIn (a .recording) (a .segment) (a .settings) (a .values) (a .flags))) [
-          | inl e ↦ absurd (omega (arith, pieces, m .empty e .0))
-          | inr e ↦ m .full e (asking job a read .fitting)
-        ]
+        made-of-span (a .recording) (a .segment) (a .settings) (a .values) (a .flags) (a .levels) n lentOutput (endFor .out)
+        (plan-made (a .recording) (a .segment) (a .settings) (a .values) (a .flags) (a .levels) lentOutput lentWork lentParents n made) (asking job a read .fitting) pieces
 
     pub cutplan-parsed : parsedOf (cutplanOf job) ≡ some (planned (rowsOf n (endFor .out .pieces)) (rowsOf (n - 1) (endFor .out .cuts)))
     cutplan-parsed =

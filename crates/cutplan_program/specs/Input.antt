@@ -4,6 +4,6 @@ use Rattle.cutplan_program.specs.declared.input.Input.{Input}
 use Rattle.cutplan_program.specs.declared.input.Input.the-variants.{Read, Failed}
 
 -- those that were read lie in a buffer of this length
-abbrev pub Within : Input → ℕ → Type 0
-Within (Read n) most = n ≤ most
-Within Failed most = Unit {0}
+abbrev pub FitsIn : Input → ℕ → Type 0
+FitsIn (Read n) most = n ≤ most
+FitsIn Failed most = Unit {0}

@@ -5,14 +5,14 @@ use Prim.Native.Nat.{ℕ, _≤_}
 use lib.ListN.{take}
 use Rattle.listing.specs.Listing.{refusalLine}
 use Rattle.cutplan.specs.Cutplan.{cutplanOf}
-use Rattle.cutplan_program.specs.Input.{Within}
+use Rattle.cutplan_program.specs.Input.{FitsIn}
 use Rattle.cutplan_program.specs.Program.{printedAfter}
 use Rattle.cutplan_program.specs.declared.input.Input.{Input}
 use Rattle.cutplan_program.specs.declared.input.Input.the-variants.{Read, Failed}
 
 module _ (got : Input) where
-  pub read-inside : (n most : ℕ) → got ≡ Read n → Within got most → n ≤ most
-  read-inside n most e w = subst (λ (i : Input). Within i most) e w
+  pub read-inside : (n most : ℕ) → got ≡ Read n → FitsIn got most → n ≤ most
+  read-inside n most e w = subst (λ (i : Input). FitsIn i most) e w
 
   pub after-read : (n : ℕ) (buffer : List ℕ) → got ≡ Read n → cutplanOf (take n buffer) ≡ printedAfter got buffer
   after-read n buffer e = rw e

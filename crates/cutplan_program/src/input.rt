@@ -1,7 +1,7 @@
 // Input, read to its end.
 ghost use Prim.Native.Nat.{_≤_};
 ghost use lib.ListN.{length};
-ghost use Rattle.cutplan_program.specs.Input.{Within};
+ghost use Rattle.cutplan_program.specs.Input.{FitsIn};
 
 // How many bytes were read, or that a read failed: the end of the input is no failure.
 pub enum Input {
@@ -11,7 +11,7 @@ pub enum Input {
 
 // Fills a buffer from its front until it is full, the input ends or a read fails.
 pub fn read_to_end(fd: i32, buf: &mut [u8]) -> Input
-    ensures { λ r. ⌜ Within r (length (now (buf .exit))) ⌝ }
+    ensures { λ r. ⌜ FitsIn r (length (now (buf .exit))) ⌝ }
 {
     let mut done: usize = 0;
     while done < buf.len() {

@@ -10,7 +10,7 @@ ghost use lib.ListN.{length};
 ghost use Rattle.base_terms.specs.Lists.{onto};
 ghost use Rattle.io.specs.Counts.{Counts};
 ghost use Rattle.cutplan.specs.Lines.{longestListing};
-ghost use Rattle.cutplan_program.specs.Input.{Within};
+ghost use Rattle.cutplan_program.specs.Input.{FitsIn};
 ghost use Rattle.cutplan_program.specs.Program.{printedAfter, IsStatus};
 
 // One byte more than a job can have, so that a longer one is seen and not cut.
@@ -18,7 +18,7 @@ const INPUT: usize = 8_193;
 
 // The listing for what was read; a read that failed is refused as bytes that are no job are.
 fn list_input(got: Input, job: &[u8], out: &mut [u8]) -> usize
-    requires { ⌜ Within got (length (now job)) ⌝ }
+    requires { ⌜ FitsIn got (length (now job)) ⌝ }
     requires { ⌜ longestListing ≤ length (now out) ⌝ }
     ensures { λ n. ⌜ n ≡ length (printedAfter got (now (job .entry))) ⌝ }
     ensures { λ _. ⌜ now (out .exit) ≡ onto (printedAfter got (now (job .entry))) (now (out .entry)) ⌝ }

@@ -6,6 +6,7 @@ use mathlib.Core.List.{List, [], _∷_, _++_}
 use lib.Dec.{T, ltb}
 use lib.Ieee.{Float, binary32, binary64, fits}
 use lib.ListN.{length, replicate}
+use Rattle.base_terms.specs.Limits.{isU64}
 use Rattle.base_terms.specs.Lists.{allOf}
 use Rattle.numbers_in.specs.Bytes.{bytesOf, f32Bytes, f64Bytes, allBytes}
 use Rattle.grid.specs.declared.validate.Domain.{Domain}
@@ -22,6 +23,7 @@ use Rattle.candidate_settings.specs.declared.config.Gap.the-variants.{Keep, Dro
 use Rattle.candidate_settings.specs.declared.config.Placement.{Placement}
 use Rattle.candidate_settings.specs.declared.config.Placement.the-variants.{Quietest, Center, Ratio}
 use Rattle.candidate_settings.specs.declared.config.PlanConfig.{PlanConfig}
+use Rattle.job.specs.Limits.{mostBytes, mostFrames}
 use Rattle.job.specs.Job.{Asked}
 
 -- bits 0 to 11 stand, but for bit 3 by length
@@ -96,10 +98,7 @@ encode j = bytesOf 2 (mapOf (j .settings .mode)) ++ fieldsBytes j
 
 -- ---- the jobs that can be written
 
--- numbers of 64, 32 and 16 bits
-abbrev pub isU64 : ℕ → Type 0
-isU64 n = n < 18446744073709551616
-
+-- numbers of 32 and 16 bits
 abbrev pub isU32 : ℕ → Type 0
 isU32 n = n < 4294967296
 
@@ -170,7 +169,7 @@ pub record Encodable (j : Asked) : Type 0 where
   pub weights-fit : WeightsFit (j .settings .weights)
   pub segment-fits : SegmentFits (j .segment)
   pub recording-fits : RecordingFits (j .recording)
-  pub few-frames : length (j .values) ≤ 511
+  pub few-frames : length (j .values) ≤ mostFrames
   pub values-fit : allOf (fits binary32) (j .values) ≡ true
   pub lists-fit : listsFit (j .recording .domain) (length (j .values)) (j .flags) (j .levels)
-  pub few-bytes : length (encode j) ≤ 8192
+  pub few-bytes : length (encode j) ≤ mostBytes

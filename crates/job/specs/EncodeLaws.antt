@@ -8,6 +8,7 @@ use borrow.Author.Tests.{le-leb}
 use lib.Dec.{eqb, ltb}
 use lib.Ieee.{Float}
 use lib.ListN.{drop}
+use Rattle.base_terms.specs.Limits.{isU64}
 use Rattle.numbers_in.specs.Bytes.{bytesOf, f32Bytes}
 use Rattle.numbers_in.specs.BytesLaws.{u64-ahead, u32-ahead, u16-ahead, byte-ahead, f32-ahead, f64-ahead}
 use Rattle.grid.specs.declared.validate.Domain.{Domain}
@@ -24,12 +25,13 @@ use Rattle.candidate_settings.specs.declared.config.Gap.the-variants.{Keep, Dro
 use Rattle.candidate_settings.specs.declared.config.Placement.{Placement}
 use Rattle.candidate_settings.specs.declared.config.Placement.the-variants.{Quietest, Center, Ratio}
 use Rattle.candidate_settings.specs.declared.config.PlanConfig.{PlanConfig}
+use Rattle.job.specs.Limits.{mostFrames}
 use Rattle.job.specs.Fields.{stands, u64Field, f32Field, kindField, firstUnknown}
 use Rattle.job.specs.Settings.{lengthsAt, modeAt, gapOf, placementOf, placementAt, shapeAt, weightsIn, weightsAt, settingsAt}
 use Rattle.job.specs.Segment.{thresholdOf, thresholdAt, durationsAt, segmentAt}
 use Rattle.job.specs.Recorded.{domainOf, recordedAt}
 use Rattle.job.specs.Encode.{mapOf, lengthsThen, countThen, gapByte, placementThen, weightsThen, thresholdThen, durationsThen, domainByte, recordedThen}
-use Rattle.job.specs.Encode.{isU64, isF32, countFits, placementFits, thresholdFits, SettingsFit, WeightsFit, SegmentFits, RecordingFits}
+use Rattle.job.specs.Encode.{isF32, countFits, placementFits, thresholdFits, SettingsFit, WeightsFit, SegmentFits, RecordingFits}
 use Rattle.job.specs.declared.fields.Kinds.{Kinds}
 use Rattle.job.specs.declared.fields.Kinds.the-variants.{Known}
 
@@ -209,7 +211,7 @@ module _ (s : List ℕ) where
   domain-known Scores = omega arith
   domain-known Decibels = omega arith
 
-  pub recorded : (r : Recording) (frames at : ℕ) (rest : List ℕ) → RecordingFits r → frames ≤ 511 → drop at s ≡ recordedThen r frames rest
+  pub recorded : (r : Recording) (frames at : ℕ) (rest : List ℕ) → RecordingFits r → frames ≤ mostFrames → drop at s ≡ recordedThen r frames rest
       → (recordedAt s at .recording ≡ r) × (recordedAt s at .kinds ≡ Known) × (recordedAt s at .frames ≡ frames)
       × (drop (at + 23) s ≡ bytesOf 4 frames ++ rest) × (drop (recordedAt s at .next) s ≡ rest)
   unfolding recordedAt

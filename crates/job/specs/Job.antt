@@ -13,6 +13,7 @@ use Rattle.grid.specs.declared.validate.Domain.the-variants.{Decibels, Scores}
 use Rattle.grid.specs.declared.validate.Recording.{Recording}
 use Rattle.silence_list.specs.declared.config.SegmentConfig.{SegmentConfig}
 use Rattle.candidate_settings.specs.declared.config.PlanConfig.{PlanConfig}
+use Rattle.job.specs.Limits.{mostBytes, mostFrames}
 use Rattle.job.specs.Fields.{firstUnknown}
 use Rattle.job.specs.Settings.{settingsAt}
 use Rattle.job.specs.Segment.{segmentAt}
@@ -60,7 +61,7 @@ endOf h = h .lists + listsSize (h .recording .domain) (h .frames)
 unfoldable pub fitted : ℕ → Head → Reading
 fitted len h =
     cond (ltb len (h .lists)) (Refused CutShort len)
-    (cond (ltb 511 (h .frames)) (Refused TooManyFrames (h .lists - 4))
+    (cond (ltb mostFrames (h .frames)) (Refused TooManyFrames (h .lists - 4))
     (cond (ltb len (endOf h)) (Refused CutShort len)
     (cond (ltb (endOf h) len) (Refused BytesAfter (endOf h))
     (Job h))))
@@ -73,7 +74,7 @@ known Known rest = rest
 -- over 8,192 bytes, an unknown bit (12 to 15), an unknown kind, then the job's length
 unfoldable pub readOf : List ℕ → Reading
 readOf job =
-    cond (ltb 8192 (length job)) (Refused TooLong 8192)
+    cond (ltb mostBytes (length job)) (Refused TooLong mostBytes)
     (cond (leb 4096 (u16At job 0)) (Refused UnknownBit 0)
     (known (numbersOf job (u16At job 0) .kinds) (fitted (length job) (numbersOf job (u16At job 0) .head))))
 
@@ -81,8 +82,8 @@ readOf job =
 
 -- what holds of a job that was read: few frames, and the lists end where the job does
 pub record Within (job : List ℕ) (h : Head) : Type 0 where
-  pub few-bytes : length job ≤ 8192
-  pub few-frames : h .frames ≤ 511
+  pub few-bytes : length job ≤ mostBytes
+  pub few-frames : h .frames ≤ mostFrames
   pub to-the-end : endOf h ≡ length job
 
 unfoldable pub valuesIn : List ℕ → Head → List Float

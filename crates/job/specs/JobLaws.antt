@@ -1,14 +1,12 @@
 -- An end for each test of the reader, and what holds of a job that was read.
 use mathlib.Core.Path.{_≡_, refl, sym, ap, subst, _∙_}
 use mathlib.Core.Bool.{Bool, true, false, cond}
-use mathlib.Core.List.{List, [], _∷_, _++_}
-use Prim.Native.Nat.{ℕ, zero, suc, _+_, _-_, _*_, _≤_, _<_}
-use native.Mathlib.Numerals.{add-one}
+use mathlib.Core.List.{List}
+use Prim.Native.Nat.{ℕ, _+_, _-_, _*_, _≤_, _<_}
 use native.Mathlib.Omega.{arith}
 use borrow.Author.Tests.{lt-ltb, le-ltb, le-leb, lt-leb, ltb-false}
 use lib.Dec.{T, ltb, leb}
-use lib.ListN.{length, replicate, replicate-append-replicate, length-replicate}
-use Rattle.base_terms.specs.Lists.{tabulate}
+use lib.ListN.{length, length-replicate}
 use Rattle.base_code.specs.FrontLaws.{tabulate-length}
 use Rattle.numbers_in.specs.Numbers.{u16At}
 use Rattle.grid.specs.Validate.{levelCount}
@@ -16,6 +14,7 @@ use Rattle.grid.specs.declared.validate.Domain.{Domain}
 use Rattle.grid.specs.declared.validate.Domain.the-variants.{Decibels, Scores}
 use Rattle.job.specs.Job.{numbersOf, listsSize, endOf, fitted, known, readOf, Within, valuesIn, flagsFor, flagsIn, levelsFor, levelsIn}
 use Rattle.job.specs.Job.{asks, fails, withLists, jobOf}
+use Rattle.job.specs.Limits.{mostBytes, mostFrames}
 use Rattle.job.specs.declared.answer.Head.{Head}
 use Rattle.job.specs.declared.answer.Fault.{Fault}
 use Rattle.job.specs.declared.answer.Fault.the-variants.{TooLong, UnknownBit, UnknownKind, CutShort, TooManyFrames, BytesAfter}
@@ -28,23 +27,23 @@ use Rattle.job.specs.declared.read.Numbers.{Numbers}
 -- ---- the ends of the reader
 
 module _ (job : List ℕ) where
-  pub too-long : 8192 < length job → Refused TooLong 8192 ≡ readOf job
+  pub too-long : mostBytes < length job → Refused TooLong mostBytes ≡ readOf job
   unfolding readOf
-  too-long h = rw (lt-ltb 8192 (length job) h)
+  too-long h = rw (lt-ltb mostBytes (length job) h)
 
-  module _ (short : length job ≤ 8192) (map : ℕ) (is-map : map ≡ u16At job 0) where
+  module _ (short : length job ≤ mostBytes) (map : ℕ) (is-map : map ≡ u16At job 0) where
     pub unknown-bit : 4096 ≤ map → Refused UnknownBit 0 ≡ readOf job
     unfolding readOf
-    unknown-bit h = rw (le-ltb 8192 (length job) short, ← is-map, le-leb 4096 map h)
+    unknown-bit h = rw (le-ltb mostBytes (length job) short, ← is-map, le-leb 4096 map h)
 
     module _ (few-bits : map < 4096) (numbers : Numbers) (is-numbers : numbers ≡ numbersOf job map) where
       pub unknown-kind : (at : ℕ) → numbers .kinds ≡ Unknown at → Refused UnknownKind at ≡ readOf job
       unfolding readOf known
-      unknown-kind at e = rw (le-ltb 8192 (length job) short, ← is-map, lt-leb 4096 map few-bits, ← is-numbers, e)
+      unknown-kind at e = rw (le-ltb mostBytes (length job) short, ← is-map, lt-leb 4096 map few-bits, ← is-numbers, e)
 
       pub known-kinds : numbers .kinds ≡ Known → (r : Reading) → r ≡ fitted (length job) (numbers .head) → r ≡ readOf job
       unfolding readOf known
-      known-kinds e r f = f ∙ rw (le-ltb 8192 (length job) short, ← is-map, lt-leb 4096 map few-bits, ← is-numbers, e)
+      known-kinds e r f = f ∙ rw (le-ltb mostBytes (length job) short, ← is-map, lt-leb 4096 map few-bits, ← is-numbers, e)
 
 -- ---- the ends of the tests of its length
 
@@ -54,23 +53,23 @@ module _ (len : ℕ) (h : Head) where
   cut-in-numbers l = rw (lt-ltb len (h .lists) l)
 
   module _ (numbers : h .lists ≤ len) where
-    pub too-many-frames : 511 < h .frames → Refused TooManyFrames (h .lists - 4) ≡ fitted len h
+    pub too-many-frames : mostFrames < h .frames → Refused TooManyFrames (h .lists - 4) ≡ fitted len h
     unfolding fitted
-    too-many-frames l = rw (le-ltb len (h .lists) numbers, lt-ltb 511 (h .frames) l)
+    too-many-frames l = rw (le-ltb len (h .lists) numbers, lt-ltb mostFrames (h .frames) l)
 
-    module _ (few : h .frames ≤ 511) (end : ℕ) (is-end : end ≡ endOf h) where
+    module _ (few : h .frames ≤ mostFrames) (end : ℕ) (is-end : end ≡ endOf h) where
       pub cut-in-lists : len < end → Refused CutShort len ≡ fitted len h
       unfolding fitted
-      cut-in-lists l = rw (le-ltb len (h .lists) numbers, le-ltb 511 (h .frames) few, ← is-end, lt-ltb len end l)
+      cut-in-lists l = rw (le-ltb len (h .lists) numbers, le-ltb mostFrames (h .frames) few, ← is-end, lt-ltb len end l)
 
       module _ (lists : end ≤ len) where
         pub bytes-after : end < len → Refused BytesAfter end ≡ fitted len h
         unfolding fitted
-        bytes-after l = rw (le-ltb len (h .lists) numbers, le-ltb 511 (h .frames) few, ← is-end, le-ltb len end lists, lt-ltb end len l)
+        bytes-after l = rw (le-ltb len (h .lists) numbers, le-ltb mostFrames (h .frames) few, ← is-end, le-ltb len end lists, lt-ltb end len l)
 
         pub all-read : len ≤ end → Job h ≡ fitted len h
         unfolding fitted
-        all-read l = rw (le-ltb len (h .lists) numbers, le-ltb 511 (h .frames) few, ← is-end, le-ltb len end lists, le-ltb end len l)
+        all-read l = rw (le-ltb len (h .lists) numbers, le-ltb mostFrames (h .frames) few, ← is-end, le-ltb len end lists, le-ltb end len l)
 
 -- ---- what holds of a job that was read
 
@@ -92,16 +91,16 @@ unfolding known
 all-known Known rest h e = e
 all-known (Unknown at) rest h e = absurd (subst (λ (r : Reading). T (isJob r)) (sym e) tt)
 
-fitted-within : (job : List ℕ) (g h : Head) → length job ≤ 8192 → fitted (length job) g ≡ Job h → Within job h
+fitted-within : (job : List ℕ) (g h : Head) → length job ≤ mostBytes → fitted (length job) g ≡ Job h → Within job h
 unfolding fitted
 fitted-within job g h short e =
     let a = passed (ltb (length job) (g .lists)) CutShort (length job) _ h e in
-    let b = passed (ltb 511 (g .frames)) TooManyFrames _ _ h (a .1) in
+    let b = passed (ltb mostFrames (g .frames)) TooManyFrames _ _ h (a .1) in
     let c = passed (ltb (length job) (endOf g)) CutShort (length job) _ h (b .1) in
     let d = passed (ltb (endOf g) (length job)) BytesAfter (endOf g) _ h (c .1) in
     subst (Within job) (ap (headOr g) (d .1)) (record {
       few-bytes = short;
-      few-frames = ltb-false 511 (g .frames) (b .0);
+      few-frames = ltb-false mostFrames (g .frames) (b .0);
       to-the-end = equal (endOf g) (length job) (ltb-false (length job) (endOf g) (c .0)) (ltb-false (endOf g) (length job) (d .0));
     })
   where
@@ -111,9 +110,9 @@ fitted-within job g h short e =
 pub read-within : (job : List ℕ) (h : Head) → readOf job ≡ Job h → Within job h
 unfolding readOf
 read-within job h e =
-    let a = passed (ltb 8192 (length job)) TooLong 8192 _ h e in
+    let a = passed (ltb mostBytes (length job)) TooLong mostBytes _ h e in
     let b = passed (leb 4096 (u16At job 0)) UnknownBit 0 _ h (a .1) in
-    fitted-within job (numbersOf job (u16At job 0) .head) h (ltb-false 8192 (length job) (a .0)) (all-known (numbersOf job (u16At job 0) .kinds) _ h (b .1))
+    fitted-within job (numbersOf job (u16At job 0) .head) h (ltb-false mostBytes (length job) (a .0)) (all-known (numbersOf job (u16At job 0) .kinds) _ h (b .1))
 
 -- ---- the lists of a job that was read lie in it
 
@@ -135,13 +134,6 @@ module _ {job : List ℕ} {h : Head} (w : Within job h) where
 
     pub levels-inside : h .lists + 5 * h .frames + 8 * h .frames ≤ length job
     levels-inside = omega (arith, decibels-end)
-
--- ---- flags of scores
-
-pub tabulate-same : {A : Type 0} (v : A) (n : ℕ) → tabulate (λ (i : ℕ). v) n ≡ replicate n v
-unfolding tabulate
-tabulate-same v zero = refl
-tabulate-same v (suc n) = ap (λ xs. xs ++ (v ∷ [])) (tabulate-same v n) ∙ replicate-append-replicate n 1 v ∙ rw add-one
 
 -- ---- the whole job, and how long its lists are
 

@@ -1,4 +1,6 @@
 -- What bytes say as a job: document 01, "The job and the listing".
+-- Limits: the most bytes and frames of a job (`mostBytes`, `mostFrames`)
+pub mod Limits
 -- Fields: a field of each sort, with the place behind it (`u64Field`, `f32Field`, `kindField`), the bits of the map (`stands`)
 pub mod Fields
 -- Settings: bits 0 to 6, the settings of a plan (`settingsAt`)

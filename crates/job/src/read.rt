@@ -11,6 +11,7 @@ use grid::validate::Domain;
 use numbers_in::number;
 ghost use mathlib.Core.Path.{_≡_};
 ghost use Prim.Native.Nat.{_≤_};
+ghost use Rattle.job.specs.Limits.{mostFrames};
 ghost use Rattle.job.specs.Job.{listsSize, numbersOf, fitted, readOf};
 
 // A job has at most so many bytes.
@@ -53,7 +54,7 @@ fn numbers_of(job: &[u8], map: u16) -> Numbers
 
 // How many bytes the lists take.
 fn lists_size(domain: Domain, frames: usize) -> usize
-    requires { ⌜ frames ≤ 511 ⌝ }
+    requires { ⌜ frames ≤ mostFrames ⌝ }
     ensures { λ r. ⌜ r ≤ 6643 ⌝ }
     ensures { λ r. ⌜ r ≡ listsSize domain frames ⌝ }
 {

@@ -6,16 +6,17 @@ use native.Mathlib.Nat.{lt-of-lt-of-le}
 use native.Mathlib.Omega.{arith}
 use lib.Dec.{eqb, lit≤}
 use lib.ListN.{length, length-append}
+use Rattle.base_terms.specs.Limits.{isU64}
 use Rattle.base_laws.specs.Tests.{tested}
 use Rattle.base_code.specs.FrontLaws.{tabulate-length}
 use Rattle.base_terms.specs.Lists.{tabulate}
 use Rattle.listing.specs.Text.{bytesOf, decimalOf, joined}
 use Rattle.listing.specs.TextLaws.{decimal-fits}
-use Rattle.listing.specs.Rows.{Wide, AllWide, rowAt, rowsOf}
+use Rattle.listing.specs.Rows.{AllWide, rowAt, rowsOf}
 use Rattle.listing.specs.Listing.{flagsWord, reasonWord, numbersLine, planLine, pieceLine, cutLine, linesOf, listed, listingOf, refusalLine, planLineRoom, pieceLineRoom, cutLineRoom, refusalRoom, roomFor}
 use Rattle.listing.specs.Lines.{lines-more}
 
-number-fits : (n : ℕ) → Wide n → length (decimalOf n) ≤ 20
+number-fits : (n : ℕ) → isU64 n → length (decimalOf n) ≤ 20
 number-fits n h = decimal-fits 19 n (lt-of-lt-of-le h (lit≤ tt))
 
 flags-fit : (flags : ℕ) → length (flagsWord flags) ≤ 2
@@ -35,19 +36,19 @@ reason-fits reason = elim (tested (eqb reason 0)) [
   | inr e ↦ rw e (elim (tested (eqb reason 1)) [ inl f ↦ rw f (omega arith) | inr f ↦ rw f (omega arith) ])
 ]
 
-numbers-fit : (word : List ℕ) (a b : ℕ) → Wide a → Wide b → length (numbersLine word a b) ≤ length word + 41
+numbers-fit : (word : List ℕ) (a b : ℕ) → isU64 a → isU64 b → length (numbersLine word a b) ≤ length word + 41
 unfolding numbersLine joined
 numbers-fit word a b h k = simp length-append (omega (arith, number-fits a h, number-fits b k))
 
-plan-fits : (pieces cuts : ℕ) → Wide pieces → Wide cuts → length (planLine pieces cuts) ≤ planLineRoom
+plan-fits : (pieces cuts : ℕ) → isU64 pieces → isU64 cuts → length (planLine pieces cuts) ≤ planLineRoom
 unfolding planLine joined
 plan-fits pieces cuts h k = simp length-append (omega (arith, numbers-fit (bytesOf "plan ") pieces cuts h k))
 
-piece-fits : (start end flags : ℕ) → Wide start → Wide end → length (pieceLine start end flags) ≤ pieceLineRoom
+piece-fits : (start end flags : ℕ) → isU64 start → isU64 end → length (pieceLine start end flags) ≤ pieceLineRoom
 unfolding pieceLine joined
 piece-fits start end flags h k = simp length-append (omega (arith, numbers-fit (bytesOf "piece ") start end h k, flags-fit flags))
 
-cut-fits : (end start reason : ℕ) → Wide end → Wide start → length (cutLine end start reason) ≤ cutLineRoom
+cut-fits : (end start reason : ℕ) → isU64 end → isU64 start → length (cutLine end start reason) ≤ cutLineRoom
 unfolding cutLine joined
 cut-fits end start reason h k = simp length-append (omega (arith, numbers-fit (bytesOf "cut ") end start h k, reason-fits reason))
 
@@ -56,7 +57,7 @@ pub refusal-fits : (number : ℕ) → number < 4294967296 → length (refusalLin
 unfolding refusalLine joined
 refusal-fits number h = simp length-append (omega (arith, decimal-fits 9 number (lt-of-lt-of-le h (lit≤ tt))))
 
-module _ (line : ℕ → ℕ → ℕ → List ℕ) (room : ℕ) (fits : (a b c : ℕ) → Wide a → Wide b → length (line a b c) ≤ room) where
+module _ (line : ℕ → ℕ → ℕ → List ℕ) (room : ℕ) (fits : (a b c : ℕ) → isU64 a → isU64 b → length (line a b c) ≤ room) where
   lines-fit : (n : ℕ) (numbers : List ℕ) → AllWide numbers → length (linesOf line (rowsOf n numbers)) ≤ room * n
   unfolding linesOf joined tabulate
   lines-fit zero numbers w = omega arith
@@ -65,7 +66,7 @@ module _ (line : ℕ → ℕ → ℕ → List ℕ) (room : ℕ) (fits : (a b c :
       rw (lines-more line numbers n, length-append)
       (omega (arith, lines-fit n numbers w, fits (row .from) (row .to) (row .mark) (w .at (3 * n)) (w .at (3 * n + 1))))
 
-pub listing-fits : (n : ℕ) (pieces cuts : List ℕ) → Wide n → AllWide pieces → AllWide cuts
+pub listing-fits : (n : ℕ) (pieces cuts : List ℕ) → isU64 n → AllWide pieces → AllWide cuts
     → length (listingOf n pieces cuts) ≤ roomFor n
 unfolding listingOf listed joined
 listing-fits n pieces cuts h p c =

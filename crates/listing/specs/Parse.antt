@@ -8,9 +8,9 @@ use Rattle.listing.specs.Text.{bytesOf}
 use Rattle.listing.specs.Rows.{Row}
 
 -- what was printed
-pub data Printed : Type 0 where
-  planned : List Row → List Row → Printed
-  refused : ℕ → Printed
+pub data Parsed : Type 0 where
+  planned : List Row → List Row → Parsed
+  refused : ℕ → Parsed
 
 -- a value that was read, and the bytes behind it
 pub record Read (A : Type 0) : Type 0 where
@@ -91,12 +91,12 @@ rowsIn word ends (suc n) bytes =
 -- ---- the whole
 
 -- nothing follows
-unfoldable pub ended : List ℕ → Printed → Option Printed
+unfoldable pub ended : List ℕ → Parsed → Option Parsed
 ended [] printed = some printed
 ended (b ∷ bytes) printed = none
 
 -- the listing of a plan: its counts say how many lines follow
-unfoldable pub planIn : List ℕ → Option Printed
+unfoldable pub planIn : List ℕ → Option Parsed
 planIn bytes =
     andThen (wordIn (bytesOf "plan ") bytes) (λ first.
     andThen (numberIn first) (λ pieceCount.
@@ -108,7 +108,7 @@ planIn bytes =
     ended (cuts .rest) (planned (pieces .value) (cuts .value)))))))))
 
 -- the line of a refusal
-unfoldable pub refusalIn : List ℕ → Option Printed
+unfoldable pub refusalIn : List ℕ → Option Parsed
 refusalIn bytes =
     andThen (wordIn (bytesOf "refused ") bytes) (λ first.
     andThen (numberIn first) (λ number.
@@ -116,5 +116,5 @@ refusalIn bytes =
     ended rest (refused (number .value)))))
 
 -- what the bytes say
-unfoldable pub parsedOf : List ℕ → Option Printed
+unfoldable pub parsedOf : List ℕ → Option Parsed
 parsedOf bytes = orElse (planIn bytes) (refusalIn bytes)

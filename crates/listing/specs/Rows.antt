@@ -1,7 +1,8 @@
 -- A plan as the operation Plan gives it: three numbers for each piece, one piece behind another, and three for each cut.
-use Prim.Native.Nat.{ℕ, _+_, _*_, _≤_, _<_}
+use Prim.Native.Nat.{ℕ, _+_, _*_, _≤_}
 use mathlib.Core.List.{List, [], _∷_}
 use lib.ListN.{getD}
+use Rattle.base_terms.specs.Limits.{isU64}
 use Rattle.base_terms.specs.Lists.{tabulate}
 
 -- a piece's start, end and flags; a cut's previous end, next start and reason
@@ -22,10 +23,6 @@ abbrev pub MarksTo : ℕ → List Row → Type 0
 MarksTo most [] = Unit {0}
 MarksTo most (row ∷ rows) = (row .mark ≤ most) × MarksTo most rows
 
--- a number of 64 bits
-abbrev pub Wide : ℕ → Type 0
-Wide n = n < 18446744073709551616
-
--- a list of them
+-- every number is of 64 bits
 pub record AllWide (numbers : List ℕ) : Type 0 where
-  pub at : (i : ℕ) → Wide (getD numbers i 0)
+  pub at : (i : ℕ) → isU64 (getD numbers i 0)

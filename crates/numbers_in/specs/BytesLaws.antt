@@ -12,6 +12,7 @@ use lib.ListN.{length, getD, take, drop, length-append}
 use lib.Seq.{take-at, drop-at, drop-drop, getD-drop}
 use Rattle.base_laws.specs.Tests.{both, holds}
 use Rattle.base_terms.specs.Lists.{tabulate, allOf}
+use Rattle.base_code.specs.FrontLaws.{tabulate-first}
 use Rattle.numbers_in.specs.Numbers.{numberOf, numberAt, byteAt, u16At, u32At, u64At, f32At, f64At}
 use Rattle.numbers_in.specs.Bytes.{bytesOf, f32Bytes, f64Bytes, allBytes}
 
@@ -68,11 +69,6 @@ module _ (s : List ℕ) where
       (ap (ofBits binary64) (p .0) ∙ ofBits-toBits binary64 x h, p .1)
 
 -- ---- a list of numbers
-
-tabulate-first : {A : Type 0} (f : ℕ → A) (n : ℕ) → tabulate f (suc n) ≡ f 0 ∷ tabulate (λ (i : ℕ). f (suc i)) n
-unfolding tabulate
-tabulate-first f zero = refl
-tabulate-first f (suc n) = ap (λ xs. xs ++ (f (suc n) ∷ [])) (tabulate-first f n)
 
 none : (at size : ℕ) → at + size * 0 ≡ at
 none at size = rw (mul-zero) (add-zero at)

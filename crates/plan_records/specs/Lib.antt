@@ -10,7 +10,7 @@ pub mod Cuts
 pub mod RecordsLaws
 -- PiecesLaws: each flag of a record stands where the plan sets it (`piece-flagged`), and no number is lost (`piece-back`)
 pub mod PiecesLaws
--- CutsLaws: a candidate's reason is kept (`reasons-few`, `reason-kept`), and no number is lost (`cut-back`)
+-- CutsLaws: a candidate's reason is kept (`reason-kept`), and no number is lost (`cut-back`)
 pub mod CutsLaws
 -- Theorems: record i of a plan is piece or cut i of its path (`records-of-plan`, `cut-records-of-plan`), and nothing is lost (`pieces-kept`, `cuts-kept`)
 pub mod Theorems

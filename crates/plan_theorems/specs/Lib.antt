@@ -12,7 +12,7 @@ pub mod EndsLaws
 pub mod FollowsLaws
 -- MadeLaws: demands 2 and 3 of a plan of a span that is not empty, by length and by count (`made-by-length`, `made-by-count`); what 14 and 18 say (`few-made`, `missing-made`)
 pub mod MadeLaws
--- Theorems: the claims hold of every plan (`plan-made`) and of every call (`plan-ended`)
+-- Theorems: the claims hold of every plan (`plan-made`, `made-of-span`) and of every call (`plan-ended`)
 pub mod Theorems
 -- Trials: document 01's recording R through the whole definition of the operation (`plan-trials`)
 pub mod Trials

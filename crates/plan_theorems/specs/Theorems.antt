@@ -7,14 +7,15 @@
 --   reach-one (division/specs/ReachLaws)       two limits that are the reach are one
 --   greedy-ahead (division/specs/GreedyLaws)   cut by cut the greedy division is nowhere behind any division that keeps its limit; by greedy-one there is only one
 use mathlib.Core.Path.{_≡_, refl, sym, ap, subst, _∙_}
+use mathlib.Core.Logic.{inl, inr}
 use mathlib.Core.Bool.{Bool, true, false}
 use mathlib.Core.List.{List}
-use Prim.Native.Nat.{ℕ, _*_, _≤_}
+use Prim.Native.Nat.{ℕ, _*_, _≤_, _<_}
 use native.Mathlib.Omega.{arith}
 use lib.Ieee.{Float}
 use lib.ListN.{length, replicate, length-replicate}
 use Rattle.base_code.specs.FrontLaws.{onto-nil}
-use Rattle.base_laws.specs.Tests.{unmet}
+use Rattle.base_laws.specs.Tests.{tested, unmet}
 use Rattle.base_terms.specs.Lists.{filled}
 use Rattle.base_terms.specs.Work.{Work, cleared}
 use Rattle.grid.specs.Validate.{gridOf}
@@ -348,3 +349,11 @@ module _ (r : Recording) (segment : SegmentConfig) (plan : PlanConfig) (values :
   -- of every call
   pub plan-ended : Ended r segment plan values flags lent out work parent
   plan-ended = ended r segment plan values flags lent work parent out
+
+-- a plan that has a piece is that of a span
+pub made-of-span : (r : Recording) (segment : SegmentConfig) (plan : PlanConfig) (values : List Float) (flags : List ℕ) (lent : List Float) (k : ℕ) (before after : Output)
+    → Made r segment plan values flags lent k before after → Fitting values lent → 0 < k → MadeOfSpan r segment plan values flags lent k after
+made-of-span r segment plan values flags lent k before after made f pieces = elim (tested (emptyIn r segment plan values flags)) [
+  | inl e ↦ absurd (omega (arith, pieces, made .empty e .0))
+  | inr e ↦ made .full e f
+]

@@ -3,6 +3,7 @@
 mod divisions;
 mod large;
 mod occurrences;
+mod records;
 mod refusals;
 
 use super::lists::{List, Work, enough, first_fault};
@@ -15,12 +16,13 @@ use crate::plan_job::trials;
 use crate::rng::Rng;
 use crate::tally::Tally;
 
-pub fn subjects() -> [Subject; 4] {
+pub fn subjects() -> [Subject; 5] {
     [
         Subject::new("plan", plan),
         Subject::new("plan_all", plan_all),
         Subject::new("plan_large", large::large),
         Subject::new("plan_refusals", refusals::refusals),
+        Subject::new("records", records::records),
     ]
 }
 

@@ -9,6 +9,8 @@ use crate::silence_job;
 /// Where the answer goes: start, end and flags of each piece, previous end, next start and reason
 /// of each cut, and the number of pieces.
 pub use super::buchawzer::PlanOutput as Answer;
+/// A plan's numbers as records.
+pub use super::buchawzer::{Cut, Piece, cut_records, piece_records};
 
 /// Document 01's refusal, or 0 with the answer in its places.
 pub fn plan(

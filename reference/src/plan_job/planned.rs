@@ -5,7 +5,7 @@ use std::time::Duration;
 use silence_split::analyze::Analysis;
 use silence_split::candidates::Shown;
 use silence_split::dp::Preferences;
-use silence_split::plan::{Plan, hook_completed, hook_found, plan};
+use silence_split::plan::{Cut, Plan, hook_completed, hook_found, plan};
 
 use super::places::Places;
 use super::{Job, reason};
@@ -64,10 +64,20 @@ impl Course {
     }
 }
 
+/// The number of a cut's reason.
+pub fn cut_reason(cut: &Cut) -> u8 {
+    reason(cut.reason) as u8
+}
+
 impl Job {
-    pub fn planned(&self) -> Planned {
+    /// The Rust's own plan.
+    pub fn rust_plan(&self) -> Plan {
         let (analysis, segment, config) = self.rust();
-        plan(&analysis, &segment, &config).into()
+        plan(&analysis, &segment, &config)
+    }
+
+    pub fn planned(&self) -> Planned {
+        self.rust_plan().into()
     }
 
     /// The way up to completion.

@@ -7,7 +7,7 @@ use Prim.Native.Nat.{ℕ, _-_, _≤_}
 use lib.ListN.{length, length-set}
 use Rattle.base_terms.specs.Lists.{onto, tabulate}
 use Rattle.numbers_in.specs.NumbersLaws.{copied-start, copied-next, copied-done}
-use Rattle.job.specs.JobLaws.{tabulate-same}
+use Rattle.base_code.specs.FrontLaws.{tabulate-same}
 use Rattle.job.proofs.lists.put_no_flags.Statement.{statement}
 use Rattle.job.proofs.lists.put_no_flags.Tie as tie
 
