@@ -11,7 +11,7 @@
  * - A list or a number that a call may write overlaps nothing else of that call. This is not tested and must hold.
  * - A `bool` is 0 or 1.
  * - Lengths of sound are in samples of one channel, durations in nanoseconds.
- * - buchawzer_cutplan keeps its lists on the stack and needs 300 KB of it; the other functions need little.
+ * - buchawzer_cutplan keeps its lists on the stack, and wants 320 KB of it; the other operations want 64 KB.
  * - No function fails in another way than by its number: whatever the numbers and the lists hold, nothing is read or
  *   written outside the lists, and every call returns. There is no global state, so that several threads may call at once,
  *   each with lists of its own.
