@@ -37,7 +37,7 @@ module _ (g : FrameGrid) (s : Span) where
   -- a division within the reach
   pub demand-reach : (count maximum reach : ℕ) (cuts : List Cut) → IsReach g s count maximum reach → Division s cuts
       → length (piecesOf s cuts) ≡ piecesAsked s count → longest g (piecesOf s cuts) ≤ reach → DemandByCount g s count maximum cuts
-  demand-reach count maximum reach cuts r d n w = record { divides = d; number = n; least = least }
+  demand-reach count maximum reach cuts r d n w = record { divides = d; number = omega (arith, n); least = least }
     where
       least : (p : Piece) → List·Memᴰ p (piecesOf s cuts) → maximum < lengthOf g p
           → (others : List Cut) → Division s others → length (piecesOf s others) ≤ piecesAsked s count
@@ -59,14 +59,11 @@ module _ (g : FrameGrid) (s : Span) where
 
   -- ---- by length
 
-  -- a division whose pieces over the maximum are pieces of another, each of which is within the maximum or a single frame
-  pub demand-length : (maximum : ℕ) (cuts all : List Cut) → Division s cuts
-      → ((p : Piece) → List·Memᴰ p (piecesOf s cuts) → maximum < lengthOf g p → List·Memᴰ p (piecesOf s all))
-      → ((p : Piece) → List·Memᴰ p (piecesOf s all) → (lengthOf g p ≤ maximum) ⊎ IsSingle p) → DemandByLength g s maximum cuts
-  demand-length maximum cuts all d f e = record { divides = d; single = single }
-    where
-      single : (p : Piece) → List·Memᴰ p (piecesOf s cuts) → maximum < lengthOf g p → IsSingle p
-      single p m over = elim (e p (f p m over)) [ inl h ↦ absurd (omega (arith, h, over)) | inr h ↦ h ]
+  -- a division of which each piece is within the maximum or a single frame
+  pub demand-length : (maximum : ℕ) (cuts : List Cut) → Division s cuts → ((p : Piece) → List·Memᴰ p (piecesOf s cuts) → (lengthOf g p ≤ maximum) ⊎ IsSingle p)
+      → DemandByLength g s maximum cuts
+  demand-length maximum cuts d each =
+      record { divides = d; single = λ p m over. elim (each p m) [ inl h ↦ absurd (omega (arith, h, over)) | inr h ↦ h ] }
 
 -- ---- what completion by count leaves: cuts at places, among them those of the greedy division within the reach and those of equal shares
 

@@ -57,7 +57,7 @@ pub mod Demand
 -- DemandLaws:
 --   demand-reach                a division into min(N, kept frames) pieces within the reach meets demand 3 by count
 --   demand-maximum              and so does one into N pieces within the maximum, where no reach is sought
---   demand-length               one whose long pieces are steps between neighbours, within the maximum or a single frame each, meets it by length
+--   demand-length               one of which each piece is within the maximum or a single frame meets it by length
 --   shares-suffice, pieces-asked, reach-kept   cuts that hold the shares' suffice for min(N, kept frames) pieces, and with the greedy ones have such a division within the reach
 pub mod DemandLaws
 -- Trials: the definitions at recording R of document 01

@@ -2,6 +2,7 @@
 use mathlib.Core.Path.{_≡_, refl}
 use mathlib.Core.Bool.{true, false}
 use mathlib.Core.List.{[], _∷_}
+use native.Mathlib.Omega.{arith}
 use Rattle.grid.specs.Boundary.{boundaryOf, startOf}
 use Rattle.grid.specs.declared.boundary.FrameGrid.{FrameGrid}
 use Rattle.candidate_settings.specs.declared.config.Gap.the-variants.{Keep, Drop}
@@ -14,6 +15,7 @@ use Rattle.division.specs.Pieces.{pieceFrom, piecesOf, longest, overs}
 use Rattle.division.specs.Places.{cutAt, placesOf}
 use Rattle.division.specs.Divisions.{divisionsOf, keeps, anyOf, isFeasible}
 use Rattle.division.specs.Shares.{sharesOf}
+use Rattle.division.specs.Demand.{DemandByCount}
 
 grid : FrameGrid
 grid = record { «sample_rate» = 1000; «frame_rate» = 10; hop = 1; len = 700; frames = 7 }
@@ -50,6 +52,11 @@ too-short = refl
 just-enough : isFeasible grid whole 2 400 ≡ true
 unfolding firstOf lastOf gapsOf keptFrames dropped grid boundaryOf startOf divisionsOf keeps anyOf isFeasible
 just-enough = refl
+
+-- demand 3 by count asks for exactly as many pieces: two are none of three
+two-for-three : DemandByCount grid whole 3 300 (cutAt 3 ∷ []) → ⊥
+unfolding firstOf lastOf gapsOf keptFrames dropped
+two-for-three d = omega (arith, d .number)
 
 -- "count 8: seven pieces"
 kept-seven : keptIn whole ≡ 7

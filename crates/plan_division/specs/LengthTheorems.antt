@@ -2,12 +2,13 @@
 --   length-demand   a path that the piece rule allows, its limit the maximum
 --   length-found    the same of `bestPath`
 use mathlib.Core.Path.{_≡_, sym, subst}
-use mathlib.Core.Logic.{inl, inr}
+use mathlib.Core.Logic.{_⊎_, inl, inr}
 use mathlib.Core.List.{List, List·Memᴰ}
-use Prim.Native.Nat.{ℕ, _-_, _<_}
+use Prim.Native.Nat.{ℕ, _-_, _≤_, _<_}
 use native.Mathlib.Omega.{arith}
 use lib.Ieee.{Float}
 use lib.ListN.{length}
+use Rattle.base_laws.specs.Tests.{lt-or-le}
 use Rattle.grid.specs.BoundaryLaws.{Accepted}
 use Rattle.grid.specs.declared.boundary.FrameGrid.{FrameGrid}
 use Rattle.path_pieces.specs.Domain.{Searchable}
@@ -19,6 +20,7 @@ use Rattle.candidate_span.specs.Gaps.{Spread}
 use Rattle.division.specs.Division.{Span}
 use Rattle.division.specs.Pieces.{Piece, piecesOf, IsSingle, lengthOf}
 use Rattle.division.specs.Demand.{DemandByLength}
+use Rattle.division.specs.DemandLaws.{demand-length}
 use Rattle.candidates.specs.declared.candidate.Candidate.{Candidate}
 use Rattle.candidates.specs.Samples.{leftsOf, rightsOf}
 use Rattle.plan_division.specs.Along.{cutsAlong, pieceBetween, Rising}
@@ -47,7 +49,7 @@ module _ (g : FrameGrid) (ok : Accepted g) (s : Span) (spread : Spread (s .first
 
   -- a path by length
   pub length-demand : (path : List ℕ) → PathByLength maximum (leftsOf g cs) (rightsOf g cs) path → DemandByLength g s maximum (cutsAlong cs path)
-  length-demand path a = record { divides = along-divides s cs (c .across) path rises; single = single }
+  length-demand path a = demand-length g s maximum (cutsAlong cs path) (along-divides s cs (c .across) path rises) each
     where
       allowed : Path Rule path (length cs - 1)
       allowed = subst (λ (n : ℕ). Path Rule path n) (last-same g cs) a
@@ -55,9 +57,11 @@ module _ (g : FrameGrid) (ok : Accepted g) (s : Span) (spread : Spread (s .first
       rises : Rising cs path
       rises = length-rises g cs maximum path a
 
-      single : (q : Piece) → List·Memᴰ q (piecesOf s (cutsAlong cs path)) → maximum < lengthOf g q → IsSingle q
-      single q m =
-          long-single q (path-piece cs Rule (λ i j b. b .0) path (length cs - 1) q allowed (subst (λ (qs : List Piece). List·Memᴰ q qs) (pieces-along s cs (c .across) path rises) m))
+      each : (q : Piece) → List·Memᴰ q (piecesOf s (cutsAlong cs path)) → (lengthOf g q ≤ maximum) ⊎ IsSingle q
+      each q m = elim (lt-or-le maximum (lengthOf g q)) [
+        | inl over ↦ inr (long-single q (path-piece cs Rule (λ i j b. b .0) path (length cs - 1) q allowed (subst (λ (qs : List Piece). List·Memᴰ q qs) (pieces-along s cs (c .across) path rises) m)) over)
+        | inr h ↦ inl h
+      ]
 
   -- so the path that is found
   pub length-found : (l : Lengths) (cost : List Float) → l .limit ≡ maximum → Searchable l (leftsOf g cs) (rightsOf g cs) cost

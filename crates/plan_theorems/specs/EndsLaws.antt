@@ -1,11 +1,13 @@
 -- The ends of a plan, by the tests that lead to each and whatever the output: which of them makes a plan, along which path, and what the others say.
 use mathlib.Core.Path.{_≡_, refl}
 use mathlib.Core.Bool.{Bool, true, false}
+use mathlib.Core.Logic.{inl, inr}
 use mathlib.Core.List.{List, []}
 use Prim.Native.Nat.{ℕ, _-_, _*_, _<_, min}
 use native.Mathlib.Omega.{arith}
-use borrow.Author.Tests.{leb-false, le-leb}
+use borrow.Author.Tests.{leb-false, le-leb, lt-leb}
 use lib.ListN.{length}
+use Rattle.base_laws.specs.Tests.{tested}
 use Rattle.base_terms.specs.Lists.{onto}
 use Rattle.grid.specs.declared.boundary.FrameGrid.{FrameGrid}
 use Rattle.path_pieces.specs.declared.mode.Mode.{Mode}
@@ -62,6 +64,14 @@ module _ (g : FrameGrid) (plan : PlanConfig) (cs : List Candidate) (path : List 
             record { number = n; fits = (rw (← n) (f refl .0), rw (← n) (f refl .1)); is = refl }
         go false f e = let z : _≡_ {A = ℕ} 0 1 = cc in absurd (omega arith)
 
+    -- without room it is 12
+    pub along-refused : (HasRoom (length path - 1) out → ⊥) → planAlong g plan cs path out .answer ≡ ShortOutput
+    unfolding handedOutOf
+    along-refused never = elim (tested (hasRoom (length path - 1) (length (out .pieces)) (length (out .cuts)))) [
+      | inl e ↦ absurd (never (room-parts (length path - 1) (length (out .pieces)) (length (out .cuts)) e))
+      | inr e ↦ rw e
+    ]
+
     -- 12 alone is said otherwise, and then there is no room
     along-short : planAlong g plan cs path out .answer ≡ ShortOutput → HasRoom (length path - 1) out → ⊥
     along-short e h = let f = along-made out h in let z : _≡_ {A = ℕ} 0 1 = cc in omega arith
@@ -90,10 +100,30 @@ module _ (g : FrameGrid) (plan : PlanConfig) (s : Span) (with : List Cut → Lis
   pub data CountEnd : PlanEnd → Type 0 where
     first-short : hasParents count (length (with [])) parents ≡ false → CountEnd short-parent
     at-first : suffices g plan s count maximum (with []) ≡ true → CountEnd (along (with []) (pathByCount g plan s count maximum (with [])))
-    reach-none : reachOf g s count maximum ≡ Nothing → CountEnd without-reach
-    second-short : (limit : ℕ) → reachOf g s count maximum ≡ Reach limit → hasParents count (length (second limit)) parents ≡ false → CountEnd short-parent
+    reach-none : suffices g plan s count maximum (with []) ≡ false → reachOf g s count maximum ≡ Nothing → CountEnd without-reach
+    second-short : suffices g plan s count maximum (with []) ≡ false → (limit : ℕ) → reachOf g s count maximum ≡ Reach limit
+        → hasParents count (length (second limit)) parents ≡ false → CountEnd short-parent
     with-reach : suffices g plan s count maximum (with []) ≡ false → (limit : ℕ) → reachOf g s count maximum ≡ Reach limit
         → CountEnd (along (second limit) (pathByCount g plan s count limit (second limit)))
+
+  -- ---- what the tests give, whatever the output
+
+  -- 14 at the first path
+  pub short-at-first : hasParents count (length (with [])) parents ≡ false → (out : Output) → planByCount g plan s with count parents out ≡ handedOf ShortParent out
+  unfolding planByCount
+  short-at-first h out = rw h
+
+  -- 14 at the second, or at the first before it
+  pub short-at-second : suffices g plan s count maximum (with []) ≡ false → (limit : ℕ) → reachOf g s count maximum ≡ Reach limit
+      → hasParents count (length (second limit)) parents ≡ false → (out : Output) → planByCount g plan s with count parents out ≡ handedOf ShortParent out
+  unfolding planByCount plannedUnder
+  short-at-second e limit i h out = elim (tested (hasParents count (length (with [])) parents)) [ inl t ↦ rw (t, e, i, h) | inr t ↦ rw t ]
+
+  -- 18
+  pub none-at-second : hasParents count (length (with [])) parents ≡ true → suffices g plan s count maximum (with []) ≡ false → reachOf g s count maximum ≡ Nothing
+      → (out : Output) → planByCount g plan s with count parents out ≡ handedOf NoReach out
+  unfolding planByCount
+  none-at-second h e i out = rw (h, e, i)
 
 -- one of them is reached, whatever the output
 pub record Reached (Kind : PlanEnd → Type 0) (g : FrameGrid) (plan : PlanConfig) (f : Output → Handed) : Type 0 where
@@ -108,7 +138,7 @@ module _ (g : FrameGrid) (plan : PlanConfig) (s : Span) (with : List Cut → Lis
   second-end : suffices g plan s count (maximumIn g plan) (with []) ≡ false → (t : Sought) → reachOf g s count (maximumIn g plan) ≡ t
       → Ends (λ (out : Output). plannedAfter g plan s with count parents out t)
   unfolding plannedUnder
-  second-end e Nothing i = record { end = without-reach; kind = reach-none i; is = λ out. refl }
+  second-end e Nothing i = record { end = without-reach; kind = reach-none e i; is = λ out. refl }
   second-end e (Reach limit) i = go (hasParents count (length cs) parents) refl
     where
       cs : List Candidate
@@ -117,7 +147,7 @@ module _ (g : FrameGrid) (plan : PlanConfig) (s : Span) (with : List Cut → Lis
       go : (b : Bool) → hasParents count (length cs) parents ≡ b
           → Ends (λ (out : Output). pick (hasParents count (length cs) parents) (planAlong g plan cs (pathByCount g plan s count limit cs) out) (handedOf ShortParent out))
       go true h = record { end = along cs (pathByCount g plan s count limit cs); kind = with-reach e limit i; is = λ out. rw h }
-      go false h = record { end = short-parent; kind = second-short limit i h; is = λ out. rw h }
+      go false h = record { end = short-parent; kind = second-short e limit i h; is = λ out. rw h }
 
   pub count-end : Ends (λ (out : Output). planByCount g plan s with count parents out)
   unfolding planByCount
@@ -210,7 +240,14 @@ room-end g plan (along cs path) out q = (length path - 1, along-short g plan cs 
 room-end g plan short-parent out q = let z : _≡_ {A = ℕ} 0 1 = cc in absurd (omega arith)
 room-end g plan without-reach out q = let z : _≡_ {A = ℕ} 0 1 = cc in absurd (omega arith)
 
+-- ---- the parent list
+
 -- too few entries
+pub parents-few : (count candidates parents : ℕ) → parents < min count (candidates - 1) * candidates → hasParents count candidates parents ≡ false
+unfolding hasParents
+parents-few count candidates parents h = lt-leb (min count (candidates - 1) * candidates) parents h
+
+-- and so many are too few
 pub few-parents : (count candidates parents : ℕ) → hasParents count candidates parents ≡ false → parents < min count (candidates - 1) * candidates
 unfolding hasParents
 few-parents count candidates parents e = leb-false (min count (candidates - 1) * candidates) parents e

@@ -4,7 +4,7 @@
 use mathlib.Core.Path.{_≡_}
 use mathlib.Core.Logic.{_⊎_, _↔_}
 use mathlib.Core.Bool.{true, false}
-use mathlib.Core.List.{List}
+use mathlib.Core.List.{List, List·Memᴰ}
 use Prim.Native.Nat.{ℕ, zero, suc, _+_, _-_, _*_, _≤_, _<_, min}
 use lib.Ieee.{Float}
 use lib.ListN.{length, getD, take}
@@ -35,7 +35,7 @@ use Rattle.plan_tests.specs.declared.refusal.Verdict.{Verdict}
 use Rattle.plan_tests.specs.declared.refusal.Verdict.the-variants.{Fine}
 use Rattle.candidate_finder.specs.CandidatesIn.{candidatesIn}
 use Rattle.candidate_finder.specs.SpanIn.{emptyIn}
-use Rattle.plan_division.specs.Along.{pieceBetween}
+use Rattle.plan_division.specs.Along.{endsAt, pieceBetween}
 use Rattle.plan_division.specs.Added.{addedByCount, addedByLength}
 use Rattle.plan_lengths.specs.PlanLengths.{minimumIn, maximumIn, lengthsByLength, lengthsByCount}
 use Rattle.plan_pieces.specs.Flags.{hasLong, hasShort, isLonger, isShorter}
@@ -122,6 +122,19 @@ pub record Follows (g : FrameGrid) (plan : PlanConfig) (cs : List Candidate) (pa
   pub pieces : take (3 * k) (out .pieces) ≡ planPieces g plan cs path
   pub cuts : take (3 * (k - 1)) (out .cuts) ≡ planCuts g cs path
 
+-- where a plan's candidates lie, those that were found and those added later
+pub record InSpan (s : Span) (cs : List Candidate) : Type 0 where
+  -- "none outside the span", each with its left end at or before its right end
+  pub within : (i : ℕ) → i < length cs → (s .first ≤ endsAt cs i .left) × (endsAt cs i .left ≤ endsAt cs i .right) × (endsAt cs i .right ≤ s .last)
+  -- in order, and apart
+  pub order : (i j : ℕ) → i < j → j < length cs → endsAt cs i .right < endsAt cs j .left
+  -- "A dropped gap is a candidate whose left end is below its right end": those candidates and no others
+  pub gap-dropped : (i : ℕ) → i < length cs → endsAt cs i .left < endsAt cs i .right → List·Memᴰ (endsAt cs i) (s .gaps)
+  pub gap-found : (k : Cut) → List·Memᴰ k (s .gaps) → (i : ℕ) × (i < length cs) × (endsAt cs i ≡ k)
+  -- "no other candidate, found or added later, lies in a dropped gap, edges included"
+  pub alone : (k : Cut) → List·Memᴰ k (s .gaps) → (i : ℕ) → i < length cs
+      → (endsAt cs i ≡ k) ⊎ ((endsAt cs i .right < k .left) ⊎ (k .right < endsAt cs i .left))
+
 module _ (r : Recording) (segment : SegmentConfig) (plan : PlanConfig) (values : List Float) (flags : List ℕ) (lent : List Float) where
   -- frame grid and span; minimum and maximum in samples
   abbrev g : FrameGrid
@@ -159,6 +172,7 @@ module _ (r : Recording) (segment : SegmentConfig) (plan : PlanConfig) (values :
   bridged = completed (addedByLength g maximum found)
 
   pub record PlanByLength (k : ℕ) (out : Output) : Type 0 where
+    pub candidates : InSpan s bridged
     pub neighbours : (i : ℕ) → suc i < length bridged → (lengthOf g (pieceBetween bridged i (suc i)) ≤ maximum) ⊎ IsSingle (pieceBetween bridged i (suc i))
     pub path : List ℕ
     pub best : BestByLength bridged path
@@ -170,20 +184,26 @@ module _ (r : Recording) (segment : SegmentConfig) (plan : PlanConfig) (values :
 
   -- by count, where the first path suffices: its limit is the maximum
   pub record PlanAtFirst (count k : ℕ) (out : Output) : Type 0 where
+    pub candidates : InSpan s found
     pub path : List ℕ
     pub best : BestByCount count maximum found path
     pub suffices : Suffices count found path
     pub follows : Follows g plan found path k out
 
-  -- by count, where it does not: the limit is the reach, and the cuts of the division that goes as far as it can and of equal shares are added
-  pub record PlanWithReach (count k : ℕ) (out : Output) : Type 0 where
+  -- it does not: the best path over the first candidates has fewer than N pieces, or one over the maximum
+  pub record FallsShort (count : ℕ) : Type 0 where
     pub first-path : List ℕ
     pub first-best : BestByCount count maximum found first-path
-    pub falls-short : Suffices count found first-path → ⊥
+    pub not-enough : Suffices count found first-path → ⊥
+
+  -- by count, then: the limit is the reach, and the cuts of the division that goes as far as it can and of equal shares are added
+  pub record PlanWithReach (count k : ℕ) (out : Output) : Type 0 where
+    pub falls-short : FallsShort count
     pub limit : ℕ
     pub reach : IsReach g s count maximum limit
     pub far : List Cut
     pub greedy : Greedy g s limit far
+    pub candidates : InSpan s (completed (addedByCount s count far))
     pub path : List ℕ
     pub best : BestByCount count limit (completed (addedByCount s count far)) path
     pub follows : Follows g plan (completed (addedByCount s count far)) path k out
@@ -215,10 +235,11 @@ module _ (r : Recording) (segment : SegmentConfig) (plan : PlanConfig) (values :
 
   -- ---- the later refusals
 
-  -- the candidates over which a path by count is sought: the first ones, or the completed ones under the reach
+  -- the candidates over which a path by count is sought: the first ones; or, where the first path falls short, the completed ones under the reach
   pub data SoughtOver (count : ℕ) : List Candidate → Type 0 where
     at-first : SoughtOver count found
-    with-reach : (limit : ℕ) (far : List Cut) → IsReach g s count maximum limit → Greedy g s limit far → SoughtOver count (completed (addedByCount s count far))
+    with-reach : (Fitting values lent → FallsShort count) → (limit : ℕ) (far : List Cut) → IsReach g s count maximum limit → Greedy g s limit far
+        → SoughtOver count (completed (addedByCount s count far))
 
   -- 14: "parent list under pieces × candidates of the path being sought by count"
   pub record FewParents (parents : ℕ) : Type 0 where
@@ -228,10 +249,11 @@ module _ (r : Recording) (segment : SegmentConfig) (plan : PlanConfig) (values :
     pub sought : SoughtOver count candidates
     pub few : parents < min count (length candidates - 1) * length candidates
 
-  -- 18: "no reach exists"
+  -- 18: "no reach exists", and one is sought, since the first path falls short
   pub record ReachMissing : Type 0 where
     pub count : ℕ
     pub asked : plan .mode ≡ ByCount count
+    pub falls-short : Fitting values lent → FallsShort count
     pub none : (limit : ℕ) → IsReach g s count maximum limit → ⊥
 
   -- ---- every end
@@ -259,8 +281,17 @@ module _ (r : Recording) (segment : SegmentConfig) (plan : PlanConfig) (values :
       pub no-reach : end .answer ≡ NoReach → ReachMissing
       pub short-output : end .answer ≡ ShortOutput
           → (k : ℕ) × (HasRoom k out → ⊥) × ((room : Output) → HasRoom k room → planOf r segment plan values flags lent room work parent .answer ≡ Planned k)
+      -- and each where its condition holds, 14 before 18
+      pub parent-short : verdict ≡ Fine → emptyIn r segment plan values flags ≡ false → Fitting values lent → FewParents (length parent) → end .answer ≡ ShortParent
+      pub reach-missing : verdict ≡ Fine → emptyIn r segment plan values flags ≡ false → Fitting values lent → (FewParents (length parent) → ⊥) → ReachMissing
+          → end .answer ≡ NoReach
+      pub output-short : (k : ℕ) (room : Output) → planOf r segment plan values flags lent room work parent .answer ≡ Planned k → (HasRoom k out → ⊥)
+          → end .answer ≡ ShortOutput
       -- 12 never comes where there is room for a piece at each frame
       pub roomy : Fitting values lent → HasRoom (length values) out → end .answer ≡ ShortOutput → ⊥
+      -- 14 never comes where there are (frames + 1) × min(N, frames) parents
+      pub parents-enough : (count : ℕ) → plan .mode ≡ ByCount count → (length values + 1) * min count (length values) ≤ length parent
+          → end .answer ≡ ShortParent → ⊥
       -- a plan is made only where the tests pass
       pub accepted : (k : ℕ) → end .answer ≡ Planned k → verdict ≡ Fine
       -- the number is 0 where a plan is made, and nowhere else

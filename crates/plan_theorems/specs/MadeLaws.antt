@@ -1,16 +1,17 @@
 -- A plan of a span that is not empty, by length and by count: its path is the best one over a plan's candidates, so demands 2 and 3 hold of it.
 -- The first candidates are document 01's (`candidatesIn`); the tests before 14 and the types of the lists give what the theorems of the crates below ask.
-use mathlib.Core.Path.{_≡_, sym, ap, subst, _∙_}
+use mathlib.Core.Path.{_≡_, refl, sym, ap, subst, _∙_}
 use mathlib.Core.Logic.{_⊎_, inl, inr}
 use mathlib.Core.Bool.{true, false}
 use mathlib.Core.List.{List, [], _++_, append-nil, List·Memᴰ}
-use Prim.Native.Nat.{ℕ, suc, _≤_, _<_}
+use Prim.Native.Nat.{ℕ, suc, _+_, _-_, _*_, _≤_, _<_, min}
+use native.Mathlib.Nat.{mul-comm, mul-le-mul}
 use native.Mathlib.Omega.{arith}
 use borrow.Author.Tests.{eqb-true, eq-eqb}
 use lib.Dec.{eqb}
 use lib.Ieee.{Float}
 use lib.ListN.{length}
-use Rattle.base_laws.specs.Tests.{both, unmet}
+use Rattle.base_laws.specs.Tests.{both, tested, unmet}
 use Rattle.grid.specs.Boundary.{boundaryOf}
 use Rattle.grid.specs.Validate.{gridOf}
 use Rattle.grid.specs.declared.boundary.FrameGrid.{FrameGrid}
@@ -33,12 +34,15 @@ use Rattle.division.specs.Pieces.{piecesOf}
 use Rattle.division.specs.PlacesLaws.{at-most-kept}
 use Rattle.division.specs.SpanLaws.{span-spread, span-within}
 use Rattle.division.specs.Greedy.{Greedy}
+use Rattle.division.specs.GreedyLaws.{greedy-one}
 use Rattle.division.specs.Reach.{IsReach}
 use Rattle.division.specs.Demand.{DemandByCount, DemandByLength}
 use Rattle.candidates.specs.Entries.{costsOf}
 use Rattle.candidates.specs.Candidates.{candidatesOf}
 use Rattle.candidates.specs.Samples.{leftsOf, rightsOf}
 use Rattle.candidates.specs.Sources as sources
+use Rattle.candidates.specs.Order.{span-ends, candidates-few, candidate-within, candidates-apart}
+use Rattle.candidates.specs.Alone.{gap-dropped, dropped-found, gap-alone}
 use Rattle.candidates.specs.declared.candidate.Candidate.{Candidate}
 use Rattle.candidates.specs.declared.context.Context.{Context}
 use Rattle.plan_tests.specs.Fitting.{Fitting}
@@ -48,8 +52,9 @@ use Rattle.candidate_finder.specs.SpanIn.{emptyIn, firstIn, lastIn, gridPointsI
 use Rattle.candidate_finder.specs.Theorems as finder
 use Rattle.completion.specs.Cuts.{cutsOf, pointsIn}
 use Rattle.completion.specs.Reach.{reachOf}
-use Rattle.completion.specs.ReachLaws.{is-reach, no-reach}
-use Rattle.completion.specs.declared.reach.Sought.the-variants.{Reach}
+use Rattle.completion.specs.ReachLaws.{is-reach, reach-of, no-reach}
+use Rattle.completion.specs.declared.reach.Sought.{Sought}
+use Rattle.completion.specs.declared.reach.Sought.the-variants.{Reach, Nothing}
 use Rattle.plan_division.specs.Along.{cutsAlong, Rising}
 use Rattle.plan_division.specs.Across.{Across}
 use Rattle.plan_division.specs.AcrossLaws.{planned-across}
@@ -65,14 +70,15 @@ use Rattle.plan_division.specs.Ready.{Ready, SearchableOver}
 use Rattle.plan_division.specs.PlanTheorems.{plan-searchable, first-plan, second-plan, length-plan}
 use Rattle.plan_lengths.specs.PlanLengths.{minimumIn, maximumIn, lengthsWith, lengthsByLength, lengthsByCount}
 use Rattle.plan_lengths.specs.PlanLengthsLaws.{by-length-preferred, by-count-preferred}
-use Rattle.plan_pieces.specs.Output.{Output}
-use Rattle.planner.specs.Plan.{completedByLength, pathByLength, suffices, completedByCount}
+use Rattle.plan_pieces.specs.Output.{Output, handedOf}
+use Rattle.plan_pieces.specs.declared.answer.Answer.the-variants.{ShortParent, NoReach}
+use Rattle.planner.specs.Plan.{completedByLength, pathByLength, hasParents, suffices, completedByCount, planByCount}
 use Rattle.planner.specs.Operation.{spanOfPlan, candidatesWith}
-use Rattle.plan_theorems.specs.Made.{reasonAt, Fills, Flagged, Shows, Suffices, PlanByLength, PlanAtFirst, PlanWithReach, SoughtOver, FewParents, ReachMissing}
+use Rattle.plan_theorems.specs.Made.{reasonAt, Fills, Flagged, Shows, InSpan, BestByCount, Suffices, PlanByLength, PlanAtFirst, FallsShort, PlanWithReach, SoughtOver, FewParents, ReachMissing}
 use Rattle.plan_theorems.specs.Made as made
 use Rattle.plan_theorems.specs.ShowsLaws.{shows-fills}
 use Rattle.plan_theorems.specs.FollowsLaws.{along-follows, along-shows, along-flagged, along-reasoned}
-use Rattle.plan_theorems.specs.EndsLaws.{HandedAlong, along, short-parent, without-reach, CountEnd, first-short, at-first, reach-none, second-short, with-reach, few-parents}
+use Rattle.plan_theorems.specs.EndsLaws.{HandedAlong, along, short-parent, without-reach, CountEnd, first-short, at-first, reach-none, second-short, with-reach, short-at-first, short-at-second, none-at-second, parents-few, few-parents}
 
 module _ (r : Recording) (segment : SegmentConfig) (plan : PlanConfig) (values : List Float) (flags : List ℕ) (lent : List Float) (n32 n64 nf : ℕ)
     (p : PlanReady r segment plan values flags lent n32 n64 nf) (full : emptyIn r segment plan values flags ≡ false)
@@ -137,32 +143,27 @@ module _ (r : Recording) (segment : SegmentConfig) (plan : PlanConfig) (values :
     unfolding pointsIn
     none-added = ap (λ (js : List ℕ). candidatesOf x ss runs levels js first last) (append-nil ks) ∙ sym are
 
+    -- candidates with points that keep out of dropped gaps lie as document 01 says
+    points-in-span : (js : List ℕ) → sources.Planned x ss levels js first last → InSpan s (candidatesOf x ss runs levels js first last)
+    points-in-span js q = record {
+      within = candidate-within x ss runs levels js first last q;
+      order = candidates-apart x ss runs levels js first last q;
+      gap-dropped = gap-dropped x ss runs levels js first last q;
+      gap-found = λ k m. let f = dropped-found x ss runs levels js first last q k m in (f .number, f .counted, f .is);
+      alone = gap-alone x ss runs levels js first last q;
+    }
+
+    first-in-span : InSpan s ds
+    first-in-span = subst (InSpan s) (sym are) (points-in-span ks planned)
+
+    -- with whatever points, no more candidates than boundaries
+    points-few : (js : List ℕ) → length (candidatesOf x ss runs levels js first last) ≤ suc (length values)
+    points-few js =
+        let e = span-ends x ss runs levels ks first last planned in
+        omega (arith, candidates-few x ss runs levels js first last (e .0), e .0, e .1)
+
     first-across : Across s ds
     first-across = subst (Across s) (sym are) (planned-across x ss runs levels ks first last planned)
-
-    -- ---- the later refusals
-
-    -- the candidates over which a path by count is sought
-    sought-first : (count : ℕ) → SoughtOver r segment plan values flags lent count (with [])
-    sought-first count = rw none-added made.at-first
-
-    sought-second : (count limit : ℕ) → reachOf g s count maximum ≡ Reach limit → SoughtOver r segment plan values flags lent count (completedByCount g plan s with count limit)
-    sought-second count limit e =
-        let reach = is-reach g (p .accepted) s spread count maximum limit e in
-        made.with-reach limit (cutsOf g s limit (piecesAsked s count)) reach (far-greedy g (p .accepted) s spread count maximum limit reach)
-
-    module _ (count parents : ℕ) (asked : plan .mode ≡ ByCount count) where
-      -- 14
-      pub few-made : CountEnd g plan s with count parents short-parent → FewParents r segment plan values flags lent parents
-      few-made (first-short e) =
-          record { count = count; asked = asked; candidates = with []; sought = sought-first count; few = few-parents count (length (with [])) parents e }
-      few-made (second-short limit i e) =
-          let cs = completedByCount g plan s with count limit in
-          record { count = count; asked = asked; candidates = cs; sought = sought-second count limit i; few = few-parents count (length cs) parents e }
-
-      -- 18
-      pub missing-made : CountEnd g plan s with count parents without-reach → ReachMissing r segment plan values flags lent
-      missing-made (reach-none e) = record { count = count; asked = asked; none = no-reach g (p .accepted) s spread count maximum e }
 
     -- ---- every plan, where the lists hold what their types say
 
@@ -182,6 +183,9 @@ module _ (r : Recording) (segment : SegmentConfig) (plan : PlanConfig) (values :
       module _ (added : List Cut) (places : (k : Cut) → List·Memᴰ k added → Place s k) where
         added-planned : sources.Planned x ss levels (ks ++ pointsIn added) first last
         added-planned = planned-completed x ss runs levels ks added first last planned places
+
+        added-in-span : InSpan s (with added)
+        added-in-span = points-in-span (ks ++ pointsIn added) added-planned
 
         added-across : Across s (with added)
         added-across = planned-across x ss runs levels (ks ++ pointsIn added) first last added-planned
@@ -247,6 +251,7 @@ module _ (r : Recording) (segment : SegmentConfig) (plan : PlanConfig) (values :
           let across = added-across bridges bridge-places in
           record {
             best = record {
+              candidates = added-in-span bridges bridge-places;
               neighbours = neighbours-short g (p .accepted) s spread maximum ds (with bridges) length-completed;
               path = path;
               best = best-path-all length-searchable;
@@ -291,6 +296,22 @@ module _ (r : Recording) (segment : SegmentConfig) (plan : PlanConfig) (values :
         unfolding suffices
         first-falls e (n, none) =
             unmet (sym e ∙ rw (eq-eqb (length firstPath) (suc count) n, eq-eqb (oversOf g (under maximum) ds count) 0 (first-overs ∙ none)))
+
+        -- where it falls short, as a claim and as a test
+        pub falls-short : suffices g plan s count maximum ds ≡ false → FallsShort r segment plan values flags lent count
+        falls-short e = record { first-path = firstPath; first-best = count-all first-searchable-under count some; not-enough = first-falls e }
+
+        -- two best paths are one
+        best-one : (path : List ℕ) → BestByCount r segment plan values flags lent count maximum ds path → firstPath ≡ path
+        best-one path b =
+            let best = count-all first-searchable-under count some in
+            sym (best .only (best .scored .1) path (b .tie (best .scored .1)) (b .allowed .1))
+
+        pub falls-tested : FallsShort r segment plan values flags lent count → suffices g plan s count maximum ds ≡ false
+        falls-tested t = elim (tested (suffices g plan s count maximum ds)) [
+          | inl e ↦ absurd (t .not-enough (subst (Suffices r segment plan values flags lent count ds) (best-one (t .first-path) (t .first-best)) (first-suffices e)))
+          | inr e ↦ e
+        ]
 
         first-met : Suffices r segment plan values flags lent count ds firstPath → DemandByCount g s count maximum (cutsAlong ds firstPath)
         unfolding lengthsWith
@@ -341,6 +362,7 @@ module _ (r : Recording) (segment : SegmentConfig) (plan : PlanConfig) (values :
             let met = first-met (first-suffices e) in
             record {
               best = inl (record {
+                candidates = first-in-span;
                 path = firstPath;
                 best = best;
                 suffices = first-suffices e;
@@ -362,13 +384,12 @@ module _ (r : Recording) (segment : SegmentConfig) (plan : PlanConfig) (values :
             let met = second-met limit reach in
             record {
               best = inr (record {
-                first-path = firstPath;
-                first-best = count-all first-searchable-under count some;
-                falls-short = first-falls e;
+                falls-short = falls-short e;
                 limit = limit;
                 reach = reach;
                 far = far limit reach;
                 greedy = greedy limit reach;
+                candidates = added-in-span (shares limit reach) (share-places limit reach);
                 path = path;
                 best = best;
                 follows = along-follows g plan s cs path k before after across rising h;
@@ -384,3 +405,78 @@ module _ (r : Recording) (segment : SegmentConfig) (plan : PlanConfig) (values :
             (subst (λ (cs : List Candidate). HandedAlong g plan cs (bestOverByCount g (under maximum) cs count) k before after) none-added h)
         made-by-count parents cs path k before after (with-reach e limit i) h =
             made-second k before after (sym (ap (suffices g plan s count maximum) none-added) ∙ e) limit (is-reach g (p .accepted) s spread count maximum limit i) h
+
+    -- ---- the later refusals, whatever the lists hold
+
+    module _ (count : ℕ) (asked : plan .mode ≡ ByCount count) where
+      -- the test that the first path suffices, over the candidates with no cut added
+      abbrev isShort : Type 0
+      isShort = suffices g plan s count maximum (with []) ≡ false
+
+      short-falls : isShort → Fitting values lent → FallsShort r segment plan values flags lent count
+      short-falls e f = falls-short f count asked (sym (ap (suffices g plan s count maximum) none-added) ∙ e)
+
+      falls-is-short : Fitting values lent → FallsShort r segment plan values flags lent count → isShort
+      falls-is-short f t = ap (suffices g plan s count maximum) none-added ∙ falls-tested f count asked t
+
+      -- the candidates over which a path is sought
+      sought-first : SoughtOver r segment plan values flags lent count (with [])
+      sought-first = rw none-added made.at-first
+
+      sought-second : isShort → (limit : ℕ) → reachOf g s count maximum ≡ Reach limit → SoughtOver r segment plan values flags lent count (completedByCount g plan s with count limit)
+      sought-second e limit i =
+          let reach = is-reach g (p .accepted) s spread count maximum limit i in
+          made.with-reach (short-falls e) limit (cutsOf g s limit (piecesAsked s count)) reach (far-greedy g (p .accepted) s spread count maximum limit reach)
+
+      -- are no more than the boundaries
+      sought-few : (cs : List Candidate) → SoughtOver r segment plan values flags lent count cs → length cs ≤ suc (length values)
+      sought-few cs made.at-first = subst (λ (ds : List Candidate). length ds ≤ suc (length values)) none-added (points-few (ks ++ pointsIn []))
+      sought-few cs (made.with-reach f limit far reach greedy) = points-few (ks ++ pointsIn (addedByCount s count far))
+
+      module _ (parents : ℕ) where
+        -- 14
+        pub few-made : CountEnd g plan s with count parents short-parent → FewParents r segment plan values flags lent parents
+        few-made (first-short e) =
+            record { count = count; asked = asked; candidates = with []; sought = sought-first; few = few-parents count (length (with [])) parents e }
+        few-made (second-short q limit i e) =
+            let cs = completedByCount g plan s with count limit in
+            record { count = count; asked = asked; candidates = cs; sought = sought-second q limit i; few = few-parents count (length cs) parents e }
+
+        -- 18
+        pub missing-made : CountEnd g plan s with count parents without-reach → ReachMissing r segment plan values flags lent
+        missing-made (reach-none q e) = record { count = count; asked = asked; falls-short = short-falls q; none = no-reach g (p .accepted) s spread count maximum e }
+
+        -- 14 where its condition holds
+        pub made-few : Fitting values lent → (cs : List Candidate) → SoughtOver r segment plan values flags lent count cs
+            → parents < min count (length cs - 1) * length cs → (out : Output) → planByCount g plan s with count parents out ≡ handedOf ShortParent out
+        made-few f cs made.at-first h out =
+            short-at-first g plan s with count parents
+            (parents-few count (length (with [])) parents (subst (λ (ds : List Candidate). parents < min count (length ds - 1) * length ds) (sym none-added) h)) out
+        made-few f cs (made.with-reach t limit far reach greedy) h out =
+            let same = greedy-one g (p .accepted) s spread limit far (cutsOf g s limit (piecesAsked s count)) greedy (far-greedy g (p .accepted) s spread count maximum limit reach) in
+            short-at-second g plan s with count parents (falls-is-short f (t f)) limit (reach-of g (p .accepted) s spread count maximum limit reach)
+            (parents-few count (length (completedByCount g plan s with count limit)) parents
+            (subst (λ (cuts : List Cut). parents < min count (length (with (addedByCount s count cuts)) - 1) * length (with (addedByCount s count cuts))) same h)) out
+
+        -- 18 where its condition holds, and 14 is not given first
+        pub made-missing : Fitting values lent → (FewParents r segment plan values flags lent parents → ⊥) → FallsShort r segment plan values flags lent count
+            → ((limit : ℕ) → IsReach g s count maximum limit → ⊥) → (out : Output) → planByCount g plan s with count parents out ≡ handedOf NoReach out
+        made-missing f many t none out =
+            none-at-second g plan s with count parents enough (falls-is-short f t) (unreached (reachOf g s count maximum) refl) out
+          where
+            enough : hasParents count (length (with [])) parents ≡ true
+            enough = elim (tested (hasParents count (length (with [])) parents)) [ inl e ↦ e | inr e ↦ absurd (many (few-made (first-short e))) ]
+
+            unreached : (q : Sought) → reachOf g s count maximum ≡ q → reachOf g s count maximum ≡ Nothing
+            unreached Nothing e = e
+            unreached (Reach limit) e = absurd (none limit (is-reach g (p .accepted) s spread count maximum limit e))
+
+        -- (frames + 1) × min(N, frames) parents are never too few
+        pub parents-sure : (cs : List Candidate) → SoughtOver r segment plan values flags lent count cs → (length values + 1) * min count (length values) ≤ parents
+            → parents < min count (length cs - 1) * length cs → ⊥
+        parents-sure cs sought enough few =
+            let h = sought-few cs sought in
+            let fewer : min count (length cs - 1) ≤ min count (length values) = omega (arith, h) in
+            let candidates : length cs ≤ length values + 1 = omega (arith, h) in
+            let m : min count (length cs - 1) * length cs ≤ min count (length values) * (length values + 1) = mul-le-mul fewer candidates in
+            omega (arith, m, enough, few, mul-comm (length values + 1) (min count (length values)))

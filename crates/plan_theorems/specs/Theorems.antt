@@ -10,7 +10,7 @@ use mathlib.Core.Path.{_≡_, refl, sym, ap, subst, _∙_}
 use mathlib.Core.Logic.{inl, inr}
 use mathlib.Core.Bool.{Bool, true, false}
 use mathlib.Core.List.{List}
-use Prim.Native.Nat.{ℕ, _*_, _≤_, _<_}
+use Prim.Native.Nat.{ℕ, _+_, _*_, _≤_, _<_, min}
 use native.Mathlib.Omega.{arith}
 use lib.Ieee.{Float}
 use lib.ListN.{length, replicate, length-replicate}
@@ -44,13 +44,17 @@ use Rattle.plan_pieces.specs.declared.answer.Answer.the-variants.{Planned, Refu
 use Rattle.planner.specs.Plan.{planBy}
 use Rattle.planner.specs.Operation.{End, endOf, endAfter, spanOfPlan, candidatesWith, plannedOf, planOf}
 use Rattle.plan_theorems.specs.Made.{HasRoom, Written, MadeOfSpan, Made, FewParents, ReachMissing, Ended}
-use Rattle.plan_theorems.specs.EndsLaws.{HandedAlong, along, short-parent, without-reach, handedBy, Reached, ModeEnd, by-length, by-count, mode-end, Ending, end-ending, AlongSome, made-end, parent-end, reach-end, room-end}
+use Rattle.plan_theorems.specs.EndsLaws.{HandedAlong, along-refused, PlanEnd, along, short-parent, without-reach, handedBy, Reached, ModeEnd, by-length, by-count, mode-end, Ending, end-ending, AlongSome, made-end, parent-end, reach-end, room-end}
 use Rattle.plan_theorems.specs.FollowsLaws.{along-written}
-use Rattle.plan_theorems.specs.MadeLaws.{divided-few, few-made, missing-made, Laid, MadeByLength, made-by-length, MadeByCount, made-by-count}
+use Rattle.plan_theorems.specs.MadeLaws.{divided-few, few-made, missing-made, made-few, made-missing, parents-sure, Laid, MadeByLength, made-by-length, MadeByCount, made-by-count}
 
 -- nothing is written for no piece
 none-written : (out : Output) → Written 0 out out
 none-written out = record { fits = (omega arith, omega arith); pieces = sym (onto-nil (out .pieces)); cuts = sym (onto-nil (out .cuts)) }
+
+-- the count of a mode
+counted : {a b : ℕ} → ByCount a ≡ ByCount b → a ≡ b
+counted e = cc
 
 -- 14, 18 and 12
 abbrev isLater : Answer → Bool
@@ -177,13 +181,37 @@ module _ (r : Recording) (segment : SegmentConfig) (plan : PlanConfig) (values :
   few : (fine : verdict ≡ Fine) (full : isEmpty ≡ false) (m : Mode) → plan .mode ≡ m → ModeEnd g plan s with (length parent) m short-parent
       → FewParents r segment plan values flags lent (length parent)
   few fine full (ByCount count) e (by-count c) =
-      few-made r segment plan values flags lent (length (work .u32s)) (length (work .u64s)) (length (work .f64s)) (ready fine) full count (length parent) e c
+      few-made r segment plan values flags lent (length (work .u32s)) (length (work .u64s)) (length (work .f64s)) (ready fine) full count e (length parent) c
 
   -- 18
   missing : (fine : verdict ≡ Fine) (full : isEmpty ≡ false) (m : Mode) → plan .mode ≡ m → ModeEnd g plan s with (length parent) m without-reach
       → ReachMissing r segment plan values flags lent
   missing fine full (ByCount count) e (by-count c) =
-      missing-made r segment plan values flags lent (length (work .u32s)) (length (work .u64s)) (length (work .f64s)) (ready fine) full count (length parent) e c
+      missing-made r segment plan values flags lent (length (work .u32s)) (length (work .u64s)) (length (work .f64s)) (ready fine) full count e (length parent) c
+
+  -- where the tests pass and the span is not empty, the call is that of the mode
+  mode-call : verdict ≡ Fine → isEmpty ≡ false → (m : Mode) → plan .mode ≡ m → (o : Output) → call o .answer ≡ planBy g plan s with m (length parent) o .answer
+  unfolding plannedOf
+  mode-call fine full m e o = ap (λ (x : End). x .answer) (fine-call fine o) ∙ rw (full, e)
+
+  -- 14 where its condition holds
+  gives-short : verdict ≡ Fine → isEmpty ≡ false → Fitting values lent → FewParents r segment plan values flags lent (length parent) → (o : Output) → call o .answer ≡ ShortParent
+  unfolding planBy
+  gives-short fine full f t o =
+      mode-call fine full (ByCount (t .count)) (t .asked) o
+      ∙ ap (λ (h : Handed). h .answer)
+      (made-few r segment plan values flags lent (length (work .u32s)) (length (work .u64s)) (length (work .f64s)) (ready fine) full (t .count) (t .asked) (length parent) f
+      (t .candidates) (t .sought) (t .few) o)
+
+  -- 18 where its condition holds
+  gives-missing : verdict ≡ Fine → isEmpty ≡ false → Fitting values lent → (FewParents r segment plan values flags lent (length parent) → ⊥)
+      → ReachMissing r segment plan values flags lent → (o : Output) → call o .answer ≡ NoReach
+  unfolding planBy
+  gives-missing fine full f many t o =
+      mode-call fine full (ByCount (t .count)) (t .asked) o
+      ∙ ap (λ (h : Handed). h .answer)
+      (made-missing r segment plan values flags lent (length (work .u32s)) (length (work .u64s)) (length (work .f64s)) (ready fine) full (t .count) (t .asked) (length parent) f
+      many (t .falls-short f) (t .none) o)
 
   -- ---- every plan
 
@@ -307,6 +335,24 @@ module _ (r : Recording) (segment : SegmentConfig) (plan : PlanConfig) (values :
         let few = few-pieces room k (q .2 room (omega (arith, size), omega (arith, size))) (later out (ap isLater e) .full) f (plan .mode) refl in
         q .1 (omega (arith, few, p), omega (arith, few, c))
 
+    -- 12 where another output, that has room, gets a plan of more pieces than this one has room for
+    gives-room : (k : ℕ) (room : Output) → call room .answer ≡ Planned k → (HasRoom k out → ⊥) → call out .answer ≡ ShortOutput
+    gives-room k room e never = elim (tested isEmpty) [
+      | inl t ↦ absurd (never (let n = empty-made room k e t .0 in (omega (arith, n), omega (arith, n))))
+      | inr t ↦
+          let a = along-some room k e t in
+          ap (λ (x : End). x .answer) (fine-call (made-fine room k e) out) ∙ ap (λ (h : Handed). h .answer) (is-planned false t out ∙ ap (λ (q : PlanEnd). handedBy g plan q out) (a .is))
+          ∙ along-refused g plan (a .candidates) (a .path) out (subst (λ (n : ℕ). HasRoom n out → ⊥) (sym (a .handed .number)) never)
+    ]
+
+    said-enough : (count : ℕ) → plan .mode ≡ ByCount count → (length values + 1) * min count (length values) ≤ length parent → call out .answer ≡ ShortParent → ⊥
+    said-enough count asked enough e =
+        let l = later out (ap isLater e) in
+        let t = said-short e in
+        let n : t .count ≡ count = counted (sym (t .asked) ∙ asked) in
+        parents-sure r segment plan values flags lent (length (work .u32s)) (length (work .u64s)) (length (work .f64s)) (ready (l .fine)) (l .full) (t .count) (t .asked) (length parent)
+        (t .candidates) (t .sought) (subst (λ (c : ℕ). (length values + 1) * min c (length values) ≤ length parent) (sym n) enough) (t .few)
+
     whole : call out ≡ callBy (tests.isFine verdict) out
     whole = is-call (tests.isFine verdict) refl out
 
@@ -329,7 +375,11 @@ module _ (r : Recording) (segment : SegmentConfig) (plan : PlanConfig) (values :
       short-parent = said-short;
       no-reach = said-missing;
       short-output = said-room;
+      parent-short = λ fine full f t. gives-short fine full f t out;
+      reach-missing = λ fine full f many t. gives-missing fine full f many t out;
+      output-short = gives-room;
       roomy = said-roomy;
+      parents-enough = said-enough;
       accepted = made-fine out;
       number = (zero-made, λ (k, e). ap numberOf e);
     }

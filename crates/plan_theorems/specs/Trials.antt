@@ -1,9 +1,10 @@
 -- The operation Plan at document 01's recording R, through its whole definition and whatever the lent lists held: the plan as printed, the two trials of R by count,
--- an empty span, and 14, 12 and 13. So what Made claims of plans by length, of plans with the reach and of these ends is claimed of something.
+-- a count that the first path meets, a dropped gap, an empty span, and 14, 12 and 13. So what Made claims of plans by length, at the first path and with the reach,
+-- of dropped gaps and of these ends is claimed of something.
 use mathlib.Core.Path.{_≡_, refl}
 use mathlib.Core.List.{List, [], _∷_}
 use Prim.Native.Nat.{ℕ}
-use lib.Ieee.{Float, binary32, binary64, span, climb, size, odd, units, round, sum, add, neg, sub, mul, div, lt, eq, le, ofInt, ofBits}
+use lib.Ieee.{Float, binary32, binary64, span, climb, size, odd, units, round, sum, add, neg, sub, mul, div, lt, eq, le, isNan, ofInt, ofBits}
 use lib.ListN.{replicate}
 use Rattle.base_terms.specs.Floats.{minOf, maxOf, clampOf}
 use Rattle.base_terms.specs.Lengths.{square, offOf, short, lengthCost}
@@ -40,7 +41,8 @@ use Rattle.candidate_span.specs.Span.{isLeading, isTrailing, allSilent, emptySp
 use Rattle.division.specs.Divisions.{divisionsOf, keeps, anyOf, isFeasible}
 use Rattle.candidate_points.specs.Blocked.{getsGrid, touches, opens, blocksAt, blockedBy, isBlocked}
 use Rattle.candidate_points.specs.Points.{openTo, blockEnd, pointsFrom, gridPoints}
-use Rattle.candidate_cuts.specs.Cut.{splitPoint, openCut, silenceCut}
+use Rattle.candidate_cuts.specs.Cut.{splitPoint, leastLevel, openCut, silenceCut}
+use Rattle.candidate_cuts.specs.Cut as cuts
 use Rattle.candidate_cuts.specs.Place.{shareOf, chosenBy}
 use Rattle.candidate_costs.specs.Cost.{pauseOf, cutCost}
 use Rattle.candidate_costs.specs.Level.{smoothedAt, frameLevel, levelAt, boundaryLevels}
@@ -89,6 +91,10 @@ recording = record { «sample_rate» = 1000; channels = 1; «frame_rate» = 10; 
 abbrev defaults : SegmentConfig
 defaults = record { threshold = Auto; «min_silence» = 250000000; «min_sound» = 100000000; pre = 100000000; tail = 200000000 }
 
+-- with no padding kept beside sound, so that R's silence is a dropped gap from its first frame to its last
+abbrev unpadded : SegmentConfig
+unpadded = record { threshold = Auto; «min_silence» = 250000000; «min_sound» = 100000000; pre = 0; tail = 0 }
+
 -- "scores 1 1 0 0 0 1 1"
 abbrev one : Float
 one = ofBits binary32 0x3f80_0000
@@ -124,9 +130,12 @@ module _ (a b c d : ℕ) (x : Float) where
   output pieces cuts = outputOf (replicate pieces a) (replicate cuts a)
 
   -- a call whose output has so many numbers for pieces and cuts, and its parent list so many entries
+  abbrev callWith : SegmentConfig → PlanConfig → List Float → ℕ → ℕ → ℕ → End
+  callWith segment plan values pieces cuts parents =
+      planOf recording segment plan values (replicate 7 0) [] (output pieces cuts) (workOf (replicate 128 b) (replicate 128 c) (replicate 128 x)) (replicate parents d)
+
   abbrev call : PlanConfig → List Float → ℕ → ℕ → ℕ → End
-  call plan values pieces cuts parents =
-      planOf recording defaults plan values (replicate 7 0) [] (output pieces cuts) (workOf (replicate 128 b) (replicate 128 c) (replicate 128 x)) (replicate parents d)
+  call = callWith defaults
 
   -- an end after the tests: every work list zeroed
   abbrev later : Answer → Output → ℕ → End
@@ -144,6 +153,12 @@ module _ (a b c d : ℕ) (x : Float) where
         ≡ later (Planned 7)
         (outputOf (0 ∷ 100 ∷ 0 ∷ 100 ∷ 200 ∷ 0 ∷ 200 ∷ 300 ∷ 0 ∷ 300 ∷ 400 ∷ 0 ∷ 400 ∷ 500 ∷ 0 ∷ 500 ∷ 600 ∷ 0 ∷ 600 ∷ 700 ∷ 0 ∷ [])
         (100 ∷ 100 ∷ 2 ∷ 200 ∷ 200 ∷ 1 ∷ 300 ∷ 300 ∷ 1 ∷ 400 ∷ 400 ∷ 0 ∷ 500 ∷ 500 ∷ 2 ∷ 600 ∷ 600 ∷ 2 ∷ [])) 56
+    -- count 2 under 400 ms: the first path has two pieces, none over the maximum, so no reach is sought, and two parents for each of the five first candidates are enough
+    pub first-suffices : call (settings (ByCount 2) 400000000 Keep) scores 6 3 10
+        ≡ later (Planned 2) (outputOf (0 ∷ 400 ∷ 0 ∷ 400 ∷ 700 ∷ 0 ∷ []) (400 ∷ 400 ∷ 0 ∷ [])) 10
+    -- the gap dropped: one piece ends at its left end and the next starts at its right end
+    pub gap-dropped : callWith unpadded (settings ByLength 400000000 Drop) scores 6 3 0
+        ≡ later (Planned 2) (outputOf (0 ∷ 200 ∷ 0 ∷ 500 ∷ 700 ∷ 0 ∷ []) (200 ∷ 500 ∷ 0 ∷ [])) 0
     -- silence all through, with dropped gaps: the span is empty, and so is the plan
     pub silent : call (settings ByLength 400000000 Drop) (replicate 7 none) 0 0 0 ≡ later (Planned 0) (output 0 0) 0
     -- 14: one entry fewer, at the path over the completed candidates
@@ -155,11 +170,13 @@ module _ (a b c d : ℕ) (x : Float) where
         ≡ endOf (Refused ShortWork) (output 6 3) (workOf (replicate 128 b) (replicate 128 c) (replicate 127 x)) (replicate 1 d)
 
   pub plan-trials : PlanTrials
-  unfolding minOf maxOf clampOf square offOf short lengthCost filled onto tabulate allOf workOk startOf boundaryOf covers framesIn framesCeil framesFloor samplesFloor samplesIn secondsOf frameSecs grid.isWithin frameStepOk framesOk listsOk valuesOk lengthOk validityOf isScore isFinite isUnflagged withSignal levelsOver levelsOf autoOf resolveOf thresholdOk filledAs fillShort reached soundAt soundsAfter hysteresis belowAt belowOff quietRuns joined runs rewritten rewrittenAll eachRun silentRuns silencesOf isSilent anySound fillSilence soundsOf durationsOk soundsIn silencesIn lowestLeast predecessorOf pieces.isWithin pieceLength lengthCostOf overOf mayStart withPiece withCut withCutAt nextScore tableOf bestScore parentOf wayBack bestPath bestWith parentWith wayWith bestPathByCount bestScoreByCount isCount countOk ratioOk isWeight isCutCost isReference weightsOk lowOf highOf isInner isGap innerGaps gapsOf dropped keptFrames boundaries blockOf paddingOf edgeLimit spacingOf isLeading isTrailing allSilent emptySpan firstOf lastOf divisionsOf keeps anyOf isFeasible getsGrid touches opens blocksAt blockedBy isBlocked openTo blockEnd pointsFrom gridPoints splitPoint openCut silenceCut shareOf chosenBy pauseOf cutCost smoothedAt frameLevel levelAt boundaryLevels rangeOf normalizeOf quieter quietestIn quietestOf mostOf stretchAt secsOf clipped windowOf widthOf sumFrom sumOf meanOf pieceLengthsOk allDurationsOk firstRefusalOf pausesBy inPause reasonAt pointAt ownAt ownFrom allListed withLeft cheaper cheapestOf cheapest survivors candidatesOf costsOf runsIn levelsIn bridgeFrom completion.cutsFrom pointsIn nextAt placeAt leastFrom reachOf reachableIn targetByCount lengthsWith along.cutsFrom piecesFrom piecesAlongNumbers cutsAlongNumbers shortFlag longFlag flagsOf hasRoom handedOutOf planPieces planCuts plannedOf planOf planByLength hasParents suffices plannedUnder planByCount planBy span climb size odd units round sum add neg sub mul div lt eq le ofInt ofBits
+  unfolding minOf maxOf clampOf square offOf short lengthCost filled onto tabulate allOf workOk startOf boundaryOf covers framesIn framesCeil framesFloor samplesFloor samplesIn secondsOf frameSecs grid.isWithin frameStepOk framesOk listsOk valuesOk lengthOk validityOf isScore isFinite isUnflagged withSignal levelsOver levelsOf autoOf resolveOf thresholdOk filledAs fillShort reached soundAt soundsAfter hysteresis belowAt belowOff quietRuns joined runs rewritten rewrittenAll eachRun silentRuns silencesOf isSilent anySound fillSilence soundsOf durationsOk soundsIn silencesIn lowestLeast predecessorOf pieces.isWithin pieceLength lengthCostOf overOf mayStart withPiece withCut withCutAt nextScore tableOf bestScore parentOf wayBack bestPath bestWith parentWith wayWith bestPathByCount bestScoreByCount isCount countOk ratioOk isWeight isCutCost isReference weightsOk lowOf highOf isInner isGap innerGaps gapsOf dropped keptFrames boundaries blockOf paddingOf edgeLimit spacingOf isLeading isTrailing allSilent emptySpan firstOf lastOf divisionsOf keeps anyOf isFeasible getsGrid touches opens blocksAt blockedBy isBlocked openTo blockEnd pointsFrom gridPoints splitPoint cuts.leastFrom leastLevel openCut silenceCut shareOf chosenBy pauseOf cutCost smoothedAt frameLevel levelAt boundaryLevels rangeOf normalizeOf quieter quietestIn quietestOf mostOf stretchAt secsOf clipped windowOf widthOf sumFrom sumOf meanOf pieceLengthsOk allDurationsOk firstRefusalOf pausesBy inPause reasonAt pointAt ownAt ownFrom allListed withLeft cheaper cheapestOf cheapest survivors candidatesOf costsOf runsIn levelsIn bridgeFrom completion.cutsFrom pointsIn nextAt placeAt leastFrom reachOf reachableIn targetByCount lengthsWith along.cutsFrom piecesFrom piecesAlongNumbers cutsAlongNumbers shortFlag longFlag flagsOf hasRoom handedOutOf planPieces planCuts plannedOf planOf planByLength hasParents suffices plannedUnder planByCount planBy span climb size odd units round sum add neg sub mul div lt eq le isNan ofInt ofBits
   plan-trials = record {
     printed = refl;
     count-two = refl;
     count-eight = refl;
+    first-suffices = refl;
+    gap-dropped = refl;
     silent = refl;
     parents-short = refl;
     output-short = refl;
