@@ -6,7 +6,7 @@ pub mod Text
 pub mod Rows
 -- Listing: the lines (`planLine`, `pieceLine`, `cutLine`, `refusalLine`), all of them (`listingOf`), and the room that they take (`roomFor`)
 pub mod Listing
--- Parse: a listing read back (`parsedOf`)
+-- Parse: a listing read back (`parsedOf`), and written again (`printedOf`)
 pub mod Parse
 -- Written: what is written from a place on (`Room`, `Written`)
 pub mod Written
@@ -22,5 +22,7 @@ pub mod Lines
 pub mod FitsLaws
 -- ParseLaws: a listing read back is what was printed (`parsed-listing`, `parsed-refusal`)
 pub mod ParseLaws
+-- ParsedLaws: what is parsed, written again, is the bytes that were parsed (`printed-parsed`), so that the listings alone are parsed (`parsed-exactly`)
+pub mod ParsedLaws
 -- Trials: document 01's listing of recording R, and others, computed
 pub mod Trials

@@ -1,16 +1,31 @@
--- A listing read back: the plan or the refusal that was printed, and nothing where the bytes are no listing.
+-- A listing read back: what `printedOf` writes of a `Listable` is read as that, and no other bytes are read (`parsed-exactly` of ParsedLaws).
 use Prim.Native.Nat.{ℕ, zero, suc, _+_, _-_, _*_}
-use mathlib.Core.Bool.{Bool, false, _&&_, cond}
+use mathlib.Core.Bool.{Bool, _&&_, cond}
 use mathlib.Core.List.{List, [], _∷_}
 use mathlib.Core.Option.{Option, none, some}
 use lib.Dec.{eqb, leb}
-use Rattle.listing.specs.Text.{bytesOf}
-use Rattle.listing.specs.Rows.{Row}
+use Rattle.listing.specs.Text.{bytesOf, digitOf}
+use Rattle.listing.specs.Rows.{Row, MarksTo}
+use Rattle.listing.specs.Listing.{listed, refusalLine}
 
--- what was printed
+-- ---- what is printed
+
+-- pieces and cuts, however many of each, or the number of a refusal
 pub data Parsed : Type 0 where
   planned : List Row → List Row → Parsed
   refused : ℕ → Parsed
+
+-- its lines
+unfoldable pub printedOf : Parsed → List ℕ
+printedOf (planned pieces cuts) = listed pieces cuts
+printedOf (refused number) = refusalLine number
+
+-- each of its flags and reasons has a word of its own: 0 to 3, and 0 to 2
+abbrev pub Listable : Parsed → Type 0
+Listable (planned pieces cuts) = MarksTo 3 pieces × MarksTo 2 cuts
+Listable (refused number) = Unit {0}
+
+-- ---- steps
 
 -- a value that was read, and the bytes behind it
 pub record Read (A : Type 0) : Type 0 where
@@ -39,20 +54,21 @@ wordIn (b ∷ word) [] = none
 wordIn (b ∷ word) (c ∷ bytes) = cond (eqb b c) (wordIn word bytes) none
 
 abbrev pub isDigit : ℕ → Bool
-isDigit b = leb 48 b && leb b 57
-
-unfoldable pub beginsWithDigit : List ℕ → Bool
-beginsWithDigit [] = false
-beginsWithDigit (b ∷ bytes) = isDigit b
+isDigit b = leb (digitOf 0) b && leb b (digitOf 9)
 
 -- digits up to the first byte that is none, behind those of n
 unfoldable pub digitsIn : ℕ → List ℕ → Read ℕ
 digitsIn n [] = readOf n []
-digitsIn n (b ∷ bytes) = cond (isDigit b) (digitsIn (10 * n + (b - 48)) bytes) (readOf n (b ∷ bytes))
+digitsIn n (b ∷ bytes) = cond (isDigit b) (digitsIn (10 * n + (b - digitOf 0)) bytes) (readOf n (b ∷ bytes))
+
+-- a number that begins with this digit: behind a 0 none follows
+unfoldable pub numberFrom : ℕ → List ℕ → Read ℕ
+numberFrom b bytes = cond (eqb b (digitOf 0)) (readOf 0 bytes) (digitsIn (b - digitOf 0) bytes)
 
 -- a number, of at least one digit
 unfoldable pub numberIn : List ℕ → Option (Read ℕ)
-numberIn bytes = cond (beginsWithDigit bytes) (some (digitsIn 0 bytes)) none
+numberIn [] = none
+numberIn (b ∷ bytes) = cond (isDigit b) (some (numberFrom b bytes)) none
 
 -- one of some words: its place among them, counted from k
 unfoldable pub choiceIn : ℕ → List (List ℕ) → List ℕ → Option (Read ℕ)

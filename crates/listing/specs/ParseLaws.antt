@@ -6,61 +6,68 @@ use mathlib.Core.Logic.{inl, inr}
 use mathlib.Core.List.{List, [], _∷_, _++_, append-assoc}
 use mathlib.Core.Option.{some}
 use native.Mathlib.Omega.{arith}
-use borrow.Author.Tests.{lt-ltb, le-ltb, le-leb}
+use borrow.Author.Tests.{lt-ltb, le-ltb, le-leb, ne-eqb}
 use lib.ListN.{length, getD}
 use Rattle.base_laws.specs.Tests.{lt-or-le}
 use Rattle.base_terms.specs.Lists.{tabulate}
 use Rattle.listing.specs.Text.{bytesOf, digitOf, decimalWithin, decimalOf, joined}
 use Rattle.listing.specs.Rows.{Row, rowAt, rowsOf, MarksTo}
 use Rattle.listing.specs.Listing.{flagsWord, reasonWord, numbersLine, planLine, pieceLine, cutLine, lineOf, linesOf, listed, listingOf, refusalLine}
-use Rattle.listing.specs.Parse.{planned, refused, readOf, wordIn, isDigit, beginsWithDigit, digitsIn, numberIn, choiceIn, flagEnds, reasonEnds, rowIn, rowsIn, ended, planIn, refusalIn, parsedOf}
+use Rattle.listing.specs.Parse.{planned, refused, readOf, wordIn, isDigit, digitsIn, numberFrom, numberIn, choiceIn, flagEnds, reasonEnds, rowIn, rowsIn, ended, planIn, refusalIn, parsedOf}
 
 -- ---- numbers
 
+-- a digit is one
 digit-is : (d : ℕ) → d < 10 → isDigit (digitOf d) ≡ true
 digit-is d h = rw (le-leb 48 (48 + d) (omega arith), le-leb (48 + d) 57 (omega arith))
 
+-- what it stands for
+digit-value : (d : ℕ) → digitOf d - digitOf 0 ≡ d
+digit-value d = omega arith
+
+-- a digit behind others
 digit-read : (n d : ℕ) (bytes : List ℕ) → d < 10 → digitsIn n (digitOf d ∷ bytes) ≡ digitsIn (10 * n + d) bytes
 unfolding digitsIn
-digit-read n d bytes h =
-    let e : 48 + d - 48 ≡ d = omega arith in
-    rw (digit-is d h, e)
+digit-read n d bytes h = rw (digit-is d h, digit-value d)
 
-alone : (n : ℕ) → 10 * 0 + n ≡ n
-alone n = omega arith
+-- a first digit
+first-read : (d : ℕ) (bytes : List ℕ) → 0 < d → d < 10 → numberIn (digitOf d ∷ bytes) ≡ some (digitsIn d bytes)
+unfolding numberIn numberFrom
+first-read d bytes p h = rw (digit-is d h, ne-eqb (digitOf d) (digitOf 0) (λ e. omega arith), digit-value d)
 
+-- a number from the digits before its last, and its last
 behind : (n : ℕ) → 10 * (n / 10) + n % 10 ≡ n
 behind n = omega arith
 
-digits-read : (most n : ℕ) (bytes : List ℕ) → n ≤ most → digitsIn 0 (decimalWithin most n ++ bytes) ≡ digitsIn n bytes
+-- the digits of a number above 0
+digits-read : (most n : ℕ) (bytes : List ℕ) → 0 < n → n ≤ most → numberIn (decimalWithin most n ++ bytes) ≡ some (digitsIn n bytes)
 unfolding decimalWithin
-digits-read zero n bytes h = digit-read 0 n bytes (omega arith) ∙ ap (λ (k : ℕ). digitsIn k bytes) (alone n)
-digits-read (suc most) n bytes h = elim (lt-or-le n 10) [
-  | inl l ↦ rw (lt-ltb n 10 l) (digit-read 0 n bytes l ∙ ap (λ (k : ℕ). digitsIn k bytes) (alone n))
-  | inr g ↦ rw (le-ltb n 10 g, append-assoc) (digits-read most (n / 10) (digitOf (n % 10) ∷ bytes) (omega arith)
-      ∙ digit-read (n / 10) (n % 10) bytes (omega arith) ∙ ap (λ (k : ℕ). digitsIn k bytes) (behind n))
+digits-read zero n bytes p h = absurd (omega arith)
+digits-read (suc most) n bytes p h = elim (lt-or-le n 10) [
+  | inl l ↦ rw (lt-ltb n 10 l) (first-read n bytes p l)
+  | inr g ↦ rw (
+    le-ltb n 10 g,
+    append-assoc,
+    digits-read most (n / 10) (digitOf (n % 10) ∷ bytes) (omega arith) (omega arith),
+    digit-read (n / 10) (n % 10) bytes (omega arith),
+    behind n,
+  )
 ]
 
-begins : (most n : ℕ) (bytes : List ℕ) → n ≤ most → beginsWithDigit (decimalWithin most n ++ bytes) ≡ true
-unfolding decimalWithin beginsWithDigit
-begins zero n bytes h = digit-is n (omega arith)
-begins (suc most) n bytes h = elim (lt-or-le n 10) [
-  | inl l ↦ rw (lt-ltb n 10 l) (digit-is n l)
-  | inr g ↦ rw (le-ltb n 10 g, append-assoc) (begins most (n / 10) (digitOf (n % 10) ∷ bytes) (omega arith))
-]
-
+-- they stop at a byte that is none
 digits-stop : (n b : ℕ) (bytes : List ℕ) → isDigit b ≡ false → digitsIn n (b ∷ bytes) ≡ readOf n (b ∷ bytes)
 unfolding digitsIn
 digits-stop n b bytes e = rw e
 
--- a number ends where a byte follows that is no digit
+-- a number ends where a byte follows that is no digit; by `stop` so would 0, if digits behind it were read on
 number-read : (n b : ℕ) (bytes : List ℕ) → isDigit b ≡ false → numberIn (decimalOf n ++ (b ∷ bytes)) ≡ some (readOf n (b ∷ bytes))
-unfolding numberIn decimalOf
-number-read n b bytes e =
-    rw (begins n n (b ∷ bytes) (omega arith), digits-read n n (b ∷ bytes) (omega arith), digits-stop n b bytes e)
+unfolding numberIn numberFrom decimalOf decimalWithin
+number-read zero b bytes e = let stop = digits-stop 0 b bytes e in cc
+number-read (suc n) b bytes e = digits-read (suc n) (suc n) (b ∷ bytes) (omega arith) (omega arith) ∙ ap some (digits-stop (suc n) b bytes e)
 
 -- ---- lines
 
+-- the end of a piece's line
 flags-read : (flags : ℕ) (bytes : List ℕ) → flags ≤ 3 → choiceIn 0 flagEnds (flagsWord flags ++ (bytesOf "\n" ++ bytes)) ≡ some (readOf flags bytes)
 unfolding choiceIn wordIn flagsWord
 flags-read zero bytes h = refl
@@ -69,6 +76,7 @@ flags-read (suc (suc zero)) bytes h = refl
 flags-read (suc (suc (suc zero))) bytes h = refl
 flags-read (suc (suc (suc (suc flags)))) bytes h = absurd (omega arith)
 
+-- the end of a cut's line
 reason-read : (reason : ℕ) (bytes : List ℕ) → reason ≤ 2
     → choiceIn 0 reasonEnds (reasonWord reason ++ (bytesOf "\n" ++ bytes)) ≡ some (readOf reason bytes)
 unfolding choiceIn wordIn reasonWord
@@ -78,21 +86,24 @@ reason-read (suc (suc zero)) bytes h = refl
 reason-read (suc (suc (suc reason))) bytes h = absurd (omega arith)
 
 -- how a plan's lines begin, with what follows
-begun : (word : List ℕ) (a b : ℕ) (bytes : List ℕ)
+pub begun : (word : List ℕ) (a b : ℕ) (bytes : List ℕ)
     → numbersLine word a b ++ bytes ≡ word ++ (decimalOf a ++ (bytesOf " " ++ (decimalOf b ++ bytes)))
 unfolding numbersLine joined
 begun word a b bytes = simp append-assoc
 
-piece-is : (start end flags : ℕ) (bytes : List ℕ)
+-- a piece's line, with what follows
+pub piece-is : (start end flags : ℕ) (bytes : List ℕ)
     → pieceLine start end flags ++ bytes ≡ numbersLine (bytesOf "piece ") start end ++ (bytesOf " " ++ (flagsWord flags ++ (bytesOf "\n" ++ bytes)))
 unfolding pieceLine joined
 piece-is start end flags bytes = simp append-assoc
 
-cut-is : (end start reason : ℕ) (bytes : List ℕ)
+-- a cut's line, with what follows
+pub cut-is : (end start reason : ℕ) (bytes : List ℕ)
     → cutLine end start reason ++ bytes ≡ numbersLine (bytesOf "cut ") end start ++ (bytesOf " " ++ (reasonWord reason ++ (bytesOf "\n" ++ bytes)))
 unfolding cutLine joined
 cut-is end start reason bytes = simp append-assoc
 
+-- a piece
 piece-read : (row : Row) (bytes : List ℕ) → row .mark ≤ 3 → rowIn (bytesOf "piece ") flagEnds (lineOf pieceLine row ++ bytes) ≡ some (readOf row bytes)
 unfolding rowIn wordIn
 piece-read row bytes h =
@@ -105,6 +116,7 @@ piece-read row bytes h =
       flags-read (row .mark) bytes h,
     )
 
+-- a cut
 cut-read : (row : Row) (bytes : List ℕ) → row .mark ≤ 2 → rowIn (bytesOf "cut ") reasonEnds (lineOf cutLine row ++ bytes) ≡ some (readOf row bytes)
 unfolding rowIn wordIn
 cut-read row bytes h =
@@ -119,6 +131,7 @@ cut-read row bytes h =
 
 -- ---- rows
 
+-- where one row is read back from its line, so are all from their lines
 module _ (line : ℕ → ℕ → ℕ → List ℕ) (word : List ℕ) (ends : List (List ℕ)) (most : ℕ)
     (row-read : (row : Row) (bytes : List ℕ) → row .mark ≤ most → rowIn word ends (lineOf line row ++ bytes) ≡ some (readOf row bytes)) where
   rows-read : (rows : List Row) (bytes : List ℕ) → MarksTo most rows
@@ -129,14 +142,17 @@ module _ (line : ℕ → ℕ → ℕ → List ℕ) (word : List ℕ) (ends : Lis
 
 -- ---- the whole
 
-plan-is : (pieces cuts : ℕ) (bytes : List ℕ) → planLine pieces cuts ++ bytes ≡ numbersLine (bytesOf "plan ") pieces cuts ++ (bytesOf "\n" ++ bytes)
+-- the first line, with what follows
+pub plan-is : (pieces cuts : ℕ) (bytes : List ℕ) → planLine pieces cuts ++ bytes ≡ numbersLine (bytesOf "plan ") pieces cuts ++ (bytesOf "\n" ++ bytes)
 unfolding planLine joined
 plan-is pieces cuts bytes = simp append-assoc
 
-listed-is : (pieces cuts : List Row) → listed pieces cuts ≡ planLine (length pieces) (length cuts) ++ (linesOf pieceLine pieces ++ (linesOf cutLine cuts ++ []))
+-- the listing: the first line, the pieces' lines, the cuts' lines, and nothing
+pub listed-is : (pieces cuts : List Row) → listed pieces cuts ≡ planLine (length pieces) (length cuts) ++ (linesOf pieceLine pieces ++ (linesOf cutLine cuts ++ []))
 unfolding listed joined
 listed-is pieces cuts = refl
 
+-- all of it
 plan-read : (pieces cuts : List Row) → MarksTo 3 pieces → MarksTo 2 cuts → planIn (listed pieces cuts) ≡ some (planned pieces cuts)
 unfolding planIn wordIn ended
 plan-read pieces cuts p c =
@@ -157,10 +173,12 @@ pub parsed-listed : (pieces cuts : List Row) → MarksTo 3 pieces → MarksTo 2 
 unfolding parsedOf
 parsed-listed pieces cuts p c = rw (plan-read pieces cuts p c)
 
+-- one more row
 marks-snoc : (most : ℕ) (rows : List Row) (row : Row) → MarksTo most rows → row .mark ≤ most → MarksTo most (rows ++ (row ∷ []))
 marks-snoc most [] row h l = (l, tt)
 marks-snoc most (first ∷ rows) row (h, t) l = (h, marks-snoc most rows row t l)
 
+-- rows by their numbers
 marks-of : (most n : ℕ) (numbers : List ℕ) → ((i : ℕ) → i < n → getD numbers (3 * i + 2) 0 ≤ most) → MarksTo most (rowsOf n numbers)
 unfolding tabulate
 marks-of most zero numbers h = tt

@@ -1,6 +1,6 @@
 -- The fewest digits that hold a number are those of `decimalOf`, and how many there are.
-use Prim.Native.Nat.{ℕ, zero, suc, _-_, _*_, _/_, _%_, _^_, _≤_, _<_}
-use mathlib.Core.Path.{_≡_, refl}
+use Prim.Native.Nat.{ℕ, zero, suc, _+_, _-_, _*_, _/_, _%_, _^_, _≤_, _<_}
+use mathlib.Core.Path.{_≡_, refl, sym, _∙_}
 use mathlib.Core.List.{List, [], _∷_, _++_, append-assoc, append-nil}
 use mathlib.Core.Logic.{inl, inr}
 use native.Mathlib.Nat.{mod-eq-of-lt, pow-suc, div-lt-iff-lt-mul, le-div-iff-mul-le}
@@ -11,6 +11,7 @@ use Rattle.base_laws.specs.Tests.{lt-or-le}
 use Rattle.io.specs.Digits.{digits, Fewest, glyph}
 use Rattle.listing.specs.Text.{digitOf, decimalWithin, decimalOf}
 
+-- the digits of `io::decimal` are these
 glyph-is : (d : ℕ) → d < 10 → glyph d ≡ digitOf d
 glyph-is d h = rw (lt-ltb d 10 h)
 
@@ -25,6 +26,31 @@ more-digits : (most n : ℕ) → 10 ≤ n → decimalWithin (suc most) n ≡ dec
 unfolding decimalWithin
 more-digits most n h = rw (le-ltb n 10 h)
 
+-- the same digits under every bound that is not below the number
+within-same : (a b n : ℕ) → n ≤ a → n ≤ b → decimalWithin a n ≡ decimalWithin b n
+within-same zero b n h k = one-digit zero n (omega arith) ∙ sym (one-digit b n (omega arith))
+within-same (suc a) zero n h k = one-digit (suc a) n (omega arith) ∙ sym (one-digit zero n (omega arith))
+within-same (suc a) (suc b) n h k = elim (lt-or-le n 10) [
+  | inl l ↦ one-digit (suc a) n l ∙ sym (one-digit (suc b) n l)
+  | inr g ↦ rw (more-digits a n g, more-digits b n g, within-same a b (n / 10) (omega arith) (omega arith))
+]
+
+-- a number below 10 in decimal
+pub decimal-digit : (d : ℕ) → d < 10 → decimalOf d ≡ digitOf d ∷ []
+unfolding decimalOf
+decimal-digit d h = one-digit d d h
+
+-- one more digit behind those of a number above 0
+pub decimal-more : (n d : ℕ) → 0 < n → d < 10 → decimalOf (10 * n + d) ≡ decimalOf n ++ (digitOf d ∷ [])
+unfolding decimalOf
+decimal-more n d p h =
+    let m = 10 * n + d - 1 in
+    let whole : 10 * n + d ≡ suc m = omega arith in
+    let front : suc m / 10 ≡ n = omega arith in
+    let last : suc m % 10 ≡ d = omega arith in
+    rw (whole, more-digits m (suc m) (omega arith), front, last, within-same m n n (omega arith) (omega arith))
+
+-- no power of ten is 0
 pow-pos : (k : ℕ) → 1 ≤ 10 ^ k
 pow-pos zero = omega arith
 pow-pos (suc k) = let h : 1 ≤ 10 ^ k = pow-pos k in let e : 10 ^ suc k ≡ 10 ^ k * 10 = pow-suc 10 k in omega arith
@@ -45,6 +71,7 @@ spelled (suc k) (suc most) n m l g =
       glyph-is (n % 10) (omega arith),
     )
 
+-- one more and one fewer
 suc-sub-one : (k : ℕ) → suc k - 1 ≡ k
 suc-sub-one k = omega arith
 
@@ -54,6 +81,7 @@ unfolding decimalOf
 decimal-is n zero f = absurd (omega (arith, f .0))
 decimal-is n (suc k) f = spelled k n n (omega arith) (f .1) (λ h. rw (suc-sub-one k) at (f .2 (omega arith)))
 
+-- as many digits as the power of ten says
 within-fits : (k most n : ℕ) → n < 10 ^ suc k → length (decimalWithin most n) ≤ suc k
 unfolding decimalWithin
 within-fits k zero n l = omega arith
