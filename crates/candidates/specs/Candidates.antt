@@ -45,7 +45,7 @@ pausesBy x ss (suc i) k = pausesBy x ss i k || touches (lowOf (x .frames) (x .ta
 unfoldable pub inPause : Context → List ℕ → ℕ → Bool
 inPause x ss k = pausesBy x ss (count ss) k
 
--- why a point at boundary k is cut there: silence beyond the padding, a quiet level, or nothing but the limits
+-- why a point at boundary k is cut there: it lies in silence beyond the padding; its level is in the quietest quarter of the scale; or neither, which is forced
 unfoldable pub reasonAt : Context → List ℕ → List Float → ℕ → Reason
 reasonAt x ss levels k = cond (inPause x ss k) Silence (cond (le (getD levels k nan) quietLevel) Quiet Forced)
 
