@@ -22,7 +22,7 @@ PART ?= grid silences candidates path plan jobs
 COUNT ?= 1024
 
 CUTPLAN := target/cutplan
-STATICLIB := target/staticlib/libcapi.a
+STATICLIB := target/staticlib/libbuchawzer.a
 DRIVER := target/reference/release/driver
 
 .PHONY: run test reference compare bench sample
@@ -37,8 +37,12 @@ $(CUTPLAN): program/cutplan.c target/staticlib/libcutplan_program.a
 target/staticlib/libcutplan_program.a: $(shell tools/prove_shown --sources cutplan_program)
 	@tools/prove_shown cutplan_program
 
-$(STATICLIB): $(shell tools/prove_shown --sources capi)
+target/staticlib/libcapi.a: $(shell tools/prove_shown --sources capi)
 	@tools/prove_shown capi
+
+# The toolchain names an archive after its crate; programs link with the library's own name.
+$(STATICLIB): target/staticlib/libcapi.a
+	@cp $< $@
 
 test:
 	@tools/test

@@ -1,5 +1,5 @@
-/* Plans document 01's recording R and prints its listing; then tries two refusals. Built and run by tools/examples, which
- * also holds README.md to the marked lines. */
+/* Plans document 01's recording R and prints its listing; then tries two refusals, and says in words on standard error what
+ * the first is about. Built and run by tools/examples, which also holds README.md to the marked lines. */
 #include <stdio.h>
 
 #include "../include/buchawzer.h"
@@ -14,14 +14,26 @@ static double work_f64[16 * (FRAMES + 1)];
 static uint64_t pieces[3 * FRAMES];
 static uint64_t cuts[3 * FRAMES];
 
+static void print_refusal(uint32_t refused)
+{
+    printf("refused %u\n", (unsigned)refused);
+    fprintf(stderr, "%s; %s\n", buchawzer_refusal_meaning(refused), buchawzer_refusal_advice(refused));
+}
+
 static void print_plan(size_t found)
 {
     static const char *const reasons[] = {"silence", "quiet", "forced"};
-    struct buchawzer_piece piece[FRAMES];
-    struct buchawzer_cut cut[FRAMES];
+    /* Static memory is zeroed, and so each bool in it is 0 or 1 before the call. */
+    static struct buchawzer_piece piece[FRAMES];
+    static struct buchawzer_cut cut[FRAMES];
     size_t cuts_found = found == 0 ? 0 : found - 1;
-    buchawzer_piece_records(pieces, 3 * found, piece, FRAMES);
-    buchawzer_cut_records(cuts, 3 * cuts_found, cut, FRAMES);
+    uint32_t refused = buchawzer_piece_records(pieces, 3 * found, piece, FRAMES);
+    if (!refused)
+        refused = buchawzer_cut_records(cuts, 3 * cuts_found, cut, FRAMES);
+    if (refused) {
+        print_refusal(refused);
+        return;
+    }
     printf("plan %zu %zu\n", found, cuts_found);
     for (size_t i = 0; i < found; i++)
         printf("piece %llu %llu %s\n", (unsigned long long)piece[i].start, (unsigned long long)piece[i].end,
@@ -48,7 +60,7 @@ static void plan_at(uint32_t rate)
     uint32_t refused = buchawzer_make_plan(&recording, &settings, &work, &plan);
     /* end */
     if (refused)
-        printf("refused %u\n", (unsigned)refused);
+        print_refusal(refused);
     else
         print_plan(plan.found);
 }

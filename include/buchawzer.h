@@ -1,15 +1,21 @@
 /* Buchawzer for C (C11) and C++ (C++11): where a recording is cut, so that its pieces have a wanted length.
  *
- * Link with libcapi.a, which `make target/staticlib/libcapi.a` writes; x86-64 only, and nothing else is needed beside it.
- * README.md shows the calls, examples/plan.c is a whole program. "Document 01" is the paper that the library is proved
- * to; its terms are explained here where they occur.
+ * Link with libbuchawzer.a, which `make target/staticlib/libbuchawzer.a` writes; x86-64 only, and nothing else is needed
+ * beside it. README.md shows the calls; examples/plan.c and examples/by_count.c are whole programs. "Document 01" is the
+ * requirements that the desk wrote, to which the library is proved; docs/TRACE.md quotes them sentence by sentence. Their
+ * terms are explained here where they occur.
  *
  * How to call
- * - A list goes over as two arguments, a pointer to its first element and the number of its elements. The pointer must
- *   not be NULL, and must be aligned for its type, even where the number is 0: then nothing is read or written through
- *   it, and any object's address serves. The inline functions at the end take NULL for an empty list.
+ * - A list goes over to an exported function as two arguments, a pointer to its first element and the number of its
+ *   elements. The pointer must not be NULL, and must be aligned for its type, even where the number is 0: then nothing is
+ *   read or written through it, and any object's address serves.
+ * - The inline functions at the end take NULL for an empty list. A list that is NULL has no entries, whatever number
+ *   stands beside it: memory that could not be had is refused as a list that is too short, by 4 (values, flags, levels),
+ *   12 (an output), 13 (a work list), 14 (parents, by count) or 15 (lent candidates). Where values, flags and levels are
+ *   all NULL the recording has no frames, and these cover the length 0 alone, else 6. Pointers to structs, and to a number
+ *   that is written, must not be NULL.
  * - A list or a number that a call may write overlaps nothing else of that call. This is not tested and must hold.
- * - A `bool` is 0 or 1.
+ * - A `bool` is 0 or 1, in structs too.
  * - Lengths of sound are in samples of one channel, durations in nanoseconds.
  * - buchawzer_cutplan keeps its lists on the stack, and wants 320 KB of it; the other operations want 64 KB.
  * - No function fails in another way than by its number: whatever the numbers and the lists hold, nothing is read or
@@ -17,7 +23,8 @@
  *   each with lists of its own.
  *
  * What a refused call leaves
- * - The number of a refusal is that of the first condition that applies, in the order given for the function.
+ * - The number of a refusal is that of the first condition that applies, in the order given for the function. The
+ *   compiler warns where it is not looked at (BUCHAWZER_NODISCARD).
  * - Output lists and counts are as they were. So is output beyond the answer where the call is not refused.
  * - Work lists (work_u32, work_u64, work_f64, parent) may hold anything before a call. After a refusal by a test of the
  *   input (every number but 12, 14 and 18) they are as they were; after every other end, success too, they are all 0.
@@ -30,54 +37,146 @@
 #include <stddef.h>
 #include <stdint.h>
 
+/* Stands before each function whose answer says whether anything was done. Where that is not looked at gcc and clang warn,
+ * and others from C23 and C++17 on. */
+#if (defined(__cplusplus) && __cplusplus >= 201703L) || (defined(__STDC_VERSION__) && __STDC_VERSION__ >= 202311L)
+#define BUCHAWZER_NODISCARD [[nodiscard]]
+#elif defined(__GNUC__)
+#define BUCHAWZER_NODISCARD __attribute__((warn_unused_result))
+#else
+#define BUCHAWZER_NODISCARD
+#endif
+
 #ifdef __cplusplus
 extern "C" {
 #endif
 
 /* ---- numbers */
 
-/* Why a call was refused. README.md has a table of what to do about each. */
+/* Why a call was refused: buchawzer_refusal_meaning says it in words, buchawzer_refusal_advice what to do about it. */
 enum buchawzer_refusal {
     BUCHAWZER_ACCEPTED = 0,
-    /* the sample rate is 0 or above 192,000 */
     BUCHAWZER_REFUSED_SAMPLE_RATE = 1,
-    /* no channels */
     BUCHAWZER_REFUSED_CHANNELS = 2,
-    /* the frame rate is 0 or above 192,000, the hop is 0 or above 1,048,576, or a frame is shorter than a sample */
     BUCHAWZER_REFUSED_FRAME_STEP = 3,
-    /* over 1,048,576 frames, flags not one a frame, levels not one a frame for decibels or not empty for scores */
     BUCHAWZER_REFUSED_LISTS = 4,
-    /* a score outside 0 to 1, a decibel or a level not finite, a flag not 0 or 1, a flag 1 in scores */
     BUCHAWZER_REFUSED_VALUE = 5,
-    /* the length is above 2^40, or the frames do not cover it */
     BUCHAWZER_REFUSED_LENGTH = 6,
-    /* a duration above 24 hours; in a plan also a target of 0, a minimum above it, or a maximum below it */
     BUCHAWZER_REFUSED_DURATION = 7,
-    /* a count of 0 or above 1,048,576 */
     BUCHAWZER_REFUSED_COUNT = 8,
-    /* a ratio outside 0 to 1, or an unknown kind of placement */
     BUCHAWZER_REFUSED_RATIO = 9,
-    /* a weight negative or not finite, the fixed cost of a cut or the pause reference 0, the reference above 24 hours */
     BUCHAWZER_REFUSED_WEIGHTS = 10,
-    /* the threshold's number is not finite, or its kind is unknown */
     BUCHAWZER_REFUSED_THRESHOLD = 11,
-    /* an output list is too short for the answer */
     BUCHAWZER_REFUSED_OUTPUT = 12,
-    /* a work list is too short */
     BUCHAWZER_REFUSED_WORK = 13,
-    /* by count, the parent list is too short for the path that is sought */
     BUCHAWZER_REFUSED_PARENT = 14,
-    /* the candidates' lists are empty, unequal or above 1,048,577 entries */
     BUCHAWZER_REFUSED_CANDIDATES = 15,
-    /* candidates out of order, or an end or the limit above 2^40 */
     BUCHAWZER_REFUSED_ENDS = 16,
-    /* a cost or a weight negative or not finite, the target outside 2^-40 to 2^60, the minimum outside 0 to 2^60 */
     BUCHAWZER_REFUSED_COSTS = 17,
-    /* by count, no limit leaves few enough pieces */
     BUCHAWZER_REFUSED_REACH = 18,
-    /* bytes that are no job: too many, cut short, followed by others, or with an unknown bit or kind */
     BUCHAWZER_REFUSED_JOB = 19
 };
+
+/* What a refusal says, as in README.md's table, in UTF-8. */
+static inline const char *buchawzer_refusal_meaning(uint32_t number)
+{
+    switch (number) {
+    case BUCHAWZER_ACCEPTED:
+        return "accepted";
+    case BUCHAWZER_REFUSED_SAMPLE_RATE:
+        return "sample rate 0 or above 192,000";
+    case BUCHAWZER_REFUSED_CHANNELS:
+        return "no channels";
+    case BUCHAWZER_REFUSED_FRAME_STEP:
+        return "frame rate 0 or above 192,000, hop 0 or above 1,048,576, or a frame shorter than a sample";
+    case BUCHAWZER_REFUSED_LISTS:
+        return "over 1,048,576 frames, flags not one a frame, levels not one a frame for decibels or not empty for "
+            "scores";
+    case BUCHAWZER_REFUSED_VALUE:
+        return "a score outside 0 to 1, a decibel or level not finite, a flag not 0 or 1, a flag 1 in scores";
+    case BUCHAWZER_REFUSED_LENGTH:
+        return "length above 2^40, or the frames do not cover it";
+    case BUCHAWZER_REFUSED_DURATION:
+        return "a duration above 24 hours, target 0, minimum above target, or target above maximum";
+    case BUCHAWZER_REFUSED_COUNT:
+        return "count 0 or above 1,048,576";
+    case BUCHAWZER_REFUSED_RATIO:
+        return "placement's ratio outside 0 to 1, or an unknown placement";
+    case BUCHAWZER_REFUSED_WEIGHTS:
+        return "a weight negative or not finite, fixed cost of a cut or pause reference 0, reference above 24 hours";
+    case BUCHAWZER_REFUSED_THRESHOLD:
+        return "threshold's number not finite, or an unknown threshold";
+    case BUCHAWZER_REFUSED_OUTPUT:
+        return "an output list is too short for the answer";
+    case BUCHAWZER_REFUSED_WORK:
+        return "a work list is too short";
+    case BUCHAWZER_REFUSED_PARENT:
+        return "by count, the parent list is too short for the path";
+    case BUCHAWZER_REFUSED_CANDIDATES:
+        return "lent candidates: lists empty, unequal or above 1,048,577";
+    case BUCHAWZER_REFUSED_ENDS:
+        return "lent candidates: a left end above its right, a right above the next left, an end or the limit above 2^40";
+    case BUCHAWZER_REFUSED_COSTS:
+        return "a cost or length weight negative or not finite, target outside 2^−40 to 2^60, minimum outside 0 to 2^60";
+    case BUCHAWZER_REFUSED_REACH:
+        return "by count, no limit leaves few enough pieces";
+    case BUCHAWZER_REFUSED_JOB:
+        return "no job: above 8,192 bytes or 511 frames, cut short, followed by bytes, or with an unknown bit or kind; "
+            "or standard input could not be read";
+    default:
+        return "unknown refusal";
+    }
+}
+
+/* What to do about it; empty for 0 and for unknown numbers. */
+static inline const char *buchawzer_refusal_advice(uint32_t number)
+{
+    switch (number) {
+    case BUCHAWZER_ACCEPTED:
+        return "";
+    case BUCHAWZER_REFUSED_SAMPLE_RATE:
+        return "give the rate of the sound that was analyzed, in Hz";
+    case BUCHAWZER_REFUSED_CHANNELS:
+        return "give at least 1";
+    case BUCHAWZER_REFUSED_FRAME_STEP:
+        return "a frame lasts hop / frame rate seconds: see that the two are not swapped";
+    case BUCHAWZER_REFUSED_LISTS:
+        return "give every list one entry a frame; cut a longer recording in two, or use longer frames; not from a job";
+    case BUCHAWZER_REFUSED_VALUE:
+        return "look for a NaN in the values; clamp scores; take minus infinity out of decibels and set the frame's flag";
+    case BUCHAWZER_REFUSED_LENGTH:
+        return "give the length in samples of one channel, not of all; the last frame must start before its end";
+    case BUCHAWZER_REFUSED_DURATION:
+        return "give nanoseconds, and minimum ≤ target ≤ maximum";
+    case BUCHAWZER_REFUSED_COUNT:
+        return "ask for at least one piece, or plan by length";
+    case BUCHAWZER_REFUSED_RATIO:
+        return "give a ratio from 0, the silence's start, to 1, its end";
+    case BUCHAWZER_REFUSED_WEIGHTS:
+        return "start from the defaults, and change one weight at a time";
+    case BUCHAWZER_REFUSED_THRESHOLD:
+        return "give a number, or the automatic threshold";
+    case BUCHAWZER_REFUSED_OUTPUT:
+        return "lend as many entries as the header's functions say (buchawzer_plan_length); not from a job";
+    case BUCHAWZER_REFUSED_WORK:
+        return "lend 16 × (frames + 1) entries of each type (buchawzer_work_length); not from a job";
+    case BUCHAWZER_REFUSED_PARENT:
+        return "lend more (buchawzer_parent_length is always enough); a job's list has 16,384 entries: ask for fewer "
+            "pieces, or use the library";
+    case BUCHAWZER_REFUSED_CANDIDATES:
+        return "give three lists of one length";
+    case BUCHAWZER_REFUSED_ENDS:
+        return "sort the candidates, and join those that overlap";
+    case BUCHAWZER_REFUSED_COSTS:
+        return "look for a NaN in the costs";
+    case BUCHAWZER_REFUSED_REACH:
+        return "no input is known that gives it; ask for more pieces, or plan by length";
+    case BUCHAWZER_REFUSED_JOB:
+        return "look at it by tools/job --show; for more frames use the library";
+    default:
+        return "";
+    }
+}
 
 /* What a recording's values are; for `decibels`. */
 enum buchawzer_domain {
@@ -99,7 +198,14 @@ enum buchawzer_placement {
     BUCHAWZER_PLACEMENT_RATIO = 2
 };
 
-/* Why a cut is where it is: in a silence; at a quiet place; because the piece would be too long otherwise. */
+/* What a cut falls in.
+ * - Silence: the own place of a silence that has sound on both sides, or any place inside a silence but for what is kept
+ *   of it next to sound (`tail`, `pre`; less is kept where the maximum leaves no room).
+ * - Quiet: any other place whose level is 0.25 or less. The level of a place is the mean of the two frames beside it, each
+ *   averaged over the 150 ms around it: scores as they are; decibels on a scale from 0, at the 10th percentile of the
+ *   frames that have signal, to 1, at their 99th or 20 dB above the 10th, whichever is higher.
+ * - Forced: every place that is neither. It says nothing of the lengths of the pieces: such a place is cut where every
+ *   other plan is worse, by a piece above the maximum or by its cost. */
 enum buchawzer_reason {
     BUCHAWZER_REASON_SILENCE = 0,
     BUCHAWZER_REASON_QUIET = 1,
@@ -199,7 +305,7 @@ bool buchawzer_covers(
 /* The tests 1 to 6 of a recording: the number of the first that fails, or 0.
  * `values` has a score or a decibel for each frame, `flags` a byte for each, 1 for a frame without signal (all 0 for
  * scores), `levels` for decibels the smoothed level of each frame, and nothing for scores. */
-uint32_t buchawzer_validate(
+BUCHAWZER_NODISCARD uint32_t buchawzer_validate(
     uint32_t sample_rate,
     uint16_t channels,
     uint32_t frame_rate,
@@ -213,11 +319,11 @@ uint32_t buchawzer_validate(
     const double *levels,
     size_t levels_len);
 
-/* The silences of a recording. 0, or 1 to 7, 11, 13, 12 in this order.
+/* The silences of a recording. 0, or 1 to 7, 11, 13, 12 in this order; 7 for its own four durations.
  * With 0 `*count` is the number of silences, and silence i has its first frame at out[2 i] and the frame after its last
  * at out[2 i + 1]. Each work list has at least 16 * (frames + 1) entries, else 13; an output of frames + 1 entries is
  * always long enough. */
-uint32_t buchawzer_silence_list(
+BUCHAWZER_NODISCARD uint32_t buchawzer_silence_list(
     uint32_t sample_rate,
     uint16_t channels,
     uint32_t frame_rate,
@@ -250,7 +356,7 @@ uint32_t buchawzer_silence_list(
  * With 0 `*found` is the number of candidates; candidate i has its left frame boundary at ends[3 i], its right one at
  * ends[3 i + 1], its reason at ends[3 i + 2] and its cost at costs[i]. Work lists as for the silences; 3 * (frames + 1)
  * entries of `ends` and frames + 1 of `costs` are always enough. The settings are those of a plan. */
-uint32_t buchawzer_candidates(
+BUCHAWZER_NODISCARD uint32_t buchawzer_candidates(
     uint32_t sample_rate,
     uint16_t channels,
     uint32_t frame_rate,
@@ -302,7 +408,7 @@ uint32_t buchawzer_candidates(
  * is the number of pieces above the limit and `*score_cost` the cost. No path has a lower score, over first and then cost.
  * Each work list has at least 16 entries for each candidate, else 13; by count the parent list has pieces * candidates,
  * else 14, where pieces is the lesser of the count and candidates - 1. A path has at most one entry for each candidate. */
-uint32_t buchawzer_path(
+BUCHAWZER_NODISCARD uint32_t buchawzer_path(
     const uint64_t *left,
     size_t left_len,
     const uint64_t *right,
@@ -335,9 +441,16 @@ uint32_t buchawzer_path(
  * flags at pieces[3 i + 2]; the cut after it has the end of piece i at cuts[3 i], the start of the next at cuts[3 i + 1]
  * and its reason at cuts[3 i + 2]. There are n - 1 cuts, or none where the plan is empty. 3 * frames entries are enough
  * for either list.
- * Each work list has at least 16 * (frames + 1) entries, else 13. By length the parent list may be empty; by count
- * (frames + 1) entries for each of the lesser of count and frames are always enough, else 14 may come. */
-uint32_t buchawzer_plan(
+ * Each work list has at least 16 * (frames + 1) entries, else 13. By length the parent list may be empty. By count
+ * (frames + 1) entries for each of the lesser of count and frames are always enough, else 14 may come. For an hour at 100
+ * frames a second by count 200 that is 288 MB, where 4 MB did: a path wants an entry for each piece and candidate, and as a
+ * rule there are far fewer candidates than frames. To lend less, start small and double the list on 14, up to the number
+ * that is always enough: nothing is lost by a refusal but its time. examples/by_count.c does so.
+ * By count, set the maximum well above length / count. The maximum comes before every cost. Near length / count it leaves
+ * pieces of nearly one length alone; below, the longest piece is made as short as it can be (demand 3 of document 01), and
+ * that leaves the same. Cuts then fall where the lengths put them: the hour of examples/by_count.c in 60 pieces has 48
+ * forced cuts of 59 under the default maximum of 30 s, 22 under 61 s, and none under 65 s. */
+BUCHAWZER_NODISCARD uint32_t buchawzer_plan(
     uint32_t sample_rate,
     uint16_t channels,
     uint32_t frame_rate,
@@ -384,16 +497,20 @@ uint32_t buchawzer_plan(
     size_t cuts_len,
     uint64_t *found);
 
-/* Records of the pieces that buchawzer_plan wrote: record i of numbers[3 i] to numbers[3 i + 2]. 0, or 12 where `records`
- * has fewer than numbers_len / 3 entries; then nothing is written. Records beyond are untouched. */
-uint32_t buchawzer_piece_records(
+/* Records of the pieces that buchawzer_plan wrote: record i of numbers[3 i] to numbers[3 i + 2]. `numbers_len` is
+ * 3 * found, 0 if there are none, and not the length of the whole list. 0, or 12 where `records` has fewer than
+ * numbers_len / 3 entries; then nothing is written. Records beyond are untouched.
+ * Both bools of every lent record must be 0 or 1 before the call, as zeroed memory has them (calloc, static, memset): what
+ * malloc or the stack leaves there may be neither. This is not tested and must hold. */
+BUCHAWZER_NODISCARD uint32_t buchawzer_piece_records(
     const uint64_t *numbers,
     size_t numbers_len,
     struct buchawzer_piece *records,
     size_t records_len);
 
-/* The same for the cuts. */
-uint32_t buchawzer_cut_records(
+/* The same for the cuts: `numbers_len` is 3 * (found - 1), and 0 where found is 0. A cut's record has no bool, so that it
+ * may hold anything before the call. */
+BUCHAWZER_NODISCARD uint32_t buchawzer_cut_records(
     const uint64_t *numbers,
     size_t numbers_len,
     struct buchawzer_cut *records,
@@ -402,7 +519,11 @@ uint32_t buchawzer_cut_records(
 /* The listing of a job, as the program cutplan prints it: its bytes at the front of `listing`, and their number. A job that
  * is refused, 19 for bytes that are no job, gives the line `refused` with its number. 0, and nothing is written, where
  * `listing` has fewer than BUCHAWZER_LISTING_BYTES bytes. No NUL ends the listing. */
-uint64_t buchawzer_cutplan(const uint8_t *job, size_t job_len, uint8_t *listing, size_t listing_len);
+BUCHAWZER_NODISCARD uint64_t buchawzer_cutplan(
+    const uint8_t *job,
+    size_t job_len,
+    uint8_t *listing,
+    size_t listing_len);
 
 /* Sets every entry of the three lists to 0, as each operation does at its end. */
 void buchawzer_clear_work(
@@ -425,11 +546,13 @@ struct buchawzer_recording {
     bool decibels;
     size_t frames;
     const float *values;  /* one a frame */
-    const uint8_t *flags; /* one a frame; all 0 for scores */
+    const uint8_t *flags; /* one a frame, else 4; all 0 for scores, and not NULL */
     const double *levels; /* one a frame for decibels; not read for scores */
 };
 
-/* How silences are found, what lengths are wanted, and what a cut costs. Fields as the parameters of buchawzer_plan. */
+/* How silences are found, what lengths are wanted, and what a cut costs. Fields as the parameters of buchawzer_plan.
+ * By count, set `max` well above length / count, else most cuts are forced: see buchawzer_plan. `target` is then tested
+ * and not used. */
 struct buchawzer_settings {
     uint8_t threshold_kind;
     float threshold;
@@ -453,7 +576,7 @@ struct buchawzer_settings {
     double short_weight;
 };
 
-/* Work memory. NULL with 0 entries where a list is not needed. */
+/* Work memory. NULL where a list is not needed. */
 struct buchawzer_work {
     uint32_t *u32s;
     size_t u32s_len;
@@ -539,7 +662,7 @@ static inline struct buchawzer_settings buchawzer_default_settings(void)
 }
 
 /* How many entries are enough, for so many frames: each work list; silences; `ends` and `costs` of candidates; pieces and
- * cuts of a plan, each; the parent list of a plan by count. */
+ * cuts of a plan, each; the parent list of a plan by count, which as a rule does with far fewer (see buchawzer_plan). */
 static inline size_t buchawzer_work_length(size_t frames)
 {
     return 16 * (frames + 1);
@@ -581,7 +704,13 @@ static inline size_t buchawzer_parent_length(size_t frames, uint32_t count)
     return buchawzer_path_parent_length(frames + 1, count);
 }
 
-/* An address for a list that may be NULL: nothing is read or written there, since the list is empty. */
+/* How many entries of a list go over: none where it is NULL, whatever number stands beside it. */
+static inline size_t buchawzer_lent_length(const void *list, size_t length)
+{
+    return list ? length : 0;
+}
+
+/* An address for a list that may be NULL: nothing is read or written there, since its length goes over as 0. */
 static inline const void *buchawzer_lent(const void *list)
 {
     static const uint64_t none = 0;
@@ -595,17 +724,17 @@ static inline void *buchawzer_lent_to_write(void *list)
 }
 
 /* buchawzer_validate of a recording. */
-static inline uint32_t buchawzer_validate_recording(const struct buchawzer_recording *r)
+BUCHAWZER_NODISCARD static inline uint32_t buchawzer_validate_recording(const struct buchawzer_recording *r)
 {
     return buchawzer_validate(
         r->sample_rate, r->channels, r->frame_rate, r->hop, r->len, r->decibels,
-        (const float *)buchawzer_lent(r->values), r->frames,
-        (const uint8_t *)buchawzer_lent(r->flags), r->frames,
-        (const double *)buchawzer_lent(r->levels), r->decibels ? r->frames : 0);
+        (const float *)buchawzer_lent(r->values), buchawzer_lent_length(r->values, r->frames),
+        (const uint8_t *)buchawzer_lent(r->flags), buchawzer_lent_length(r->flags, r->frames),
+        (const double *)buchawzer_lent(r->levels), buchawzer_lent_length(r->levels, r->decibels ? r->frames : 0));
 }
 
 /* buchawzer_silence_list of a recording. */
-static inline uint32_t buchawzer_find_silences(
+BUCHAWZER_NODISCARD static inline uint32_t buchawzer_find_silences(
     const struct buchawzer_recording *r,
     const struct buchawzer_settings *s,
     const struct buchawzer_work *work,
@@ -615,18 +744,18 @@ static inline uint32_t buchawzer_find_silences(
 {
     return buchawzer_silence_list(
         r->sample_rate, r->channels, r->frame_rate, r->hop, r->len, r->decibels,
-        (const float *)buchawzer_lent(r->values), r->frames,
-        (const uint8_t *)buchawzer_lent(r->flags), r->frames,
-        (const double *)buchawzer_lent(r->levels), r->decibels ? r->frames : 0,
+        (const float *)buchawzer_lent(r->values), buchawzer_lent_length(r->values, r->frames),
+        (const uint8_t *)buchawzer_lent(r->flags), buchawzer_lent_length(r->flags, r->frames),
+        (const double *)buchawzer_lent(r->levels), buchawzer_lent_length(r->levels, r->decibels ? r->frames : 0),
         s->threshold_kind, s->threshold, s->min_silence, s->min_sound, s->pre, s->tail,
-        (uint32_t *)buchawzer_lent_to_write(work->u32s), work->u32s_len,
-        (uint64_t *)buchawzer_lent_to_write(work->u64s), work->u64s_len,
-        (double *)buchawzer_lent_to_write(work->f64s), work->f64s_len,
-        (uint32_t *)buchawzer_lent_to_write(out), out_len, count);
+        (uint32_t *)buchawzer_lent_to_write(work->u32s), buchawzer_lent_length(work->u32s, work->u32s_len),
+        (uint64_t *)buchawzer_lent_to_write(work->u64s), buchawzer_lent_length(work->u64s, work->u64s_len),
+        (double *)buchawzer_lent_to_write(work->f64s), buchawzer_lent_length(work->f64s, work->f64s_len),
+        (uint32_t *)buchawzer_lent_to_write(out), buchawzer_lent_length(out, out_len), count);
 }
 
 /* buchawzer_candidates of a recording. */
-static inline uint32_t buchawzer_find_candidates(
+BUCHAWZER_NODISCARD static inline uint32_t buchawzer_find_candidates(
     const struct buchawzer_recording *r,
     const struct buchawzer_settings *s,
     const struct buchawzer_work *work,
@@ -634,41 +763,41 @@ static inline uint32_t buchawzer_find_candidates(
 {
     return buchawzer_candidates(
         r->sample_rate, r->channels, r->frame_rate, r->hop, r->len, r->decibels,
-        (const float *)buchawzer_lent(r->values), r->frames,
-        (const uint8_t *)buchawzer_lent(r->flags), r->frames,
-        (const double *)buchawzer_lent(r->levels), r->decibels ? r->frames : 0,
+        (const float *)buchawzer_lent(r->values), buchawzer_lent_length(r->values, r->frames),
+        (const uint8_t *)buchawzer_lent(r->flags), buchawzer_lent_length(r->flags, r->frames),
+        (const double *)buchawzer_lent(r->levels), buchawzer_lent_length(r->levels, r->decibels ? r->frames : 0),
         s->threshold_kind, s->threshold, s->min_silence, s->min_sound, s->pre, s->tail,
         s->min, s->target, s->max, s->by_count, s->count, s->drop_gaps, s->placement_kind, s->ratio,
         s->cut, s->level, s->pause, s->pause_ref, s->target_weight, s->short_weight,
-        (uint32_t *)buchawzer_lent_to_write(work->u32s), work->u32s_len,
-        (uint64_t *)buchawzer_lent_to_write(work->u64s), work->u64s_len,
-        (double *)buchawzer_lent_to_write(work->f64s), work->f64s_len,
-        (uint32_t *)buchawzer_lent_to_write(out->ends), out->ends_len,
-        (double *)buchawzer_lent_to_write(out->costs), out->costs_len, &out->found);
+        (uint32_t *)buchawzer_lent_to_write(work->u32s), buchawzer_lent_length(work->u32s, work->u32s_len),
+        (uint64_t *)buchawzer_lent_to_write(work->u64s), buchawzer_lent_length(work->u64s, work->u64s_len),
+        (double *)buchawzer_lent_to_write(work->f64s), buchawzer_lent_length(work->f64s, work->f64s_len),
+        (uint32_t *)buchawzer_lent_to_write(out->ends), buchawzer_lent_length(out->ends, out->ends_len),
+        (double *)buchawzer_lent_to_write(out->costs), buchawzer_lent_length(out->costs, out->costs_len), &out->found);
 }
 
 /* buchawzer_path over lent candidates. */
-static inline uint32_t buchawzer_find_path(
+BUCHAWZER_NODISCARD static inline uint32_t buchawzer_find_path(
     const struct buchawzer_lent_candidates *c,
     const struct buchawzer_preferences *p,
     const struct buchawzer_work *work,
     struct buchawzer_path_output *out)
 {
     return buchawzer_path(
-        (const uint64_t *)buchawzer_lent(c->left), c->candidates,
-        (const uint64_t *)buchawzer_lent(c->right), c->candidates,
-        (const double *)buchawzer_lent(c->cost), c->candidates,
+        (const uint64_t *)buchawzer_lent(c->left), buchawzer_lent_length(c->left, c->candidates),
+        (const uint64_t *)buchawzer_lent(c->right), buchawzer_lent_length(c->right, c->candidates),
+        (const double *)buchawzer_lent(c->cost), buchawzer_lent_length(c->cost, c->candidates),
         p->min, p->target, p->limit, p->target_weight, p->short_weight, p->by_count, p->count,
-        (uint32_t *)buchawzer_lent_to_write(work->u32s), work->u32s_len,
-        (uint64_t *)buchawzer_lent_to_write(work->u64s), work->u64s_len,
-        (double *)buchawzer_lent_to_write(work->f64s), work->f64s_len,
-        (uint32_t *)buchawzer_lent_to_write(work->parent), work->parent_len,
-        (uint32_t *)buchawzer_lent_to_write(out->path), out->path_len,
+        (uint32_t *)buchawzer_lent_to_write(work->u32s), buchawzer_lent_length(work->u32s, work->u32s_len),
+        (uint64_t *)buchawzer_lent_to_write(work->u64s), buchawzer_lent_length(work->u64s, work->u64s_len),
+        (double *)buchawzer_lent_to_write(work->f64s), buchawzer_lent_length(work->f64s, work->f64s_len),
+        (uint32_t *)buchawzer_lent_to_write(work->parent), buchawzer_lent_length(work->parent, work->parent_len),
+        (uint32_t *)buchawzer_lent_to_write(out->path), buchawzer_lent_length(out->path, out->path_len),
         &out->length, &out->over, &out->score_cost);
 }
 
 /* buchawzer_plan of a recording. */
-static inline uint32_t buchawzer_make_plan(
+BUCHAWZER_NODISCARD static inline uint32_t buchawzer_make_plan(
     const struct buchawzer_recording *r,
     const struct buchawzer_settings *s,
     const struct buchawzer_work *work,
@@ -676,18 +805,18 @@ static inline uint32_t buchawzer_make_plan(
 {
     return buchawzer_plan(
         r->sample_rate, r->channels, r->frame_rate, r->hop, r->len, r->decibels,
-        (const float *)buchawzer_lent(r->values), r->frames,
-        (const uint8_t *)buchawzer_lent(r->flags), r->frames,
-        (const double *)buchawzer_lent(r->levels), r->decibels ? r->frames : 0,
+        (const float *)buchawzer_lent(r->values), buchawzer_lent_length(r->values, r->frames),
+        (const uint8_t *)buchawzer_lent(r->flags), buchawzer_lent_length(r->flags, r->frames),
+        (const double *)buchawzer_lent(r->levels), buchawzer_lent_length(r->levels, r->decibels ? r->frames : 0),
         s->threshold_kind, s->threshold, s->min_silence, s->min_sound, s->pre, s->tail,
         s->min, s->target, s->max, s->by_count, s->count, s->drop_gaps, s->placement_kind, s->ratio,
         s->cut, s->level, s->pause, s->pause_ref, s->target_weight, s->short_weight,
-        (uint32_t *)buchawzer_lent_to_write(work->u32s), work->u32s_len,
-        (uint64_t *)buchawzer_lent_to_write(work->u64s), work->u64s_len,
-        (double *)buchawzer_lent_to_write(work->f64s), work->f64s_len,
-        (uint32_t *)buchawzer_lent_to_write(work->parent), work->parent_len,
-        (uint64_t *)buchawzer_lent_to_write(out->pieces), out->pieces_len,
-        (uint64_t *)buchawzer_lent_to_write(out->cuts), out->cuts_len, &out->found);
+        (uint32_t *)buchawzer_lent_to_write(work->u32s), buchawzer_lent_length(work->u32s, work->u32s_len),
+        (uint64_t *)buchawzer_lent_to_write(work->u64s), buchawzer_lent_length(work->u64s, work->u64s_len),
+        (double *)buchawzer_lent_to_write(work->f64s), buchawzer_lent_length(work->f64s, work->f64s_len),
+        (uint32_t *)buchawzer_lent_to_write(work->parent), buchawzer_lent_length(work->parent, work->parent_len),
+        (uint64_t *)buchawzer_lent_to_write(out->pieces), buchawzer_lent_length(out->pieces, out->pieces_len),
+        (uint64_t *)buchawzer_lent_to_write(out->cuts), buchawzer_lent_length(out->cuts, out->cuts_len), &out->found);
 }
 
 #ifdef __cplusplus

@@ -1,6 +1,6 @@
 //! Buchawzer for Rust: the declarations of buchawzer.h, and the same calls with named fields.
 //!
-//! A program takes this file in by `#[path]` and links libcapi.a (`-L target/staticlib -l static=capi`);
+//! A program takes this file in by `#[path]` and links libbuchawzer.a (`-L target/staticlib -l static=buchawzer`);
 //! examples/plan.rs does. What each function promises, what each number means, which lists it wants and what it
 //! leaves in them stands in buchawzer.h, under the same names. The functions below the declarations are safe:
 //! a slice brings its length, and no two that are lent to be written overlap.
