@@ -55,6 +55,13 @@ pub mod Quotients
 --   whole-exact           they are exact up to 2 ^ prec
 --   power-fits            the format holds 2 ^ k up to 2 ^ emax
 pub mod Whole
+-- Nearest: how far above a fraction its rounded value can be
+--   closest-within, closest-near   the nearest whole number is at most half above a fraction; less than half above m a fraction gives m at most
+--   last-place-least      how large the unit in the last place (`lastPlace`) is at least
+--   whole-under, whole-near   what a whole number of more digits than the format keeps is rounded to at most
+--   round-near            a whole number and less than half a last place round to that number at most
+--   float-div-is, float-div-under   a quotient of values is one fraction, rounded; it is at most that of a bound of the dividend
+pub mod Nearest
 -- Clamp: Rust's f64::min, f64::max and f64::clamp
 --   min-one, max-one      each is one of the two
 --   min-below, max-above  the least is at most both numbers, the greatest at least both

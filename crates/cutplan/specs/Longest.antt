@@ -74,7 +74,7 @@ module _ (job : List ℕ) (a : Asked) (read : jobOf job ≡ asks a) where
 
     pieces-wide : AllWide (out .pieces)
     pieces-wide = wide-rows (out .pieces) n 1533 (written .pieces)
-        (λ k h. (piece-wide k h .0, piece-wide k h .1, omega (arith, of-span job a read n made (omega (arith, h)) .flagged .both k h)))
+        (λ k h. (piece-wide k h .0, piece-wide k h .1, omega (arith, of-span job a read n made (omega (arith, h)) .flagged .one k h)))
 
     cuts-wide : AllWide (out .cuts)
     cuts-wide = wide-rows (out .cuts) (n - 1) 1533 (written .cuts)

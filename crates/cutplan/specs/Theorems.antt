@@ -122,7 +122,7 @@ module _ (job : List ℕ) (a : Asked) (read : jobOf job ≡ asks a) where
     cutplan-parsed =
         ap parsedOf (job-lines ∙ sym (planned-lines (endFor .answer) n (endFor .out) made))
         ∙ parsed-listing n (endFor .out .pieces) (endFor .out .cuts)
-        (λ i l. of-span (omega (arith, l)) .flagged .both i l)
+        (λ i l. omega (arith, of-span (omega (arith, l)) .flagged .one i l))
         (λ i l. of-span (omega (arith, l)) .reasoned i (omega (arith, l)))
 
   -- ---- a refusal of Plan

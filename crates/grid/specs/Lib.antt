@@ -10,6 +10,10 @@ pub mod Boundary
 pub mod BoundaryLaws
 -- Durations: in frames (`framesIn`, `framesCeil`, `framesFloor`), samples (`samplesFloor`, `samplesIn`) and seconds (`secondsOf`, `frameSecs`); `durationOk` (7)
 pub mod Durations
+-- DurationsLaws: a duration in samples as a float
+--   samples-mono          it never falls as the duration grows
+--   samples-within, samples-small   it is at most the whole samples and one more where duration × rate is below 2 ^ 66, and within the limits that is so
+pub mod DurationsLaws
 -- Values: refusal 5's ranges for one element (`isScore`, `isFinite`, `isFlag`, `isUnflagged`)
 pub mod Values
 -- Validate: the six tests (`rateOk`, `channelsOk`, `framesOk`, `listsOk`, `valuesOk`, `lengthOk`), the first that fails (`validityOf`), its number (`refusalOf`)

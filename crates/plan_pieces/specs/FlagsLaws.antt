@@ -1,11 +1,19 @@
 -- One flag is 1 and the other 2, so that either can be read off their sum.
-use mathlib.Core.Path.{_≡_, refl}
+-- No piece has both: a length above the whole samples of the maximum is at least one more, and neither the maximum nor a minimum up to it is above that as a float.
+use mathlib.Core.Path.{_≡_, refl, sym}
 use mathlib.Core.Bool.{Bool, true, false, _||_, cond}
-use Prim.Native.Nat.{ℕ, _+_, _≤_, _<_}
+use Prim.Native.Nat.{ℕ, suc, _+_, _*_, _^_, _≤_, _<_}
 use native.Mathlib.Omega.{arith}
-use lib.Dec.{leb, eqb}
-use lib.Ieee.{Float}
-use borrow.Author.Tests.{lt-ltb, le-ltb}
+use lib.Dec.{T, leb, eqb}
+use lib.IntN.{pos}
+use lib.Ieee.{Float, binary64, ofInt, le}
+use lib.Ieee.Bits.{is-false}
+use borrow.Author.Tests.{ltb-true, lt-ltb, le-ltb}
+use Rattle.base_laws.specs.Tests.{unmet}
+use Rattle.base_laws.specs.Order.{float-le-trans, float-le-not-lt}
+use Rattle.base_laws.specs.Whole.{whole-mono}
+use Rattle.grid.specs.Durations.{samplesFloor, samplesIn}
+use Rattle.grid.specs.DurationsLaws.{samples-mono, samples-within}
 use Rattle.plan_pieces.specs.Flags.{hasLong, hasShort, isShorter, isLonger, shortFlag, longFlag, flagsOf}
 
 pub flags-below : (least : Float) (len : ℕ) → isShorter least len ≡ true → 1 ≡ shortFlag least len
@@ -61,3 +69,27 @@ short-stands least most len = go (isShorter least len) (isLonger most len)
     go true false = refl
     go false true = refl
     go false false = refl
+
+-- ---- never both
+
+-- a piece longer than the maximum is not shorter than a minimum up to it
+pub long-not-short : (rate least most len : ℕ) → least ≤ most → most * rate < 2 ^ 66 → isLonger (samplesFloor rate most) len ≡ true
+    → isShorter (samplesIn rate least) len ≡ false
+long-not-short rate least most len h k e =
+    let length = ofInt binary64 (pos len) in
+    let next = ofInt binary64 (pos (suc (samplesFloor rate most))) in
+    let above : T (le next length) = whole-mono binary64 (suc (samplesFloor rate most)) len (ltb-true (samplesFloor rate most) len e) in
+    let within : T (le (samplesIn rate least) next) =
+    float-le-trans (samplesIn rate least) (samplesIn rate most) next (samples-mono rate least most h) (samples-within rate most k) in
+    is-false (isShorter (samplesIn rate least) len) (float-le-not-lt length (samplesIn rate least) (float-le-trans (samplesIn rate least) next length within above))
+
+-- so at most one flag stands
+pub flags-one : (rate least most len : ℕ) → least ≤ most → most * rate < 2 ^ 66 → flagsOf (samplesIn rate least) (samplesFloor rate most) len ≤ 2
+unfolding flagsOf shortFlag longFlag
+flags-one rate least most len h k = go (isShorter (samplesIn rate least) len) (isLonger (samplesFloor rate most) len) (long-not-short rate least most len h k)
+  where
+    go : (s l : Bool) → (l ≡ true → s ≡ false) → cond s 1 0 + cond l 2 0 ≤ 2
+    go true true n = unmet (sym (n refl))
+    go true false n = omega arith
+    go false true n = omega arith
+    go false false n = omega arith

@@ -2,7 +2,7 @@
 
 -- Flags: the flags of a piece (`flagsOf`), and each of them (`hasLong`, `hasShort`)
 pub mod Flags
--- FlagsLaws: each flag stands exactly where it should (`long-stands`, `short-stands`), and there are no others (`flags-most`)
+-- FlagsLaws: each flag stands exactly where it should (`long-stands`, `short-stands`), there are no others (`flags-most`), and never both stand (`long-not-short`, `flags-one`)
 pub mod FlagsLaws
 -- Along: the pieces and cuts along a path (`piecesAlongNumbers`, `cutsAlongNumbers`)
 pub mod Along

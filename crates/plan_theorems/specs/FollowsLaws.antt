@@ -7,6 +7,8 @@ use lib.ListN.{length, getD, take}
 use Rattle.base_code.specs.FrontLaws.{onto-at, onto-take}
 use Rattle.base_terms.specs.Lists.{onto}
 use Rattle.grid.specs.Boundary.{boundaryOf}
+use Rattle.grid.specs.Durations.{InSamples}
+use Rattle.grid.specs.DurationsLaws.{samples-small}
 use Rattle.grid.specs.declared.boundary.FrameGrid.{FrameGrid}
 use Rattle.path_pieces.specs.Pieces.{pieceLength}
 use Rattle.path_by_length.specs.Paths.{Onward}
@@ -22,7 +24,7 @@ use Rattle.plan_division.specs.AlongLaws.{onward-last, left-sample, right-sampl
 use Rattle.plan_division.specs.Across.{Across}
 use Rattle.plan_lengths.specs.PlanLengths.{minimumIn, maximumIn}
 use Rattle.plan_pieces.specs.Flags.{flagsOf}
-use Rattle.plan_pieces.specs.FlagsLaws.{long-stands, short-stands, flags-most}
+use Rattle.plan_pieces.specs.FlagsLaws.{long-stands, short-stands, flags-one}
 use Rattle.plan_pieces.specs.NumbersLaws.{Numbers, piece-numbers, cut-numbers}
 use Rattle.plan_pieces.specs.PlanAlong.{reasonsOf, planPieces, planCuts}
 use Rattle.plan_pieces.specs.PlanAlongLaws.{reasons-few, plan-lengths}
@@ -144,11 +146,12 @@ module _ (g : FrameGrid) (plan : PlanConfig) (s : Span) (cs : List Candidate) (p
   unfolding pieceLength
   flags-are i l = piece-at g plan cs path k before after h (3 * i + 2) (omega arith) ∙ numbers i l .three ∙ rw (start-is i l, end-is i l)
 
-  pub along-flagged : Flagged (minimumIn g plan) (maximumIn g plan) k after
-  along-flagged = record {
+  -- minimum and maximum are within their limits, so that no length is below the one and above the other
+  pub along-flagged : plan .min ≤ plan .max → InSamples (g .«sample_rate») (plan .max) → Flagged (minimumIn g plan) (maximumIn g plan) k after
+  along-flagged order timed = record {
     long = λ i l. rw (flags-are i l) (long-stands (minimumIn g plan) (maximumIn g plan) (lengthAt after i));
     short = λ i l. rw (flags-are i l) (short-stands (minimumIn g plan) (maximumIn g plan) (lengthAt after i));
-    both = λ i l. rw (flags-are i l) (flags-most (minimumIn g plan) (maximumIn g plan) (lengthAt after i));
+    one = λ i l. rw (flags-are i l) (flags-one (g .«sample_rate») (plan .min) (plan .max) (lengthAt after i) order (samples-small (g .«sample_rate») (plan .max) timed));
   }
 
   -- the reasons are those of candidates

@@ -105,8 +105,8 @@ pub record Fills (from to k : ℕ) (out : Output) : Type 0 where
 pub record Flagged (minimum : Float) (maximum k : ℕ) (out : Output) : Type 0 where
   pub long : (i : ℕ) → i < k → hasLong (flagsAt out i) ≡ isLonger maximum (lengthAt out i)
   pub short : (i : ℕ) → i < k → hasShort (flagsAt out i) ≡ isShorter minimum (lengthAt out i)
-  -- there are no other flags
-  pub both : (i : ℕ) → i < k → flagsAt out i ≤ 3
+  -- there are no other flags, and no piece has both: its number is 0, 1 for short or 2 for long
+  pub one : (i : ℕ) → i < k → flagsAt out i ≤ 2
 
 -- the pieces and cuts are those of a division of the span, in samples
 pub record Shows (g : FrameGrid) (s : Span) (cuts : List Cut) (k : ℕ) (out : Output) : Type 0 where

@@ -69,7 +69,7 @@ use Rattle.plan_division.specs.Best.{bestOver, bestOverByCount, oversOf}
 use Rattle.plan_division.specs.Ready.{Ready, SearchableOver}
 use Rattle.plan_division.specs.PlanTheorems.{plan-searchable, first-plan, second-plan, length-plan}
 use Rattle.plan_lengths.specs.PlanLengths.{minimumIn, maximumIn, lengthsWith, lengthsByLength, lengthsByCount}
-use Rattle.plan_lengths.specs.PlanLengthsLaws.{by-length-preferred, by-count-preferred}
+use Rattle.plan_lengths.specs.PlanLengthsLaws.{ready-timed, by-length-preferred, by-count-preferred}
 use Rattle.plan_pieces.specs.Output.{Output, handedOf}
 use Rattle.plan_pieces.specs.declared.answer.Answer.the-variants.{ShortParent, NoReach}
 use Rattle.planner.specs.Plan.{completedByLength, pathByLength, hasParents, suffices, completedByCount, planByCount}
@@ -204,7 +204,9 @@ module _ (r : Recording) (segment : SegmentConfig) (plan : PlanConfig) (values :
           → HandedAlong g plan cs path k before after → Laid k after
       laid cs path k before after across rising d h = record {
         fills = shows-fills g (p .accepted) s within (cutsAlong cs path) d k after (along-shows g plan s cs path k before after across rising h);
-        flagged = along-flagged g plan s cs path k before after across rising h;
+        flagged =
+            along-flagged g plan s cs path k before after across rising h (omega (arith, p .preferring .least-target, p .preferring .target-most))
+            (record { rate = ready-timed p .rate; time = p .preferring .most-time });
         reasoned = along-reasoned g plan s cs path k before after across rising h;
       }
 
