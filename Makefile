@@ -27,8 +27,16 @@ DRIVER := target/reference/release/driver
 
 .PHONY: run test reference compare bench sample
 
-run: $(CUTPLAN)
-	@$(CUTPLAN) <$(JOB)
+# The shell takes the name from its surroundings, so that blanks and quotes in it are its own; and a file that is not there is
+# said before the minutes of proving.
+.PHONY: job-there
+run: export JOB := $(JOB)
+run: job-there $(CUTPLAN)
+	@$(CUTPLAN) <"$$JOB"
+
+job-there:
+	@[ -r "$$JOB" ] && [ ! -d "$$JOB" ] || \
+		{ echo "make run: JOB=$$JOB is no file that can be read; tools/job makes one" >&2; exit 2; }
 
 $(CUTPLAN): program/cutplan.c target/staticlib/libcutplan_program.a
 	@$(CC) -O2 -Wall -Wextra -o $@ $^
