@@ -1,13 +1,13 @@
-//! Plans document 01's recording R and prints its listing; then tries two refusals. Built and run by tools/examples, which
-//! also holds README.md to the marked lines.
+//! Plans document 01's recording R and prints its listing; then tries two refusals, and says in words on standard error
+//! what the first is about. Built and run by tools/examples, which also holds README.md to the marked lines.
 
 #[path = "../include/buchawzer.rs"]
 mod buchawzer;
 
-use buchawzer::{Cut, Piece, PlanOutput, Recording, Settings, Work};
+use buchawzer::{Cut, Piece, Recording, Refusal, Settings, Work};
 
-/// The plan of R at this sample rate, or its refusal.
-fn plan_at(sample_rate: u32) -> Result<(Vec<Piece>, Vec<Cut>), u32> {
+/// Prints the plan of R at this sample rate.
+fn print_plan_at(sample_rate: u32) -> Result<(), Refusal> {
     // README
     let values = [1.0, 1.0, 0.0, 0.0, 0.0, 1.0, 1.0];
     let recording = Recording {
@@ -18,22 +18,12 @@ fn plan_at(sample_rate: u32) -> Result<(Vec<Piece>, Vec<Cut>), u32> {
     let n = buchawzer::work_length(values.len());
     let (mut u32s, mut u64s, mut f64s) = (vec![0; n], vec![0; n], vec![0.0; n]);
     let work = Work { u32s: &mut u32s, u64s: &mut u64s, f64s: &mut f64s };
-    let (mut pieces, mut cuts, mut found) = ([0; 3 * 7], [0; 3 * 7], 0);
-    let output = PlanOutput { pieces: &mut pieces, cuts: &mut cuts, found: &mut found };
-    let refused = buchawzer::make_plan(&recording, &settings, work, &mut [], output);
+    let (mut pieces, mut cuts) = ([0; 3 * 7], [0; 3 * 7]);
+    let plan = buchawzer::make_plan(&recording, &settings, work, &mut [], &mut pieces, &mut cuts)?;
+    let (mut pieces, mut cuts) = ([Piece::default(); 7], [Cut::default(); 7]);
+    let pieces = buchawzer::piece_records(plan.pieces, &mut pieces)?;
+    let cuts = buchawzer::cut_records(plan.cuts, &mut cuts)?;
     // end
-    if refused != buchawzer::ACCEPTED {
-        return Err(refused);
-    }
-    let found = found as usize;
-    let mut piece_list = vec![Piece::default(); found];
-    let mut cut_list = vec![Cut::default(); found.saturating_sub(1)];
-    buchawzer::piece_records(&pieces[..3 * piece_list.len()], &mut piece_list);
-    buchawzer::cut_records(&cuts[..3 * cut_list.len()], &mut cut_list);
-    Ok((piece_list, cut_list))
-}
-
-fn print_plan(pieces: &[Piece], cuts: &[Cut]) {
     println!("plan {} {}", pieces.len(), cuts.len());
     for piece in pieces {
         let flags = match (piece.too_short, piece.too_long) {
@@ -48,16 +38,17 @@ fn print_plan(pieces: &[Piece], cuts: &[Cut]) {
         let reason = ["silence", "quiet", "forced"][usize::from(cut.reason)];
         println!("cut {} {} {reason}", cut.previous_end, cut.next_start);
     }
+    Ok(())
 }
 
-fn main() {
-    for sample_rate in [1000, buchawzer::MOST_SAMPLE_RATE + 1] {
-        match plan_at(sample_rate) {
-            Ok((pieces, cuts)) => print_plan(&pieces, &cuts),
-            Err(number) => println!("refused {number}"),
-        }
+fn main() -> Result<(), Refusal> {
+    print_plan_at(1000)?;
+    if let Err(refusal) = print_plan_at(buchawzer::MOST_SAMPLE_RATE + 1) {
+        println!("refused {}", refusal.number());
+        eprintln!("{refusal}");
     }
     let mut listing = [0; buchawzer::LISTING_BYTES];
-    let length = buchawzer::cutplan(&[], &mut listing) as usize;
-    print!("{}", String::from_utf8_lossy(&listing[..length]));
+    let listing = buchawzer::cutplan(&[], &mut listing)?;
+    print!("{}", String::from_utf8_lossy(listing));
+    Ok(())
 }

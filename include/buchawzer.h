@@ -161,8 +161,8 @@ static inline const char *buchawzer_refusal_advice(uint32_t number)
     case BUCHAWZER_REFUSED_WORK:
         return "lend 16 × (frames + 1) entries of each type (buchawzer_work_length); not from a job";
     case BUCHAWZER_REFUSED_PARENT:
-        return "lend more (buchawzer_parent_length is always enough); a job's list has 16,384 entries: ask for fewer "
-            "pieces, or use the library";
+        return "lend twice as many and call again (buchawzer_parent_length is always enough); a job's list has 16,384 "
+            "entries: ask for fewer pieces, or use the library";
     case BUCHAWZER_REFUSED_CANDIDATES:
         return "give three lists of one length";
     case BUCHAWZER_REFUSED_ENDS:
@@ -172,7 +172,8 @@ static inline const char *buchawzer_refusal_advice(uint32_t number)
     case BUCHAWZER_REFUSED_REACH:
         return "no input is known that gives it; ask for more pieces, or plan by length";
     case BUCHAWZER_REFUSED_JOB:
-        return "look at it by tools/job --show; for more frames use the library";
+        return "look at it by tools/job --show, which names the field and offset where it stops being a job; for more "
+            "frames use the library";
     default:
         return "";
     }

@@ -183,8 +183,25 @@ impl Caller {
         } else if !work {
             Some(format!("at {given}: work lists"))
         } else {
-            None
+            self.ask_again(job, refusal, found)
         }
+    }
+
+    /// Asks once more, for the filled parts of the outputs.
+    fn ask_again(&mut self, job: &Job, refusal: u32, found: &Found) -> Option<String> {
+        let (case, settings) = (&job.recording.case, &job.recording.settings);
+        let (work, ends, costs) = (
+            self.silences.work.lend(),
+            self.ends.lend(),
+            self.costs.lend(),
+        );
+        let given = ours::candidates::found(&case.lent(), settings, &job.plan, work, ends, costs);
+        let given = given.map(|c| (c.ends, c.costs));
+        let expected = match refusal {
+            0 => Ok((&found.ends[..], &found.costs[..])),
+            _ => Err(refusal),
+        };
+        (given != expected).then(|| format!("again: ours {given:?}, expected {expected:?}"))
     }
 
     fn call(&mut self, job: &Job, count: &mut u64) -> u32 {

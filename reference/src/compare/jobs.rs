@@ -45,19 +45,20 @@ fn ask(listing: &mut List<u8>, job: &[u8], rng: &mut Rng, tally: &mut Tally) {
         _ => LISTING + rng.below(40) as usize,
     };
     let whole = outcome.listing();
-    let expected = if len < LISTING { &[] } else { &whole[..] };
+    let expected = if len < LISTING {
+        Err(12)
+    } else {
+        Ok(&whole[..])
+    };
     occurrences::count(tally, job, read.as_ref().ok(), &outcome, len);
     listing.soil(len, rng);
-    let given = ours::jobs::cutplan(job, listing.lend());
-    let equal = given == expected.len() as u64 && listing.holds(expected);
+    let given = ours::jobs::listing(job, listing.lend()).map(<[u8]>::to_vec);
+    let equal = given.as_deref() == expected.as_deref() && listing.holds(expected.unwrap_or(&[]));
     tally.take(equal, job.len() as u64, || {
-        let ours = &listing.lend()[..len.min(given as usize)];
-        let (ours, expected) = (
-            String::from_utf8_lossy(ours),
-            String::from_utf8_lossy(expected),
-        );
+        let ours = given.as_deref().map(String::from_utf8_lossy);
+        let expected = expected.map(String::from_utf8_lossy);
         let job = show(job);
-        format!("{job}, {len} bytes lent: ours {given}: {ours:?}, expected {expected:?}")
+        format!("{job}, {len} bytes lent: ours {ours:?}, expected {expected:?}")
     });
 }
 

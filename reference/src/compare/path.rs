@@ -156,8 +156,21 @@ impl Caller {
         } else if !self.left_as_it_should_be(refusal) {
             Some(format!("at {given}: work or parent lists"))
         } else {
-            None
+            self.ask_again(job, refusal, path)
         }
+    }
+
+    /// Asks once more, for the filled part of the output.
+    fn ask_again(&mut self, job: &Job, refusal: u32, path: &[u32]) -> Option<String> {
+        let (work, parent) = (self.work.lend(), self.parent.lend());
+        let given = ours::path::found(job, work, parent, self.path.lend());
+        let given = given.map(|p| (p.path, p.over, p.score_cost.to_bits()));
+        let expected = match refusal {
+            0 => Ok((path, job.score(path))),
+            _ => Err(refusal),
+        };
+        let expected = expected.map(|(path, score)| (path, score.over, score.cost.to_bits()));
+        (given != expected).then(|| format!("again: ours {given:?}, expected {expected:?}"))
     }
 
     fn soil(&mut self, sizes: &Sizes, rng: &mut Rng) {

@@ -191,8 +191,23 @@ impl Caller {
         } else if !self.left_as_it_should_be(refusal) {
             Some(format!("at {given}: work or parent lists"))
         } else {
-            None
+            self.ask_again(job, refusal, planned)
         }
+    }
+
+    /// Asks once more, for the filled parts of the outputs.
+    fn ask_again(&mut self, job: &Job, refusal: u32, planned: &Planned) -> Option<String> {
+        let (case, settings) = (&job.recording.case, &job.recording.settings);
+        let (work, parent) = (self.work.lend(), self.parent.lend());
+        let (pieces, cuts) = (self.pieces.lend(), self.cuts.lend());
+        let (lent, plan) = (case.lent(), &job.plan);
+        let given = ours::plan::made(&lent, settings, plan, work, parent, pieces, cuts);
+        let given = given.map(|p| (p.pieces, p.cuts));
+        let expected = match refusal {
+            0 => Ok((&planned.pieces[..], &planned.cuts[..])),
+            _ => Err(refusal),
+        };
+        (given != expected).then(|| format!("again: ours {given:?}, expected {expected:?}"))
     }
 
     fn soil(&mut self, sizes: &Sizes, rng: &mut Rng) {

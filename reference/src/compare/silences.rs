@@ -145,7 +145,19 @@ impl Caller {
         } else if !work {
             Some(format!("at {given}: work lists"))
         } else {
-            None
+            self.ask_again(job, refusal, silences)
         }
+    }
+
+    /// Asks once more, for the filled part of the output.
+    fn ask_again(&mut self, job: &Job, refusal: u32, silences: &[u32]) -> Option<String> {
+        let (work, out) = (self.work.lend(), self.out.lend());
+        let given = ours::silences::found(&job.case.lent(), &job.settings, work, out);
+        let expected = if refusal == 0 {
+            Ok(silences)
+        } else {
+            Err(refusal)
+        };
+        (given != expected).then(|| format!("again: ours {given:?}, expected {expected:?}"))
     }
 }

@@ -35,8 +35,15 @@ fn each(n: u64, tally: &mut Tally, trials: &[Case], mut make: impl FnMut(u64) ->
         let case = trials.get(i as usize).cloned().unwrap_or_else(|| make(i));
         let ours = ours::validate(&case.lent());
         let expected = first_refusal::of_recording(&case);
-        tally.take(ours == expected, case.weight(), || {
-            format!("{}: ours {ours}, expected {expected}", case.show())
+        let covers = ours::covers(&case.lent());
+        let covered = match expected {
+            0 => covers,
+            6 => !covers,
+            _ => true,
+        };
+        tally.take(ours == expected && covered, case.weight(), || {
+            let case = case.show();
+            format!("{case}: ours {ours}, covers {covers}, expected {expected}")
         });
     }
 }

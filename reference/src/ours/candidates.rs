@@ -1,7 +1,7 @@
 //! The candidates of a plan, as they are before completion.
 
-use super::buchawzer::{Settings as All, find_candidates};
-use super::{Lent, Work, silences};
+use super::buchawzer::{self, Candidates, Refusal, Settings as All, find_candidates};
+use super::{Lent, Work, number, silences};
 use crate::plan_job::Settings;
 use crate::silence_job;
 
@@ -38,5 +38,17 @@ pub fn candidates(
     work: Work<'_>,
     answer: Answer<'_>,
 ) -> u32 {
-    find_candidates(r, &settings(s, p), work, answer)
+    number(buchawzer::candidates(r, &settings(s, p), work, answer))
+}
+
+/// The candidates, or document 01's refusal.
+pub fn found<'a>(
+    r: &Lent<'_>,
+    s: &silence_job::Settings,
+    p: &Settings,
+    work: Work<'_>,
+    ends: &'a mut [u32],
+    costs: &'a mut [f64],
+) -> Result<Candidates<'a>, u32> {
+    find_candidates(r, &settings(s, p), work, ends, costs).map_err(Refusal::number)
 }

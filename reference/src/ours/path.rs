@@ -1,7 +1,7 @@
 //! The operation "path over lent candidates".
 
-use super::Work;
-use super::buchawzer::{LentCandidates, PathOutput, Preferences, find_path};
+use super::buchawzer::{self, LentCandidates, Path, PathOutput, Preferences, Refusal, find_path};
+use super::{Work, number};
 use crate::path_job::{Job, Score};
 
 /// Where the answer goes.
@@ -11,8 +11,7 @@ pub struct Answer<'a> {
     pub score: &'a mut Score,
 }
 
-/// Document 01's refusal, or 0 with the answer in its places.
-pub fn path(job: &Job, work: Work<'_>, parent: &mut [u32], answer: Answer<'_>) -> u32 {
+fn lent(job: &Job) -> (LentCandidates<'_>, Preferences) {
     let p = &job.preferences;
     let lent = LentCandidates {
         left: &job.left,
@@ -28,6 +27,12 @@ pub fn path(job: &Job, work: Work<'_>, parent: &mut [u32], answer: Answer<'_>) -
         by_count: job.by_count,
         count: job.count,
     };
+    (lent, wanted)
+}
+
+/// Document 01's refusal, or 0 with the answer in its places.
+pub fn path(job: &Job, work: Work<'_>, parent: &mut [u32], answer: Answer<'_>) -> u32 {
+    let (lent, wanted) = lent(job);
     let mut length = u64::from(*answer.length);
     let places = PathOutput {
         path: answer.path,
@@ -35,7 +40,18 @@ pub fn path(job: &Job, work: Work<'_>, parent: &mut [u32], answer: Answer<'_>) -
         over: &mut answer.score.over,
         score_cost: &mut answer.score.cost,
     };
-    let number = find_path(&lent, &wanted, work, parent, places);
+    let number = number(buchawzer::path(&lent, &wanted, work, parent, places));
     *answer.length = u32::try_from(length).expect("a path has at most 1,048,577 candidates");
     number
+}
+
+/// The path, or document 01's refusal.
+pub fn found<'a>(
+    job: &Job,
+    work: Work<'_>,
+    parent: &mut [u32],
+    path: &'a mut [u32],
+) -> Result<Path<'a>, u32> {
+    let (lent, wanted) = lent(job);
+    find_path(&lent, &wanted, work, parent, path).map_err(Refusal::number)
 }

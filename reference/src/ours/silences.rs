@@ -1,7 +1,7 @@
 //! The operation "silence list".
 
-use super::buchawzer::{Settings as All, find_silences};
-use super::{Lent, Work};
+use super::buchawzer::{Refusal, Settings as All, find_silences, silence_list};
+use super::{Lent, Work, number};
 use crate::silence_job::Settings;
 
 /// Clears work memory, as the operation does it at its end.
@@ -22,5 +22,15 @@ pub fn settings(s: &Settings) -> All {
 
 /// Document 01's refusal, or 0 with the silences in `out` and their number in `count`.
 pub fn list(r: &Lent<'_>, s: &Settings, work: Work<'_>, out: &mut [u32], count: &mut u64) -> u32 {
-    find_silences(r, &settings(s), work, out, count)
+    number(silence_list(r, &settings(s), work, out, count))
+}
+
+/// The silences, or document 01's refusal.
+pub fn found<'a>(
+    r: &Lent<'_>,
+    s: &Settings,
+    work: Work<'_>,
+    out: &'a mut [u32],
+) -> Result<&'a [u32], u32> {
+    find_silences(r, &settings(s), work, out).map_err(Refusal::number)
 }

@@ -4,7 +4,7 @@ use std::fmt::Debug;
 
 use super::small;
 use crate::compare::Amount;
-use crate::ours::plan::{Cut, Piece, cut_records, piece_records};
+use crate::ours::plan::{Cut, Piece, Refusal, cut_records, piece_records};
 use crate::plan_job::planned::{Planned, cut_reason};
 use crate::rng::Rng;
 use crate::tally::Tally;
@@ -66,19 +66,21 @@ fn fault<T: Copy + Debug + PartialEq>(
     mut numbers: Vec<u64>,
     wanted: &[T],
     before: T,
-    ask: fn(&[u64], &mut [T]) -> u32,
+    ask: for<'a> fn(&[u64], &'a mut [T]) -> Result<&'a [T], Refusal>,
 ) -> Option<String> {
     numbers.resize(numbers.len() + rng.below(3) as usize, 5);
     let room = (wanted.len() + rng.below(4) as usize).saturating_sub(1);
     let mut lent = vec![before; room];
-    let refusal = ask(&numbers, &mut lent);
+    let given = ask(&numbers, &mut lent).map_err(Refusal::number);
+    let given = given.map(<[T]>::to_vec);
     let short = room < wanted.len();
+    let expected = if short { Err(12) } else { Ok(wanted.to_vec()) };
     tally.occurs("too short a list", short);
     tally.occurs("a list that is just long enough", room == wanted.len());
     let mut left = vec![before; room];
     if !short {
         left[..wanted.len()].copy_from_slice(wanted);
     }
-    let same = refusal == if short { 12 } else { 0 } && lent == left;
-    (!same).then(|| format!("{refusal}, {lent:?}, wanted {left:?}"))
+    let same = given == expected && lent == left;
+    (!same).then(|| format!("{given:?}, {lent:?}, wanted {expected:?}, {left:?}"))
 }
