@@ -12,7 +12,9 @@ pub mod Modes
 pub mod Paths
 -- PathsTheorems: the number is 0 exactly where a path was found (`called-zero`), which is then the best one (`called-by-length`, `called-by-count`)
 pub mod PathsTheorems
--- Candidates: the settings of a plan as C hands them over (`gapSetting`, `placementOf`, `weightsOf`, `planConfigOf`), and what the call leaves (`ListCalled`, `listCalledOf`)
+-- Settings: the settings of a plan as C hands them over (`gapSetting`, `placementOf`, `weightsOf`, `planConfigOf`)
+pub mod Settings
+-- Candidates: what the call of the candidate list leaves (`foundAfter`, `ListCalled`, `listCalledOf`)
 pub mod Candidates
 -- CandidatesTheorems: the call's number is 0 exactly where a list was found (`called-zero`), and then all theorems on candidates hold of it (`called-handed`)
 pub mod CandidatesTheorems

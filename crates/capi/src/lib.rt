@@ -6,5 +6,6 @@ pub mod jobs;
 pub mod plan;
 pub mod recording;
 pub mod records;
+pub mod settings;
 pub mod silences;
 pub mod work;

@@ -1,6 +1,6 @@
 // The operation Plan.
-use crate::candidates;
 use crate::recording;
+use crate::settings;
 use crate::silences;
 use plan_pieces::answer;
 use plan_pieces::answer::Answer;
@@ -12,7 +12,7 @@ ghost use Rattle.plan_pieces.specs.Output.{outputOf};
 ghost use Rattle.planner.specs.Operation.{planOf};
 ghost use Rattle.capi.specs.Grid.{recordingOf};
 ghost use Rattle.capi.specs.Silences.{segmentOf};
-ghost use Rattle.capi.specs.Candidates.{weightsOf, planConfigOf};
+ghost use Rattle.capi.specs.Settings.{weightsOf, planConfigOf};
 ghost use Rattle.capi.specs.Plans.{piecesAfter, planCalled, planCalledOf};
 
 // How many pieces the plan has, or what stood there before.
@@ -96,8 +96,8 @@ pub extern "C" fn buchawzer_plan(
         pre,
         tail,
     );
-    let weights = candidates::weights_of(cut, level, pause, pause_ref, target_weight, short_weight);
-    let settings = candidates::plan_config(
+    let weights = settings::weights_of(cut, level, pause, pause_ref, target_weight, short_weight);
+    let plan = settings::plan_config(
         min,
         target,
         max,
@@ -111,7 +111,7 @@ pub extern "C" fn buchawzer_plan(
     let answer = operation::plan(
         r,
         segment,
-        settings,
+        plan,
         values,
         flags,
         levels,

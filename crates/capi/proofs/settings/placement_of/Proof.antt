@@ -1,8 +1,8 @@
 -- The three kinds, in order; 0 / 0 is the NaN.
 use borrow.Author.Tests.{eq-eqb, ne-eqb}
 use lib.Ieee.{ofBits, div}
-use Rattle.capi.proofs.candidates.placement_of.Statement.{statement}
-use Rattle.capi.proofs.candidates.placement_of.Tie as tie
+use Rattle.capi.proofs.settings.placement_of.Statement.{statement}
+use Rattle.capi.proofs.settings.placement_of.Tie as tie
 
 returns : tie.Need-returns
 returns c = rw (eq-eqb _ _ (c .if1 .taken))

@@ -1,7 +1,7 @@
 -- The mode, the gap and the placement from what C handed over.
 use borrow.Author.Needs.{needs}
-use Rattle.capi.proofs.candidates.plan_config.Statement.{statement}
-use Rattle.capi.proofs.candidates.plan_config.Tie as tie
+use Rattle.capi.proofs.settings.plan_config.Statement.{statement}
+use Rattle.capi.proofs.settings.plan_config.Tie as tie
 
 mode-of-requires : tie.Need-mode-of-requires
 mode-of-requires c κs = search needs

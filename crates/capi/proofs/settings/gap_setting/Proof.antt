@@ -1,7 +1,7 @@
 -- Both cases of the flag.
 use borrow.Author.Needs.{needs}
-use Rattle.capi.proofs.candidates.gap_setting.Statement.{statement}
-use Rattle.capi.proofs.candidates.gap_setting.Tie as tie
+use Rattle.capi.proofs.settings.gap_setting.Statement.{statement}
+use Rattle.capi.proofs.settings.gap_setting.Tie as tie
 
 returns : tie.Need-returns
 returns c = rw (c .if1 .taken)
