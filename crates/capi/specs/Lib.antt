@@ -20,7 +20,7 @@ pub mod Candidates
 pub mod CandidatesTheorems
 -- Plans: what the call of Plan leaves (`piecesAfter`, `PlanCalled`, `planCalledOf`)
 pub mod Plans
--- PlansTheorems: the call's number is 0 exactly where a plan was made (`plan-called-zero`), and then all theorems on plans hold of it (`plan-called`)
+-- PlansTheorems: the call's number is 0 exactly where a plan was made (`plan-called-zero`), and then all theorems on plans hold of it (`plan-called`); lists as long as the header says are enough (`plan-parents`, `plan-room`)
 pub mod PlansTheorems
 -- RecordsTheorems: of a plan that was made, record i is piece i with its flags (`records-made`), or the cut after it (`cut-records-made`)
 pub mod RecordsTheorems

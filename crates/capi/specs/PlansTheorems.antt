@@ -1,13 +1,19 @@
 -- From the number that C gets to what was handed out: 0 says that a plan was made, and the theorems on plans hold of it.
+-- The lengths that the header's functions name are enough: 14 and 12 do not come then.
 use mathlib.Core.Path.{_≡_, sym, ap, subst}
 use mathlib.Core.Logic.{_↔_}
 use mathlib.Core.List.{List}
-use Prim.Native.Nat.{ℕ}
+use Prim.Native.Nat.{ℕ, _+_, _*_, _≤_, min}
+use native.Mathlib.Omega.{arith}
 use lib.Ieee.{Float}
+use lib.ListN.{length}
 use Rattle.base_terms.specs.Work.{Work}
 use Rattle.grid.specs.declared.validate.Recording.{Recording}
 use Rattle.silence_list.specs.declared.config.SegmentConfig.{SegmentConfig}
+use Rattle.path_pieces.specs.declared.mode.Mode.the-variants.{ByCount}
 use Rattle.candidate_settings.specs.declared.config.PlanConfig.{PlanConfig}
+use Rattle.plan_tests.specs.Fitting.{Fitting}
+use Rattle.plan_pieces.specs.AnswerLaws.{number-parent, number-output}
 use Rattle.plan_pieces.specs.Output.{Output}
 use Rattle.plan_pieces.specs.declared.answer.Answer.{Answer}
 use Rattle.plan_pieces.specs.declared.answer.Answer.the-variants.{Planned}
@@ -35,3 +41,17 @@ module _ (r : Recording) (segment : SegmentConfig) (plan : PlanConfig) (values :
         let f = plan-called-zero .0 e in
         subst (λ (k : ℕ). Made r segment plan values flags levels k out (planOf r segment plan values flags levels out work parent .out))
         (sym (ap (λ (a : Answer). piecesAfter a before) (f .1))) (plan-made r segment plan values flags levels out work parent (f .0) (f .1))
+
+    -- 14 never comes where the parent list has (frames + 1) × min(N, frames) entries
+    pub plan-parents : (count : ℕ) → plan .mode ≡ ByCount count → (length values + 1) * min count (length values) ≤ length parent → called .number ≡ 14 → ⊥
+    unfolding planCalledOf
+    plan-parents count asked enough e =
+        plan-ended r segment plan values flags levels out work parent .parents-enough count asked enough
+        (number-parent (planOf r segment plan values flags levels out work parent .answer) e)
+
+    -- 12 never comes where each output has 3 × frames entries
+    pub plan-room : Fitting values levels → 3 * length values ≤ length (out .pieces) → 3 * length values ≤ length (out .cuts) → called .number ≡ 12 → ⊥
+    unfolding planCalledOf
+    plan-room f p c e =
+        plan-ended r segment plan values flags levels out work parent .roomy f (p, omega (arith, c))
+        (number-output (planOf r segment plan values flags levels out work parent .answer) e)

@@ -13,8 +13,9 @@ use Rattle.silence_list.specs.declared.config.SegmentConfig.{SegmentConfig}
 use Rattle.candidate_settings.specs.declared.config.PlanConfig.{PlanConfig}
 use Rattle.plan_tests.specs.Fitting.{Fitting}
 use Rattle.plan_tests.specs.Refusal as tests
-use Rattle.plan_tests.specs.RefusalLaws.{never-output, never-work}
+use Rattle.plan_tests.specs.RefusalLaws.{never-work}
 use Rattle.plan_pieces.specs.Answer.{numberOf}
+use Rattle.plan_pieces.specs.AnswerLaws.{number-output}
 use Rattle.plan_pieces.specs.Output.{Output}
 use Rattle.plan_pieces.specs.declared.answer.Answer.{Answer}
 use Rattle.plan_pieces.specs.declared.answer.Answer.the-variants.{Planned, Refused, ShortParent, NoReach, ShortOutput}
@@ -50,11 +51,4 @@ module _ (r : Recording) (segment : SegmentConfig) (plan : PlanConfig) (values :
         go ShortOutput e f = omega (arith, f)
 
   pub never-12 : Fitting values levels → HasRoom (length values) out → numberOf answer ≡ 12 → ⊥
-  never-12 fits room = go answer refl
-    where
-      go : (a : Answer) → answer ≡ a → numberOf a ≡ 12 → ⊥
-      go (Planned n) e f = omega (arith, f)
-      go (Refused v) e f = never-output v f
-      go ShortParent e f = omega (arith, f)
-      go NoReach e f = omega (arith, f)
-      go ShortOutput e f = plan-ended r segment plan values flags levels out lentWork lentParents .roomy fits room e
+  never-12 fits room e = plan-ended r segment plan values flags levels out lentWork lentParents .roomy fits room (number-output answer e)

@@ -1,4 +1,4 @@
--- Every number but that of a plan is above 0, so it tells whether a plan was made.
+-- Every number but that of a plan is above 0, so it tells whether a plan was made; 14 and 12 are those of one case each.
 use mathlib.Core.Path.{_≡_, refl, sym, ap, _∙_}
 use mathlib.Core.Bool.{false}
 use mathlib.Core.List.{List}
@@ -10,7 +10,7 @@ use Rattle.candidate_settings.specs.declared.config.PlanConfig.{PlanConfig}
 use Prim.Native.Nat.{ℕ, _≤_}
 use native.Mathlib.Omega.{arith}
 use Rattle.plan_tests.specs.Refusal as tests
-use Rattle.plan_tests.specs.RefusalLaws.{number-fine, number-most}
+use Rattle.plan_tests.specs.RefusalLaws.{number-fine, number-most, never-output}
 use Rattle.plan_pieces.specs.Answer.{numberOf}
 use Rattle.plan_pieces.specs.declared.answer.Answer.{Answer}
 use Rattle.plan_pieces.specs.declared.answer.Answer.the-variants.{Planned, Refused, ShortParent, NoReach, ShortOutput}
@@ -42,6 +42,22 @@ number-zero (Refused v) n e = absurd (n e)
 number-zero ShortParent n e = absurd (omega (arith, e))
 number-zero NoReach n e = absurd (omega (arith, e))
 number-zero ShortOutput n e = absurd (omega (arith, e))
+
+-- 14 is that of a parent list which is too short alone
+pub number-parent : (a : Answer) → numberOf a ≡ 14 → a ≡ ShortParent
+number-parent (Planned pieces) e = absurd (omega (arith, e))
+number-parent (Refused v) e = absurd (omega (arith, number-most v, e))
+number-parent ShortParent e = refl
+number-parent NoReach e = absurd (omega (arith, e))
+number-parent ShortOutput e = absurd (omega (arith, e))
+
+-- and 12 that of an output which is too short
+pub number-output : (a : Answer) → numberOf a ≡ 12 → a ≡ ShortOutput
+number-output (Planned pieces) e = absurd (omega (arith, e))
+number-output (Refused v) e = absurd (never-output v e)
+number-output ShortParent e = absurd (omega (arith, e))
+number-output NoReach e = absurd (omega (arith, e))
+number-output ShortOutput e = refl
 
 -- the highest is 18
 pub answer-most : (a : Answer) → numberOf a ≤ 18
