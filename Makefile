@@ -38,8 +38,8 @@ job-there:
 	@[ -r "$$JOB" ] && [ ! -d "$$JOB" ] || \
 		{ echo "make run: JOB=$$JOB is no file that can be read; tools/job makes one" >&2; exit 2; }
 
-$(CUTPLAN): program/cutplan.c target/staticlib/libcutplan_program.a
-	@$(CC) -O2 -Wall -Wextra -o $@ $^
+$(CUTPLAN): program/cutplan.c target/staticlib/libcutplan_program.a include/buchawzer.h
+	@$(CC) -O2 -Wall -Wextra -o $@ $(filter-out %.h,$^)
 
 # Proving takes minutes, so an archive is made anew only where something that it is made from changed.
 target/staticlib/libcutplan_program.a: $(shell tools/prove_shown --sources cutplan_program)

@@ -8,7 +8,7 @@ use Rattle.base_terms.specs.Lists.{onto}
 use Rattle.job.specs.Answer.{faultNumber}
 use Rattle.job.specs.Job.{Outcome, asks, fails, jobOf}
 use Rattle.listing.specs.Listing.{refusalLine}
-use Rattle.cutplan.specs.Lines.{longestListing, linesOfPlan}
+use Rattle.cutplan.specs.Lines.{longestListing, linesOfPlan, refusedOfPlan}
 
 -- the lines for a job, or that of refusal 19
 unfoldable pub printedFor : Outcome → List ℕ
@@ -18,6 +18,14 @@ printedFor (fails fault at) = refusalLine (faultNumber fault)
 -- what `cutplan` prints for the bytes that it reads
 abbrev pub cutplanOf : List ℕ → List ℕ
 cutplanOf job = printedFor (jobOf job)
+
+-- the number of the refusal that it prints for a job, 0 where it prints a plan
+unfoldable pub refusedFor : Outcome → ℕ
+refusedFor (asks a) = refusedOfPlan (a .recording) (a .segment) (a .settings) (a .values) (a .flags) (a .levels)
+refusedFor (fails fault at) = faultNumber fault
+
+abbrev pub refusalOf : List ℕ → ℕ
+refusalOf job = refusedFor (jobOf job)
 
 -- ---- into a lent list
 

@@ -16,34 +16,48 @@ use Rattle.job.specs.declared.answer.Head.{Head}
 use Rattle.job.specs.declared.answer.Reading.the-variants.{Job, Refused}
 use Rattle.listing.specs.Listing.{refusalLine}
 use Rattle.cutplan.specs.Lines.{longestListing}
-use Rattle.cutplan.specs.Head.{linesOfHead}
-use Rattle.cutplan.specs.Cutplan.{printedFor, cutplanOf, Printed, printed, printedInto}
+use Rattle.cutplan.specs.Head.{linesOfHead, refusedOfHead}
+use Rattle.cutplan.specs.Cutplan.{printedFor, cutplanOf, refusedFor, refusalOf, Printed, printed, printedInto}
 
+-- what is printed for a job that was read
 pub job-printed : (job : List ℕ) (h : Head) → readOf job ≡ Job h → linesOfHead job h ≡ cutplanOf job
 unfolding jobOf withLists printedFor
 job-printed job h e = rw e
 
+-- and for bytes that are none
 pub fault-printed : (job : List ℕ) (fault : Fault) (at : ℕ) → readOf job ≡ Refused fault at → refusalLine (faultNumber fault) ≡ cutplanOf job
 unfolding jobOf withLists printedFor
 fault-printed job fault at e = rw e
 
+-- the number that goes with a job that was read
+pub job-refused : (job : List ℕ) (h : Head) → readOf job ≡ Job h → refusedOfHead job h ≡ refusalOf job
+unfolding jobOf withLists refusedFor
+job-refused job h e = rw e
+
+-- and with bytes that are none
+pub fault-refused : (job : List ℕ) (fault : Fault) (at : ℕ) → readOf job ≡ Refused fault at → faultNumber fault ≡ refusalOf job
+unfolding jobOf withLists refusedFor
+fault-refused job fault at e = rw e
+
 -- ---- into a lent list
 
+-- one that could be too short stays as it was
 pub too-short : (job out : List ℕ) → length out < longestListing → printed 0 out ≡ printedInto job out
 unfolding printedInto
 too-short job out h = rw (lt-ltb (length out) longestListing h)
 
-module _ (job out after : List ℕ) (n : ℕ) (text : List ℕ) (e : text ≡ cutplanOf job) (f : n ≡ length text) (g : after ≡ onto text out) where
-  pub printed-into : longestListing ≤ length out → printed n after ≡ printedInto job out
-  unfolding printedInto
-  printed-into h = rw (le-ltb (length out) longestListing h, ← e, f, g)
+-- every other holds the listing
+pub printed-into : (job out after : List ℕ) (n : ℕ) → n ≡ length (cutplanOf job) → after ≡ onto (cutplanOf job) out → longestListing ≤ length out
+    → printed n after ≡ printedInto job out
+unfolding printedInto
+printed-into job out after n f g h = rw (le-ltb (length out) longestListing h, f, g)
 
-  -- the listing is a part of the list
-  pub printed-counts : Counts n after
-  unfolding onto
-  printed-counts =
-      let inside : n ≤ length after = omega (arith, f, ap length g, length-append text (drop (length text) out)) in
-      (inside, sym (length-take-le n after inside))
+-- a text at the front of a list is a part of it
+pub front-counts : (text out after : List ℕ) (n : ℕ) → n ≡ length text → after ≡ onto text out → Counts n after
+unfolding onto
+front-counts text out after n f g =
+    let inside : n ≤ length after = omega (arith, f, ap length g, length-append text (drop (length text) out)) in
+    (inside, sym (length-take-le n after inside))
 
 -- and back, where the list is long enough
 pub printed-parts : (job out after : List ℕ) (n : ℕ) → longestListing ≤ length out → printed n after ≡ printedInto job out

@@ -3,7 +3,10 @@ use Prim.Native.Nat.{ℕ}
 use mathlib.Core.List.{List}
 use Rattle.job.specs.Job.{valuesIn, flagsIn, levelsIn}
 use Rattle.job.specs.declared.answer.Head.{Head}
-use Rattle.cutplan.specs.Lines.{linesOfPlan}
+use Rattle.cutplan.specs.Lines.{linesOfPlan, refusedOfPlan}
 
 abbrev pub linesOfHead : List ℕ → Head → List ℕ
 linesOfHead job h = linesOfPlan (h .recording) (h .segment) (h .settings) (valuesIn job h) (flagsIn job h) (levelsIn job h)
+
+abbrev pub refusedOfHead : List ℕ → Head → ℕ
+refusedOfHead job h = refusedOfPlan (h .recording) (h .segment) (h .settings) (valuesIn job h) (flagsIn job h) (levelsIn job h)

@@ -13,8 +13,6 @@ use Rattle.grid.specs.declared.validate.Domain.the-variants.{Decibels, Scores}
 use Rattle.job.specs.Job.{valuesIn, flagsIn, levelsIn}
 use Rattle.job.specs.JobLaws.{values-length, flags-length, levels-length}
 use Rattle.job.specs.declared.answer.Head.{Head}
-use Rattle.cutplan.specs.Lines.{linesOfPlan}
-use Rattle.cutplan.specs.Head.{linesOfHead}
 
 front-part : {A : Type 0} (p xs ys : List A) (n : ℕ) → length p ≡ n → ys ≡ onto p xs → take n ys ≡ p
 front-part p xs ys n e f = rw (f, ← e) (onto-take p xs)
@@ -24,11 +22,11 @@ pub levels-few : (d : Domain) (frames n : ℕ) → n ≡ levelCount d frames →
 levels-few Decibels frames n e = omega (arith, e)
 levels-few Scores frames n e = omega (arith, e)
 
--- so the lines for the parts of these lists are those of the job
-pub head-lines : (job : List ℕ) (h : Head) (values values₀ levels levels₀ : List Float) (flags flags₀ : List ℕ) (n : ℕ)
+-- so what is made of the parts of these lists is made of the job's
+pub head-lists : {X : Type 0} (make : List Float → List ℕ → List Float → X) (job : List ℕ) (h : Head) (values values₀ levels levels₀ : List Float) (flags flags₀ : List ℕ) (n : ℕ)
     → values ≡ onto (valuesIn job h) values₀ → flags ≡ onto (flagsIn job h) flags₀ → levels ≡ onto (levelsIn job h) levels₀ → n ≡ levelCount (h .recording .domain) (h .frames)
-    → linesOfPlan (h .recording) (h .segment) (h .settings) (take (h .frames) values) (take (h .frames) flags) (take n levels) ≡ linesOfHead job h
-head-lines job h values values₀ levels levels₀ flags flags₀ n v f l e = rw (
+    → make (take (h .frames) values) (take (h .frames) flags) (take n levels) ≡ make (valuesIn job h) (flagsIn job h) (levelsIn job h)
+head-lists make job h values values₀ levels levels₀ flags flags₀ n v f l e = rw (
   e,
   front-part (valuesIn job h) values₀ values (h .frames) (values-length job h) v,
   front-part (flagsIn job h) flags₀ flags (h .frames) (flags-length job h) f,

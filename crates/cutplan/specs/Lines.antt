@@ -29,7 +29,12 @@ linesFor ShortOutput out = refusalLine (numberOf ShortOutput)
 abbrev pub lentOutput : Output
 lentOutput = outputOf (replicate 1533 0) (replicate 1533 0)
 
--- those of a recording and settings
+-- ---- of a recording and settings
+
 abbrev pub linesOfPlan : Recording → SegmentConfig → PlanConfig → List Float → List ℕ → List Float → List ℕ
 linesOfPlan r segment settings values flags levels =
     linesFor (handedWithin r segment settings values flags levels lentOutput .answer) (handedWithin r segment settings values flags levels lentOutput .out)
+
+-- the number of the refusal, 0 where there is a plan
+abbrev pub refusedOfPlan : Recording → SegmentConfig → PlanConfig → List Float → List ℕ → List Float → ℕ
+refusedOfPlan r segment settings values flags levels = numberOf (handedWithin r segment settings values flags levels lentOutput .answer)

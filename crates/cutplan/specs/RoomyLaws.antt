@@ -16,7 +16,7 @@ use Rattle.job.specs.Limits.{mostFrames}
 use Rattle.listing.specs.Listing.{listingOf, refusalLine}
 use Rattle.cutplan.specs.Memory.{handedWithin}
 use Rattle.cutplan.specs.MemoryLaws.{planned-room}
-use Rattle.cutplan.specs.Lines.{linesFor, lentOutput, linesOfPlan}
+use Rattle.cutplan.specs.Lines.{linesFor, lentOutput, linesOfPlan, refusedOfPlan}
 use Rattle.cutplan.specs.Roomy.{Roomy}
 
 pub roomy : (r : Recording) (segment : SegmentConfig) (plan : PlanConfig) (values : List Float) (flags : List ℕ) (levels : List Float) (a : Answer) (out : Output)
@@ -50,7 +50,14 @@ refused-lines ShortParent out never = refl
 refused-lines NoReach out never = refl
 refused-lines ShortOutput out never = refl
 
--- those of what was handed out
+-- ---- of what was handed out
+
+-- its lines
 pub handed-lines : (r : Recording) (segment : SegmentConfig) (plan : PlanConfig) (values : List Float) (flags : List ℕ) (levels : List Float) (a : Answer) (out : Output)
     → handedOf a out ≡ handedWithin r segment plan values flags levels lentOutput → linesFor a out ≡ linesOfPlan r segment plan values flags levels
 handed-lines r segment plan values flags levels a out e = ap (λ (h : Handed). linesFor (h .answer) (h .out)) e
+
+-- and its number
+pub handed-number : (r : Recording) (segment : SegmentConfig) (plan : PlanConfig) (values : List Float) (flags : List ℕ) (levels : List Float) (a : Answer) (out : Output)
+    → handedOf a out ≡ handedWithin r segment plan values flags levels lentOutput → numberOf a ≡ refusedOfPlan r segment plan values flags levels
+handed-number r segment plan values flags levels a out e = ap (λ (h : Handed). numberOf (h .answer)) e

@@ -2,6 +2,9 @@
 --   never-short       of a job that is read, Plan never says 12 or 13: the lists that it is lent are long enough
 --   cutplan-parsed    what is printed for an accepted job, parsed, is the plan's pieces and cuts
 --   cutplan-refused   what is printed for one that Plan refuses, parsed, is its number; cutplan-unread: bytes that are no job are refused by 19
+--   cutplan-number-most, cutplan-number-line, cutplan-number-plan
+--                     the number that goes with what is printed (`refusalOf`) is at most 19, is that of the line that is printed,
+--                     and is 0 only where a plan is printed
 --   cutplan-encoded   of every job within the limits, encoded, that job's lines are printed
 use mathlib.Core.Path.{_≡_, refl, sym, ap, subst, _∙_}
 use mathlib.Core.Bool.{Bool, true, false}
@@ -22,10 +25,11 @@ use Rattle.grid.specs.declared.validate.Domain.{Domain}
 use Rattle.grid.specs.declared.validate.Domain.the-variants.{Decibels, Scores}
 use Rattle.plan_tests.specs.Fitting.{Fitting}
 use Rattle.plan_pieces.specs.Answer.{numberOf}
+use Rattle.plan_pieces.specs.AnswerLaws.{answer-most}
 use Rattle.plan_pieces.specs.declared.answer.Answer.the-variants.{Planned}
 use Rattle.planner.specs.Operation.{End}
 use Rattle.plan_theorems.specs.Made.{MadeOfSpan}
-use Rattle.plan_theorems.specs.Theorems.{plan-made, made-of-span}
+use Rattle.plan_theorems.specs.Theorems.{plan-made, plan-ended, made-of-span}
 use Rattle.job.specs.Limits.{mostFrames}
 use Rattle.job.specs.Job.{readOf, valuesIn, levelsFor, levelsIn, Asked, Outcome, asks, fails, withLists, jobOf}
 use Rattle.job.specs.JobLaws.{read-within, values-length}
@@ -35,14 +39,15 @@ use Rattle.job.specs.declared.answer.Fault.{Fault}
 use Rattle.job.specs.declared.answer.Head.{Head}
 use Rattle.job.specs.declared.answer.Reading.{Reading}
 use Rattle.job.specs.declared.answer.Reading.the-variants.{Job, Refused}
-use Rattle.listing.specs.Rows.{rowsOf}
+use Rattle.listing.specs.Listing.{refusalLine}
+use Rattle.listing.specs.Rows.{Row, rowsOf}
 use Rattle.listing.specs.Parse.{parsedOf, planned, refused}
 use Rattle.listing.specs.ParseLaws.{parsed-listing, parsed-refusal}
 use Rattle.cutplan.specs.Memory.{lentWork, lentParents, endWithin, handedWithin}
 use Rattle.cutplan.specs.MemoryLaws.{never-12, never-13}
 use Rattle.cutplan.specs.Lines.{linesFor, lentOutput, linesOfPlan}
 use Rattle.cutplan.specs.RoomyLaws.{planned-lines, refused-lines}
-use Rattle.cutplan.specs.Cutplan.{printedFor, cutplanOf}
+use Rattle.cutplan.specs.Cutplan.{printedFor, cutplanOf, refusedFor, refusalOf}
 
 -- ---- the lists of a job that was read
 
@@ -136,6 +141,49 @@ module _ (job : List ℕ) (a : Asked) (read : jobOf job ≡ asks a) where
 pub cutplan-unread : (job : List ℕ) (fault : Fault) (at : ℕ) → jobOf job ≡ fails fault at → parsedOf (cutplanOf job) ≡ some (refused 19)
 unfolding printedFor
 cutplan-unread job fault at e = ap (λ o. parsedOf (printedFor o)) e ∙ rw (fault-number fault) (parsed-refusal 19)
+
+-- ---- the number that goes with what is printed
+
+-- of a job that was read it is that of Plan's answer
+refusal-of-plan : (job : List ℕ) (a : Asked) (read : jobOf job ≡ asks a) → refusalOf job ≡ numberOf (endFor job a read .answer)
+unfolding refusedFor handedWithin
+refusal-of-plan job a read = rw read
+
+-- of bytes that are no job it is 19
+refusal-of-fault : (job : List ℕ) (fault : Fault) (at : ℕ) → jobOf job ≡ fails fault at → refusalOf job ≡ 19
+unfolding refusedFor
+refusal-of-fault job fault at e = rw e (fault-number fault)
+
+-- no number is above 19
+pub cutplan-number-most : (job : List ℕ) → refusalOf job ≤ 19
+cutplan-number-most job = go (jobOf job) refl
+  where
+    go : (o : Outcome) → jobOf job ≡ o → refusalOf job ≤ 19
+    go (asks a) e = omega (arith, refusal-of-plan job a e, answer-most (endFor job a e .answer))
+    go (fails fault at) e = omega (arith, refusal-of-fault job fault at e)
+
+-- where it is not 0, what is printed is its line
+pub cutplan-number-line : (job : List ℕ) → (refusalOf job ≡ 0 → ⊥) → cutplanOf job ≡ refusalLine (refusalOf job)
+cutplan-number-line job other = go (jobOf job) refl
+  where
+    go : (o : Outcome) → jobOf job ≡ o → cutplanOf job ≡ refusalLine (refusalOf job)
+    go (asks a) e =
+        let number = refusal-of-plan job a e in
+        job-lines job a e
+        ∙ sym (refused-lines (endFor job a e .answer) (endFor job a e .out) (λ n made. other (number ∙ ap numberOf made)))
+        ∙ ap refusalLine (sym number)
+    go (fails fault at) e = unfold printedFor refusedFor in rw e
+
+-- where it is 0, what is printed, parsed, is a plan
+pub cutplan-number-plan : (job : List ℕ) → refusalOf job ≡ 0 → (pieces : List Row) × (cuts : List Row) × (parsedOf (cutplanOf job) ≡ some (planned pieces cuts))
+cutplan-number-plan job none = go (jobOf job) refl
+  where
+    go : (o : Outcome) → jobOf job ≡ o → (pieces : List Row) × (cuts : List Row) × (parsedOf (cutplanOf job) ≡ some (planned pieces cuts))
+    go (asks a) e =
+        let made = plan-ended (a .recording) (a .segment) (a .settings) (a .values) (a .flags) (a .levels) lentOutput lentWork lentParents .number .0
+        (sym (refusal-of-plan job a e) ∙ none) in
+        (rowsOf (made .0) (endFor job a e .out .pieces), rowsOf (made .0 - 1) (endFor job a e .out .cuts), cutplan-parsed job a e (made .0) (made .1))
+    go (fails fault at) e = absurd (omega (arith, none, refusal-of-fault job fault at e))
 
 -- ---- jobs that are written as bytes
 

@@ -1,5 +1,6 @@
 // The operation Plan with an output of its own, and its answer as lines.
 use crate::answer;
+use crate::answer::Answered;
 use crate::memory;
 use candidate_settings::config::PlanConfig;
 use grid::validate::Recording;
@@ -8,7 +9,7 @@ ghost use mathlib.Core.Path.{_≡_};
 ghost use Prim.Native.Nat.{_≤_};
 ghost use lib.ListN.{length};
 ghost use Rattle.base_terms.specs.Lists.{onto};
-ghost use Rattle.cutplan.specs.Lines.{longestListing, linesOfPlan};
+ghost use Rattle.cutplan.specs.Lines.{longestListing, linesOfPlan, refusedOfPlan};
 
 // Three numbers for a piece, or a cut, at each frame.
 const NUMBERS: usize = 1_533;
@@ -22,11 +23,15 @@ pub fn plan_lists(
     flags: &[u8],
     levels: &[f64],
     out: &mut [u8],
-) -> usize
+) -> Answered
     requires { ⌜ longestListing ≤ length (now out) ⌝ }
-    ensures { λ n. ⌜ n ≡ length (linesOfPlan r segment settings (now (values .entry)) (now (flags .entry)) (now (levels .entry))) ⌝ }
+    ensures { λ a. ⌜ a .size
+        ≡ length (linesOfPlan r segment settings (now (values .entry)) (now (flags .entry)) (now (levels .entry))) ⌝ }
+    ensures { λ a. ⌜ a .refused
+        ≡ refusedOfPlan r segment settings (now (values .entry)) (now (flags .entry)) (now (levels .entry)) ⌝ }
     ensures { λ _. ⌜ now (out .exit)
-        ≡ onto (linesOfPlan r segment settings (now (values .entry)) (now (flags .entry)) (now (levels .entry))) (now (out .entry)) ⌝ }
+        ≡ onto (linesOfPlan r segment settings (now (values .entry)) (now (flags .entry)) (now (levels .entry)))
+        (now (out .entry)) ⌝ }
 {
     let mut pieces = [0u64; NUMBERS];
     let mut cuts = [0u64; NUMBERS];

@@ -1,4 +1,6 @@
 // From a job to its listing.
+use crate::answer as answers;
+use crate::answer::Answered;
 use crate::lists;
 use grid::validate;
 use job::answer;
@@ -6,7 +8,6 @@ use job::answer::Head;
 use job::answer::Reading;
 use job::lists as held;
 use job::read;
-use listing::write;
 ghost use mathlib.Core.Path.{_≡_};
 ghost use Prim.Native.Nat.{_≤_};
 ghost use lib.ListN.{length};
@@ -14,17 +15,18 @@ ghost use Rattle.base_terms.specs.Lists.{onto};
 ghost use Rattle.io.specs.Counts.{Counts};
 ghost use Rattle.job.specs.Job.{Within};
 ghost use Rattle.cutplan.specs.Lines.{longestListing};
-ghost use Rattle.cutplan.specs.Cutplan.{printed, printedInto};
-ghost use Rattle.cutplan.specs.Head.{linesOfHead};
+ghost use Rattle.cutplan.specs.Cutplan.{cutplanOf, refusalOf, printed, printedInto};
+ghost use Rattle.cutplan.specs.Head.{linesOfHead, refusedOfHead};
 
 // No listing is longer.
 pub const LONGEST_LISTING: usize = 53_702;
 
 // The listing of a job that was read.
-fn plan_read(job: &[u8], head: Head, out: &mut [u8]) -> usize
+fn plan_read(job: &[u8], head: Head, out: &mut [u8]) -> Answered
     requires { ⌜ Within (now job) head ⌝ }
     requires { ⌜ longestListing ≤ length (now out) ⌝ }
-    ensures { λ n. ⌜ n ≡ length (linesOfHead (now (job .entry)) head) ⌝ }
+    ensures { λ a. ⌜ a .size ≡ length (linesOfHead (now (job .entry)) head) ⌝ }
+    ensures { λ a. ⌜ a .refused ≡ refusedOfHead (now (job .entry)) head ⌝ }
     ensures { λ _. ⌜ now (out .exit) ≡ onto (linesOfHead (now (job .entry)) head) (now (out .entry)) ⌝ }
 {
     let mut values = [0f32; read::MOST_FRAMES];
@@ -50,8 +52,21 @@ fn plan_read(job: &[u8], head: Head, out: &mut [u8]) -> usize
     )
 }
 
-// Document 01's program `cutplan`, from bytes to bytes: writes the listing of a job to the front of `out`, and answers how many bytes it has.
-// Where `out` is shorter than some listings it stays as it was, and the answer is 0. `Counts` lets a caller hand on that front.
+// Document 01's program `cutplan`, from bytes to bytes: writes the listing of a job to the front of `out`.
+pub fn list_job(job: &[u8], out: &mut [u8]) -> Answered
+    requires { ⌜ longestListing ≤ length (now out) ⌝ }
+    ensures { λ a. ⌜ a .size ≡ length (cutplanOf (now (job .entry))) ⌝ }
+    ensures { λ a. ⌜ a .refused ≡ refusalOf (now (job .entry)) ⌝ }
+    ensures { λ _. ⌜ now (out .exit) ≡ onto (cutplanOf (now (job .entry))) (now (out .entry)) ⌝ }
+{
+    match read::read(job) {
+        Reading::Job(head) => plan_read(job, head, out),
+        Reading::Refused(fault, _) => answers::write_number(answer::number(fault), out),
+    }
+}
+
+// The same for a list of any length; answers how many bytes the listing has. Where `out` is shorter than some listings it
+// stays as it was, and the answer is 0. `Counts` lets a caller hand on the listing.
 pub fn plan_job(job: &[u8], out: &mut [u8]) -> usize
     ensures { λ n. ⌜ printed n (now (out .exit)) ≡ printedInto (now (job .entry)) (now (out .entry)) ⌝ }
     ensures { λ n. ⌜ Counts n (now (out .exit)) ⌝ }
@@ -59,8 +74,6 @@ pub fn plan_job(job: &[u8], out: &mut [u8]) -> usize
     if out.len() < LONGEST_LISTING {
         return 0;
     }
-    match read::read(job) {
-        Reading::Job(head) => plan_read(job, head, out),
-        Reading::Refused(fault, _) => write::write_refusal(answer::number(fault), out),
-    }
+    let listed = list_job(job, out);
+    listed.size
 }

@@ -1,6 +1,8 @@
--- Input: what is known of bytes that were read
+-- Input: what one answer of `read` says (`stepOf`), and how input is read to its end (`Reads`)
 pub mod Input
--- Program: what is printed for what was read (`printedAfter`), and the status (`IsStatus`)
+-- InputLaws: how a reading goes on, and what it leaves (`reads-fit`, `reads-length`, `reads-kept`)
+pub mod InputLaws
+-- Program: what is printed for what was read (`printedAfter`, `refusedAfter`), the status (`IsStatus`), what the program ends with (`Ran`)
 pub mod Program
--- ProgramLaws: what is printed, by the way that the reading ended
+-- ProgramLaws: what is printed, by the way that the reading ended; a list that was filled holds no job (`full-refused`)
 pub mod ProgramLaws

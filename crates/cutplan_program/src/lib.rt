@@ -1,3 +1,4 @@
-// The program `cutplan` over its input and output. C's `main` (program/cutplan.c) returns its status, since a Rattle `main` has none.
+// The program `cutplan` over its input and output. C's `main` (program/cutplan.c) returns its status, which a Rattle `main`
+// has none of, and says on standard error what its number means.
 pub mod input;
 pub mod program;

@@ -1,11 +1,12 @@
 -- A plan lies in its lists and has a listing of its own, every other answer the line of its number.
 use borrow.Author.Needs.{needs}
 use native.Mathlib.Omega.{arith}
-use mathlib.Core.Path.{_≡_, subst}
+use mathlib.Core.Path.{_≡_, sym, ap, subst}
 use mathlib.Core.List.{[], _∷_}
 use Prim.Native.Nat.{ℕ}
 use types.Run.{OneOf, miss}
 use denote.Enum.Declared.{tagOf}
+use Rattle.plan_pieces.specs.Answer.{numberOf}
 use Rattle.plan_pieces.specs.Output.{outputOf}
 use Rattle.plan_pieces.specs.declared.answer.Answer.{Answer}
 use Rattle.plan_pieces.specs.declared.answer.Answer.the-variants.{Planned}
@@ -34,13 +35,14 @@ returns : tie.Need-returns
 returns c =
     let start = c .before .before .before .before .before .before .before .before .before .before in
     let e = planned-lines (start .args .answer) _ (outputOf (start .args .pieces .now) (start .args .cuts .now)) (c .before .before .before .before .before .answer .given .1) in
-    rw (← e) (c .before .before .write-plan .ensures .0, c .before .before .write-plan .ensures .1 .0)
+    let number = sym (ap numberOf (c .before .before .before .before .before .answer .given .1)) in
+    rw (← e) (c .before .before .write-plan .ensures .0, (number, c .before .before .write-plan .ensures .1 .0))
 
 number-requires : tie.Need-number-requires
 number-requires c κs = search needs
 
-write-refusal-requires : tie.Need-write-refusal-requires
-write-refusal-requires c κs = search needs
+write-number-requires : tie.Need-write-number-requires
+write-number-requires c κs = search needs
 
 same-length-2 : tie.Need-same-length-2
 same-length-2 c = search needs
@@ -49,7 +51,7 @@ returns-2 : tie.Need-returns-2
 returns-2 c =
     let start = c .before .before .before .before .before .before .before .before .before in
     let e = refused-lines (start .args .answer) (outputOf (start .args .pieces .now) (start .args .cuts .now)) (no-plan (start .args .answer) (c .before .before .before .before .before .match .keys2)) in
-    rw (← e, ← c .before .before .before .before .number .ensures) (c .before .before .write-refusal .ensures .0, c .before .before .write-refusal .ensures .1 .0)
+    rw (← e, ← c .before .before .before .before .number .ensures) (c .before .before .write-number .ensures)
 
 pub write-answer-spec : {M : Type 1} → statement M
 write-answer-spec =
@@ -60,6 +62,6 @@ write-answer-spec =
     same-length
     returns
     number-requires
-    write-refusal-requires
+    write-number-requires
     same-length-2
     returns-2)

@@ -1,6 +1,7 @@
 -- The plan lies in the program's lists, and its lines are those of the definition.
 use borrow.Author.Needs.{needs}
-use Rattle.cutplan.specs.RoomyLaws.{roomy, handed-lines}
+use mathlib.Core.Path.{_∙_}
+use Rattle.cutplan.specs.RoomyLaws.{roomy, handed-lines, handed-number}
 use Rattle.cutplan.proofs.lists.plan_lists.Statement.{statement}
 use Rattle.cutplan.proofs.lists.plan_lists.Tie as tie
 
@@ -33,8 +34,11 @@ same-length c = search needs
 returns : tie.Need-returns
 returns c =
     let start = c .before .before .before .before .before .before .before .before .before .before .before .before .before .before .before in
-    rw (← handed-lines (start .args .r) (start .args .segment) (start .args .settings) (start .args .values .now) (start .args .flags .now) (start .args .levels .now) _ _
-    (c .before .before .before .before .before .before .before .before .plan-within .ensures)) (c .before .before .write-answer .ensures)
+    let handed = c .before .before .before .before .before .before .before .before .plan-within .ensures in
+    let call = c .before .before .write-answer .ensures in
+    let lines = handed-lines (start .args .r) (start .args .segment) (start .args .settings) (start .args .values .now) (start .args .flags .now) (start .args .levels .now) _ _ handed in
+    let number = handed-number (start .args .r) (start .args .segment) (start .args .settings) (start .args .values .now) (start .args .flags .now) (start .args .levels .now) _ _ handed in
+    rw (← lines) (call .0, (call .1 .0 ∙ number, call .1 .1))
 
 pub plan-lists-spec : {M : Type 1} → statement M
 plan-lists-spec =

@@ -1,9 +1,10 @@
 -- Each list that is lent has a place for each frame, and what was read into it stands there.
 use borrow.Author.Needs.{needs}
 use native.Mathlib.Omega.{arith}
-use mathlib.Core.Path.{sym}
+use mathlib.Core.Path.{sym, _∙_}
 use lib.Seq.{length-take-le}
-use Rattle.cutplan.specs.HeadLaws.{levels-few, head-lines}
+use Rattle.cutplan.specs.Lines.{linesOfPlan, refusedOfPlan}
+use Rattle.cutplan.specs.HeadLaws.{levels-few, head-lists}
 use Rattle.cutplan.proofs.plan.plan_read.Statement.{statement}
 use Rattle.cutplan.proofs.plan.plan_read.Tie as tie
 
@@ -61,8 +62,14 @@ same-length c = search needs
 returns : tie.Need-returns
 returns c =
     let start = c .before .before .before .before .before .before .before .before .before .before .before .before .before .before .before .before .before .before .before .before .before .before in
-    rw (← head-lines (start .args .job .now) (start .args .head) _ _ _ _ _ _ _ (c .before .before .before .before .before .before .before .before .before .before .before .before .before .before .before .before .before .before .put-values .ensures) (c .before .before .before .before .before .before .before .before .before .before .before .before .before .before .before .put-flags .ensures) (c .before .before .before .before .before .before .before .before .before .before .before .before .put-levels .ensures)
-    (c .before .before .before .before .before .before .before .level-count .ensures)) (c .before .before .plan-lists .ensures)
+    let call = c .before .before .plan-lists .ensures in
+    let values = c .before .before .before .before .before .before .before .before .before .before .before .before .before .before .before .before .before .before .put-values .ensures in
+    let flags = c .before .before .before .before .before .before .before .before .before .before .before .before .before .before .before .put-flags .ensures in
+    let levels = c .before .before .before .before .before .before .before .before .before .before .before .before .put-levels .ensures in
+    let count = c .before .before .before .before .before .before .before .level-count .ensures in
+    let lines = head-lists (linesOfPlan (start .args .head .recording) (start .args .head .segment) (start .args .head .settings)) (start .args .job .now) (start .args .head) _ _ _ _ _ _ _ values flags levels count in
+    let number = head-lists (refusedOfPlan (start .args .head .recording) (start .args .head .segment) (start .args .head .settings)) (start .args .job .now) (start .args .head) _ _ _ _ _ _ _ values flags levels count in
+    rw (← lines) (call .0, (call .1 .0 ∙ number, call .1 .1))
 
 pub plan-read-spec : {M : Type 1} → statement M
 plan-read-spec =

@@ -1,7 +1,10 @@
--- It ends with one of two numbers.
+-- It reads to a list that has room, lists what it read, and ends with one of two numbers.
 use borrow.Author.Needs.{needs}
+use native.Mathlib.Omega.{arith}
 use mathlib.Core.Logic.{inl, inr}
 use mathlib.Core.Path.{refl}
+use Rattle.cutplan_program.specs.InputLaws.{reads-fit}
+use Rattle.cutplan_program.specs.ProgramLaws.{ran}
 use Rattle.cutplan_program.proofs.program.buchawzer_cutplan_program.Statement.{statement}
 use Rattle.cutplan_program.proofs.program.buchawzer_cutplan_program.Tie as tie
 
@@ -18,7 +21,7 @@ slice-aggregate-list-input-2 : tie.Need-slice-aggregate-list-input-2
 slice-aggregate-list-input-2 c = search needs
 
 list-input-requires : tie.Need-list-input-requires
-list-input-requires c κs = search needs
+list-input-requires c κs = (reads-fit (c .before .before .before .read-to-end .ensures), (omega (arith, c .before .before .job2 .given), search needs))
 
 array-share-prefix-out : tie.Need-array-share-prefix-out
 array-share-prefix-out c = search needs
@@ -30,10 +33,10 @@ write-all-requires : tie.Need-write-all-requires
 write-all-requires c κs = search needs
 
 returns : tie.Need-returns
-returns c = inl refl
+returns c = ran (c .before .before .before .before .before .before .before .before .read-to-end .ensures) (omega (arith, c .before .before .before .before .before .before .before .job2 .given)) (c .before .before .before .before .list-input .ensures .0) (inl refl)
 
 returns-2 : tie.Need-returns-2
-returns-2 c = inr refl
+returns-2 c = ran (c .before .before .before .before .before .before .before .before .read-to-end .ensures) (omega (arith, c .before .before .before .before .before .before .before .job2 .given)) (c .before .before .before .before .list-input .ensures .0) (inr refl)
 
 pub buchawzer-cutplan-program-spec : {M : Type 1} → statement M
 buchawzer-cutplan-program-spec =
