@@ -38,6 +38,7 @@ module _ (r : Recording) (segment : SegmentConfig) (plan : PlanConfig) (values :
   planned-room n e = plan-made r segment plan values flags levels out lentWork lentParents n e .written .fits
 
   module _ (few : length values ≤ mostFrames) where
+    -- the work lists are long enough
     pub never-13 : numberOf answer ≡ 13 → ⊥
     never-13 = go answer refl
       where
@@ -50,5 +51,6 @@ module _ (r : Recording) (segment : SegmentConfig) (plan : PlanConfig) (values :
         go NoReach e f = omega (arith, f)
         go ShortOutput e f = omega (arith, f)
 
+  -- the output is, where it has room for a piece at each frame
   pub never-12 : Fitting values levels → HasRoom (length values) out → numberOf answer ≡ 12 → ⊥
   never-12 fits room e = plan-ended r segment plan values flags levels out lentWork lentParents .roomy fits room (number-output answer e)

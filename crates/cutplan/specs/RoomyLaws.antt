@@ -19,6 +19,7 @@ use Rattle.cutplan.specs.MemoryLaws.{planned-room}
 use Rattle.cutplan.specs.Lines.{linesFor, lentOutput, linesOfPlan, refusedOfPlan}
 use Rattle.cutplan.specs.Roomy.{Roomy}
 
+-- what Plan leaves in the program's lists has room there
 pub roomy : (r : Recording) (segment : SegmentConfig) (plan : PlanConfig) (values : List Float) (flags : List ℕ) (levels : List Float) (a : Answer) (out : Output)
     → handedOf a out ≡ handedWithin r segment plan values flags levels lentOutput → length (out .pieces) ≡ 1533 → length (out .cuts) ≡ 1533
     → Roomy a (length (out .pieces)) (length (out .cuts))
@@ -37,6 +38,7 @@ planned-roomy a n pieces cuts e h = subst (λ (b : Answer). Roomy b pieces cuts)
 
 -- ---- the lines
 
+-- an answer with a plan has the lines of its listing
 pub planned-lines : (a : Answer) (n : ℕ) (out : Output) → a ≡ Planned n → listingOf n (out .pieces) (out .cuts) ≡ linesFor a out
 unfolding linesFor
 planned-lines a n out e = rw e

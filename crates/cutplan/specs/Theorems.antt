@@ -107,6 +107,7 @@ module _ (job : List ℕ) (a : Asked) (read : jobOf job ≡ asks a) where
   unfolding printedFor handedWithin
   job-lines = rw read
 
+  -- Plan never says 12 or 13 of a job that is read
   pub never-short : (numberOf (endFor .answer) ≡ 12 → ⊥) × (numberOf (endFor .answer) ≡ 13 → ⊥)
   never-short =
       let known = asking job a read in (
@@ -123,6 +124,7 @@ module _ (job : List ℕ) (a : Asked) (read : jobOf job ≡ asks a) where
         made-of-span (a .recording) (a .segment) (a .settings) (a .values) (a .flags) (a .levels) n lentOutput (endFor .out)
         (plan-made (a .recording) (a .segment) (a .settings) (a .values) (a .flags) (a .levels) lentOutput lentWork lentParents n made) (asking job a read .fitting) pieces
 
+    -- what is printed for it, parsed, is its pieces and cuts
     pub cutplan-parsed : parsedOf (cutplanOf job) ≡ some (planned (rowsOf n (endFor .out .pieces)) (rowsOf (n - 1) (endFor .out .cuts)))
     cutplan-parsed =
         ap parsedOf (job-lines ∙ sym (planned-lines (endFor .answer) n (endFor .out) made))
@@ -132,12 +134,14 @@ module _ (job : List ℕ) (a : Asked) (read : jobOf job ≡ asks a) where
 
   -- ---- a refusal of Plan
 
+  -- what is printed for a refusal, parsed, is its number
   pub cutplan-refused : ((n : ℕ) → endFor .answer ≡ Planned n → ⊥) → parsedOf (cutplanOf job) ≡ some (refused (numberOf (endFor .answer)))
   cutplan-refused never =
       ap parsedOf (job-lines ∙ sym (refused-lines (endFor .answer) (endFor .out) never)) ∙ parsed-refusal (numberOf (endFor .answer))
 
 -- ---- bytes that are no job
 
+-- they are refused by 19
 pub cutplan-unread : (job : List ℕ) (fault : Fault) (at : ℕ) → jobOf job ≡ fails fault at → parsedOf (cutplanOf job) ≡ some (refused 19)
 unfolding printedFor
 cutplan-unread job fault at e = ap (λ o. parsedOf (printedFor o)) e ∙ rw (fault-number fault) (parsed-refusal 19)
@@ -187,6 +191,7 @@ cutplan-number-plan job none = go (jobOf job) refl
 
 -- ---- jobs that are written as bytes
 
+-- that job's lines are printed
 pub cutplan-encoded : (j : Asked) → Encodable j
     → cutplanOf (encode j) ≡ linesOfPlan (j .recording) (j .segment) (j .settings) (j .values) (j .flags) (j .levels)
 unfolding printedFor

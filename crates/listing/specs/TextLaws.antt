@@ -107,6 +107,7 @@ first-digit (suc most) n bytes p h = elim (lt-or-le n 10) [
   | inr g ↦ rw (le-ltb n 10 g, append-assoc) (first-digit most (n / 10) (digitOf (n % 10) ∷ bytes) (omega arith) (omega arith))
 ]
 
+-- a number above 0 does not begin with the digit 0
 pub no-leading-zero : (n : ℕ) → 0 < n → digitOf 0 < getD (decimalOf n) 0 0
 unfolding decimalOf
 no-leading-zero n p = rw append-nil at (first-digit n n [] p (omega arith))

@@ -16,18 +16,22 @@ use Rattle.grid.specs.Durations.{samplesFloor, samplesIn}
 use Rattle.grid.specs.DurationsLaws.{samples-mono, samples-within}
 use Rattle.plan_pieces.specs.Flags.{hasLong, hasShort, isShorter, isLonger, shortFlag, longFlag, flagsOf}
 
+-- a length below the minimum has flag `s`
 pub flags-below : (least : Float) (len : ℕ) → isShorter least len ≡ true → 1 ≡ shortFlag least len
 unfolding shortFlag
 flags-below least len e = rw e
 
+-- no other has
 pub flags-enough : (least : Float) (len : ℕ) → isShorter least len ≡ false → 0 ≡ shortFlag least len
 unfolding shortFlag
 flags-enough least len e = rw e
 
+-- a length above the maximum has flag `l`
 pub flags-longer : (most len : ℕ) → most < len → 2 ≡ longFlag most len
 unfolding longFlag
 flags-longer most len h = rw (lt-ltb most len h)
 
+-- no other has
 pub flags-within : (most len : ℕ) → len ≤ most → 0 ≡ longFlag most len
 unfolding longFlag
 flags-within most len h = rw (le-ltb most len h)

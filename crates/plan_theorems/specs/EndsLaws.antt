@@ -54,6 +54,7 @@ module _ (g : FrameGrid) (plan : PlanConfig) (cs : List Candidate) (path : List 
     abbrev handed : Bool → Handed
     handed b = pick b (handedOf (Planned (length path - 1)) whole) (handedOf ShortOutput out)
 
+    -- where a plan is made, it is handed out along the path
     pub handed-along : (k : ℕ) → planAlong g plan cs path out .answer ≡ Planned k → HandedAlong g plan cs path k out (planAlong g plan cs path out .out)
     unfolding handedOutOf
     handed-along k = go (hasRoom (length path - 1) (length (out .pieces)) (length (out .cuts))) (room-parts (length path - 1) (length (out .pieces)) (length (out .cuts)))
@@ -149,6 +150,7 @@ module _ (g : FrameGrid) (plan : PlanConfig) (s : Span) (with : List Cut → Lis
       go true h = record { end = along cs (pathByCount g plan s count limit cs); kind = with-reach e limit i; is = λ out. rw h }
       go false h = record { end = short-parent; kind = second-short e limit i h; is = λ out. rw h }
 
+  -- by count one of the ends is reached
   pub count-end : Ends (λ (out : Output). planByCount g plan s with count parents out)
   unfolding planByCount
   count-end = go (hasParents count (length (with [])) parents) (suffices g plan s count (maximumIn g plan) (with [])) refl refl
@@ -166,6 +168,7 @@ pub data ModeEnd (g : FrameGrid) (plan : PlanConfig) (s : Span) (with : List Cut
   by-length : ModeEnd g plan s with parents ByLength (along (completedByLength g plan with) (pathByLength g plan with))
   by-count : {count : ℕ} {end : PlanEnd} → CountEnd g plan s with count parents end → ModeEnd g plan s with parents (ByCount count) end
 
+-- and so by either way
 pub mode-end : (g : FrameGrid) (plan : PlanConfig) (s : Span) (with : List Cut → List Candidate) (parents : ℕ) (m : Mode)
     → Reached (ModeEnd g plan s with parents m) g plan (λ (out : Output). planBy g plan s with m parents out)
 unfolding planBy planByLength
@@ -190,6 +193,7 @@ along-ending n pieces cuts out = go (hasRoom n (length (out .pieces)) (length (o
     go true = record { untouched = λ never. absurd (never n refl); numbered = tt; unrefused = λ v e. let z : _≡_ {A = ℕ} 0 1 = cc in omega arith }
     go false = record { untouched = λ never. refl; numbered = tt; unrefused = λ v e. let z : _≡_ {A = ℕ} 0 1 = cc in omega arith }
 
+-- this holds of each end
 pub end-ending : (g : FrameGrid) (plan : PlanConfig) (e : PlanEnd) (out : Output) → Ending out (handedBy g plan e out)
 end-ending g plan (along cs path) out = along-ending (length path - 1) (planPieces g plan cs path) (planCuts g cs path) out
 end-ending g plan short-parent out = record { untouched = λ never. refl; numbered = tt; unrefused = λ v e. let z : _≡_ {A = ℕ} 0 1 = cc in omega arith }

@@ -104,6 +104,7 @@ module _ (g : FrameGrid) (plan : PlanConfig) (s : Span) (cs : List Candidate) (p
   count : length path ≡ suc k
   count = omega (arith, h .number, count-along s cs across path rising)
 
+  -- the output follows the path
   pub along-follows : Follows g plan cs path k after
   along-follows = record { number = count; pieces = pieces-front g plan cs path k before after h; cuts = cuts-front g plan cs path k before after h }
 
@@ -130,6 +131,7 @@ module _ (g : FrameGrid) (plan : PlanConfig) (s : Span) (cs : List Candidate) (p
   piece-is : (i : ℕ) → i < k → getD (piecesOf s (cutsAlong cs path)) i (pieceFrom 0 0) ≡ pieceBetween cs (getD path i 0) (getD path (suc i) 0)
   piece-is i l = ap (λ (ps : List Piece). getD ps i (pieceFrom 0 0)) (pieces-along s cs across path rising) ∙ along-at cs path i (omega (arith, l, count))
 
+  -- and shows the division along it
   pub along-shows : Shows g s (cutsAlong cs path) k after
   along-shows = record {
     number = omega (arith, h .number, count-along s cs across path rising);

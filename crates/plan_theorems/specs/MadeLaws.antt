@@ -246,6 +246,7 @@ module _ (r : Recording) (segment : SegmentConfig) (plan : PlanConfig) (values :
         pub demand : (cuts : List Cut) × Shows g s cuts k after × DemandByLength g s maximum cuts
         pub laid : Laid k after
 
+      -- a plan by length meets both demands
       pub made-by-length : (k : ℕ) (before after : Output) → HandedAlong g plan (completedByLength g plan with) (pathByLength g plan with) k before after → MadeByLength k after
       made-by-length k before after e =
           let path = bestOver g byLength (with bridges) in
@@ -309,6 +310,7 @@ module _ (r : Recording) (segment : SegmentConfig) (plan : PlanConfig) (values :
             let best = count-all first-searchable-under count some in
             sym (best .only (best .scored .1) path (b .tie (best .scored .1)) (b .allowed .1))
 
+        -- and as a claim it makes the test fail
         pub falls-tested : FallsShort r segment plan values flags lent count → suffices g plan s count maximum ds ≡ false
         falls-tested t = elim (tested (suffices g plan s count maximum ds)) [
           | inl e ↦ absurd (t .not-enough (subst (Suffices r segment plan values flags lent count ds) (best-one (t .first-path) (t .first-best)) (first-suffices e)))
@@ -400,6 +402,7 @@ module _ (r : Recording) (segment : SegmentConfig) (plan : PlanConfig) (values :
               laid = laid cs path k before after across rising (met .divides) h;
             }
 
+        -- a plan by count meets both demands, at its first path or at its second
         pub made-by-count : (parents : ℕ) (cs : List Candidate) (path : List ℕ) (k : ℕ) (before after : Output) → CountEnd g plan s with count parents (along cs path)
             → HandedAlong g plan cs path k before after → MadeByCount k after
         made-by-count parents cs path k before after (at-first e) h =

@@ -1,7 +1,8 @@
 -- The theorems of the operation Plan, in the words of Made.
 --   plan-made    of every answer `Planned`, with no hypothesis but the answer and, where costs come in, what the types of the lists say (`Fitting`):
---                demand 2, demand 3 by count and by length, pieces plus what lies between them, no more of them than frames, flags, the empty span
---   plan-ended   of every call: what is untouched, what is zeroed, that an empty span has the empty plan, that 14, 18 and 12 come under their conditions only, 12 never where there is room for a piece at each frame,
+--                demand 2, where the candidates lie, demand 3 by count and by length, pieces plus what lies between them, no more of them than frames, flags, the empty span
+--   plan-ended   of every call: what is untouched, what is zeroed, that an empty span has the empty plan, that 14, 18 and 12 come under their conditions only and wherever they hold,
+--                12 never where there is room for a piece at each frame, 14 never where there are (frames + 1) × min(N, frames) parents,
 --                and that the number is 0 exactly where a plan was made
 -- Of the reach and the greedy division which they name, division has
 --   reach-one (division/specs/ReachLaws)       two limits that are the reach are one

@@ -169,6 +169,7 @@ module _ (a b c d : ℕ) (x : Float) where
     pub work-short : planOf recording defaults (settings ByLength 400000000 Keep) scores (replicate 7 0) [] (output 6 3) (workOf (replicate 128 b) (replicate 128 c) (replicate 127 x)) (replicate 1 d)
         ≡ endOf (Refused ShortWork) (output 6 3) (workOf (replicate 128 b) (replicate 128 c) (replicate 127 x)) (replicate 1 d)
 
+  -- each by computation
   pub plan-trials : PlanTrials
   unfolding minOf maxOf clampOf square offOf short lengthCost filled onto tabulate allOf workOk startOf boundaryOf covers framesIn framesCeil framesFloor samplesFloor samplesIn secondsOf frameSecs grid.isWithin frameStepOk framesOk listsOk valuesOk lengthOk validityOf isScore isFinite isUnflagged withSignal levelsOver levelsOf autoOf resolveOf thresholdOk filledAs fillShort reached soundAt soundsAfter hysteresis belowAt belowOff quietRuns joined runs rewritten rewrittenAll eachRun silentRuns silencesOf isSilent anySound fillSilence soundsOf durationsOk soundsIn silencesIn lowestLeast predecessorOf pieces.isWithin pieceLength lengthCostOf overOf mayStart withPiece withCut withCutAt nextScore tableOf bestScore parentOf wayBack bestPath bestWith parentWith wayWith bestPathByCount bestScoreByCount isCount countOk ratioOk isWeight isCutCost isReference weightsOk lowOf highOf isInner isGap innerGaps gapsOf dropped keptFrames boundaries blockOf paddingOf edgeLimit spacingOf isLeading isTrailing allSilent emptySpan firstOf lastOf divisionsOf keeps anyOf isFeasible getsGrid touches opens blocksAt blockedBy isBlocked openTo blockEnd pointsFrom gridPoints splitPoint cuts.leastFrom leastLevel openCut silenceCut shareOf chosenBy pauseOf cutCost smoothedAt frameLevel levelAt boundaryLevels rangeOf normalizeOf quieter quietestIn quietestOf mostOf stretchAt secsOf clipped windowOf widthOf sumFrom sumOf meanOf pieceLengthsOk allDurationsOk firstRefusalOf pausesBy inPause reasonAt pointAt ownAt ownFrom allListed withLeft cheaper cheapestOf cheapest survivors candidatesOf costsOf runsIn levelsIn bridgeFrom completion.cutsFrom pointsIn nextAt placeAt leastFrom reachOf reachableIn targetByCount lengthsWith along.cutsFrom piecesFrom piecesAlongNumbers cutsAlongNumbers shortFlag longFlag flagsOf hasRoom handedOutOf planPieces planCuts plannedOf planOf planByLength hasParents suffices plannedUnder planByCount planBy span climb size odd units round sum add neg sub mul div lt eq le isNan ofInt ofBits
   plan-trials = record {
