@@ -27,10 +27,10 @@ DRIVER := target/reference/release/driver
 
 .PHONY: run test reference compare bench sample
 
-# The shell takes the name from its surroundings, so that blanks and quotes in it are its own; and a file that is not there is
+# The shell takes the name from its surroundings, so that blanks, quotes and dollars in it are its own; and a file that is not there is
 # said before the minutes of proving.
 .PHONY: job-there
-run: export JOB := $(JOB)
+run: override export JOB := $(value JOB)
 run: job-there $(CUTPLAN)
 	@$(CUTPLAN) <"$$JOB"
 

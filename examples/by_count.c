@@ -58,10 +58,10 @@ static uint32_t plan_by_count(const struct buchawzer_recording *recording, const
         work->parent = (uint32_t *)got(work->parent_len, sizeof *work->parent);
         refused = buchawzer_make_plan(recording, settings, work, plan);
         free(work->parent);
+        work->parent = NULL; /* a call clears every list that it is lent */
         parents *= 2;
     } while (refused == BUCHAWZER_REFUSED_PARENT && work->parent_len < enough);
     /* end */
-    work->parent = NULL;
     return refused;
 }
 

@@ -1,4 +1,4 @@
-//! Plans an hour of made-up speech by count, under a maximum below, near and above length / count, and counts the forced
+//! Plans an hour of made-up speech by count, under a maximum below, near and well above length / count, and counts the forced
 //! cuts, as examples/by_count.c does. The parent list starts small and is doubled where the call asks for more. Built and
 //! run by tools/examples.
 
@@ -30,6 +30,37 @@ fn made_up() -> Vec<f32> {
     scores
 }
 
+/// Plans with as few parents as doubling finds, and gives the plan's pieces, its forced cuts and those parents. A refusal by
+/// 14 leaves the outputs as they were, and costs time alone.
+fn planned_by_count(
+    recording: &Recording,
+    settings: &Settings,
+) -> Result<(usize, usize, usize), Refusal> {
+    let n = buchawzer::work_length(FRAMES);
+    let (mut u32s, mut u64s, mut f64s) = (vec![0; n], vec![0; n], vec![0.0; n]);
+    // By count a plan has at most so many pieces, three numbers each.
+    let (mut pieces, mut cuts) = ([0; 3 * COUNT as usize], [0; 3 * COUNT as usize]);
+    let enough = buchawzer::parent_length(FRAMES, COUNT);
+    let mut parent = vec![0; enough.min(4_096)];
+    let plan = loop {
+        let work = Work {
+            u32s: &mut u32s,
+            u64s: &mut u64s,
+            f64s: &mut f64s,
+        };
+        let (pieces, cuts) = (&mut pieces, &mut cuts);
+        match buchawzer::make_plan(recording, settings, work, &mut parent, pieces, cuts) {
+            Err(Refusal::PARENT) if parent.len() < enough => {
+                parent.resize(enough.min(2 * parent.len()), 0);
+            }
+            answer => break answer?,
+        }
+    };
+    let reasons = plan.cuts.iter().skip(2).step_by(3);
+    let forced = reasons.filter(|reason| **reason == u64::from(buchawzer::REASON_FORCED));
+    Ok((plan.pieces.len() / 3, forced.count(), parent.len()))
+}
+
 /// Prints what comes of a maximum of so many seconds.
 fn print_plan_under(seconds: u64, values: &[f32]) -> Result<(), Refusal> {
     let recording = Recording {
@@ -49,35 +80,11 @@ fn print_plan_under(seconds: u64, values: &[f32]) -> Result<(), Refusal> {
         count: COUNT,
         ..Settings::default()
     };
-    let n = buchawzer::work_length(FRAMES);
-    let (mut u32s, mut u64s, mut f64s) = (vec![0; n], vec![0; n], vec![0.0; n]);
-    // By count a plan has at most so many pieces, three numbers each.
-    let (mut pieces, mut cuts) = ([0; 3 * COUNT as usize], [0; 3 * COUNT as usize]);
-    let enough = buchawzer::parent_length(FRAMES, COUNT);
-    let mut parent = vec![0; enough.min(4_096)];
-    let plan = loop {
-        let work = Work {
-            u32s: &mut u32s,
-            u64s: &mut u64s,
-            f64s: &mut f64s,
-        };
-        let (pieces, cuts) = (&mut pieces, &mut cuts);
-        match buchawzer::make_plan(&recording, &settings, work, &mut parent, pieces, cuts) {
-            // It leaves the outputs as they were, and costs time alone.
-            Err(Refusal::PARENT) if parent.len() < enough => {
-                parent.resize(enough.min(2 * parent.len()), 0);
-            }
-            answer => break answer?,
-        }
-    };
-    let reasons = plan.cuts.iter().skip(2).step_by(3);
-    let forced = reasons.filter(|reason| **reason == u64::from(buchawzer::REASON_FORCED));
+    let (pieces, forced, parents) = planned_by_count(&recording, &settings)?;
     println!(
-        "maximum {seconds} s: {} pieces, {} of {} cuts forced; {} parents, where {enough} are always enough",
-        plan.pieces.len() / 3,
-        forced.count(),
-        plan.cuts.len() / 3,
-        parent.len()
+        "maximum {seconds} s: {pieces} pieces, {forced} of {} cuts forced; {parents} parents, where {} are always enough",
+        pieces.saturating_sub(1),
+        buchawzer::parent_length(FRAMES, COUNT)
     );
     Ok(())
 }

@@ -2,7 +2,7 @@
  *
  * Link with libbuchawzer.a, which `make target/staticlib/libbuchawzer.a` writes; x86-64 only, and nothing else is needed
  * beside it. README.md shows the calls; examples/plan.c and examples/by_count.c are whole programs. "Document 01" is the
- * requirements that the desk wrote, to which the library is proved; docs/TRACE.md quotes them sentence by sentence. Their
+ * requirements that the desk wrote, to which the library is proved; docs/TRACE.md goes through them sentence by sentence. Their
  * terms are explained here where they occur.
  *
  * How to call
@@ -11,9 +11,9 @@
  *   read or written through it, and any object's address serves.
  * - The inline functions at the end take NULL for an empty list. A list that is NULL has no entries, whatever number
  *   stands beside it: memory that could not be had is refused as a list that is too short, by 4 (values, flags, levels),
- *   12 (an output), 13 (a work list), 14 (parents, by count) or 15 (lent candidates). Where values, flags and levels are
- *   all NULL the recording has no frames, and these cover the length 0 alone, else 6. Pointers to structs, and to a number
- *   that is written, must not be NULL.
+ *   12 (an output), 13 (a work list), 14 (parents, by count) or 15 (lent candidates). Where values and flags are NULL, for
+ *   decibels levels too, the recording has no frames, and these cover the length 0 alone, else 6. Pointers to structs,
+ *   and to a number that is written, must not be NULL.
  * - A list or a number that a call may write overlaps nothing else of that call. This is not tested and must hold.
  * - A `bool` is 0 or 1, in structs too.
  * - Lengths of sound are in samples of one channel, durations in nanoseconds.
@@ -115,20 +115,22 @@ static inline const char *buchawzer_refusal_meaning(uint32_t number)
     case BUCHAWZER_REFUSED_CANDIDATES:
         return "lent candidates: lists empty, unequal or above 1,048,577";
     case BUCHAWZER_REFUSED_ENDS:
-        return "lent candidates: a left end above its right, a right above the next left, an end or the limit above 2^40";
+        return "lent candidates: a left end above its right, a right above the next left, an end or the limit above "
+            "2^40";
     case BUCHAWZER_REFUSED_COSTS:
-        return "a cost or length weight negative or not finite, target outside 2^−40 to 2^60, minimum outside 0 to 2^60";
+        return "a cost or length weight negative or not finite, target outside 2^−40 to 2^60, minimum outside 0 to "
+            "2^60";
     case BUCHAWZER_REFUSED_REACH:
         return "by count, no limit leaves few enough pieces";
     case BUCHAWZER_REFUSED_JOB:
-        return "no job: above 8,192 bytes or 511 frames, cut short, followed by bytes, or with an unknown bit or kind; "
-            "or standard input could not be read";
+        return "no job: above 8,192 bytes or 511 frames, cut short, followed by bytes, or with an unknown bit or "
+            "kind; or standard input could not be read";
     default:
         return "unknown refusal";
     }
 }
 
-/* What to do about it; empty for 0 and for unknown numbers. */
+/* What to do about it; empty for 0. */
 static inline const char *buchawzer_refusal_advice(uint32_t number)
 {
     switch (number) {
@@ -141,15 +143,18 @@ static inline const char *buchawzer_refusal_advice(uint32_t number)
     case BUCHAWZER_REFUSED_FRAME_STEP:
         return "a frame lasts hop / frame rate seconds: see that the two are not swapped";
     case BUCHAWZER_REFUSED_LISTS:
-        return "give every list one entry a frame; cut a longer recording in two, or use longer frames; not from a job";
+        return "give every list one entry a frame; cut a longer recording in two, or use longer frames; no job gives "
+            "it";
     case BUCHAWZER_REFUSED_VALUE:
-        return "look for a NaN in the values; clamp scores; take minus infinity out of decibels and set the frame's flag";
+        return "look for a NaN in the values; clamp scores; take minus infinity out of decibels and set the frame's "
+            "flag";
     case BUCHAWZER_REFUSED_LENGTH:
-        return "give the length in samples of one channel, not of all; the last frame must start before its end";
+        return "give the length in samples of one channel, not of all; the last frame must start before its end, and "
+            "one frame more would have to end behind it";
     case BUCHAWZER_REFUSED_DURATION:
         return "give nanoseconds, and minimum ≤ target ≤ maximum";
     case BUCHAWZER_REFUSED_COUNT:
-        return "ask for at least one piece, or plan by length";
+        return "ask for 1 to 1,048,576 pieces, or plan by length";
     case BUCHAWZER_REFUSED_RATIO:
         return "give a ratio from 0, the silence's start, to 1, its end";
     case BUCHAWZER_REFUSED_WEIGHTS:
@@ -157,25 +162,27 @@ static inline const char *buchawzer_refusal_advice(uint32_t number)
     case BUCHAWZER_REFUSED_THRESHOLD:
         return "give a number, or the automatic threshold";
     case BUCHAWZER_REFUSED_OUTPUT:
-        return "lend as many entries as the header's functions say (buchawzer_plan_length); not from a job";
+        return "lend as many entries as the header says at the function (buchawzer_plan_length for a plan); no job "
+            "gives it";
     case BUCHAWZER_REFUSED_WORK:
-        return "lend 16 × (frames + 1) entries of each type (buchawzer_work_length); not from a job";
+        return "lend 16 × (frames + 1) entries of each type (buchawzer_work_length); no job gives it";
     case BUCHAWZER_REFUSED_PARENT:
-        return "lend twice as many and call again (buchawzer_parent_length is always enough); a job's list has 16,384 "
-            "entries: ask for fewer pieces, or use the library";
+        return "lend twice as many, from some thousand on, and call again (buchawzer_parent_length is always enough, "
+            "for a path buchawzer_path_parent_length); a job's list has 16,384 entries: ask for fewer pieces, or "
+            "use the library";
     case BUCHAWZER_REFUSED_CANDIDATES:
-        return "give three lists of one length";
+        return "give three lists of one length, with at least one candidate";
     case BUCHAWZER_REFUSED_ENDS:
-        return "sort the candidates, and join those that overlap";
+        return "sort the candidates, and join those that overlap; give the limit in samples";
     case BUCHAWZER_REFUSED_COSTS:
-        return "look for a NaN in the costs";
+        return "look for a NaN in the costs; give target and minimum in samples, the target above 0";
     case BUCHAWZER_REFUSED_REACH:
         return "no input is known that gives it; ask for more pieces, or plan by length";
     case BUCHAWZER_REFUSED_JOB:
-        return "look at it by tools/job --show, which names the field and offset where it stops being a job; for more "
-            "frames use the library";
+        return "look at it by tools/job --show, which names the field and offset where it stops being a job; for "
+            "more frames use the library";
     default:
-        return "";
+        return "take the header that came with the library";
     }
 }
 
@@ -205,15 +212,15 @@ enum buchawzer_placement {
  * - Quiet: any other place whose level is 0.25 or less. The level of a place is the mean of the two frames beside it, each
  *   averaged over the 150 ms around it: scores as they are; decibels on a scale from 0, at the 10th percentile of the
  *   frames that have signal, to 1, at their 99th or 20 dB above the 10th, whichever is higher.
- * - Forced: every place that is neither. It says nothing of the lengths of the pieces: such a place is cut where every
- *   other plan is worse, by a piece above the maximum or by its cost. */
+ * - Forced: every place that is neither. It says nothing of the lengths of the pieces: such a place is cut where no
+ *   other plan is better, by fewer pieces above the maximum or by its cost. */
 enum buchawzer_reason {
     BUCHAWZER_REASON_SILENCE = 0,
     BUCHAWZER_REASON_QUIET = 1,
     BUCHAWZER_REASON_FORCED = 2
 };
 
-/* A piece's flags, as a sum: below the minimum, above the maximum. */
+/* A piece's flags: below the minimum, above the maximum; never both. */
 enum buchawzer_flag {
     BUCHAWZER_FLAG_SHORT = 1,
     BUCHAWZER_FLAG_LONG = 2
@@ -443,13 +450,14 @@ BUCHAWZER_NODISCARD uint32_t buchawzer_path(
  * and its reason at cuts[3 i + 2]. There are n - 1 cuts, or none where the plan is empty. 3 * frames entries are enough
  * for either list.
  * Each work list has at least 16 * (frames + 1) entries, else 13. By length the parent list may be empty. By count
- * (frames + 1) entries for each of the lesser of count and frames are always enough, else 14 may come. For an hour at 100
- * frames a second by count 200 that is 288 MB, where 4 MB did: a path wants an entry for each piece and candidate, and as a
- * rule there are far fewer candidates than frames. To lend less, start small and double the list on 14, up to the number
- * that is always enough: nothing is lost by a refusal but its time. examples/by_count.c does so.
- * By count, set the maximum well above length / count. The maximum comes before every cost. Near length / count it leaves
- * pieces of nearly one length alone; below, the longest piece is made as short as it can be (demand 3 of document 01), and
- * that leaves the same. Cuts then fall where the lengths put them: the hour of examples/by_count.c in 60 pieces has 48
+ * (frames + 1) entries for each of the lesser of count and frames are always enough, else 14 may come. That is 288 MB
+ * for an hour at 100 frames a second by count 200. A path wants an entry for each piece and candidate, and as a rule there
+ * are far fewer candidates than frames: the hour of examples/by_count.c, of 10 frames a second in 60 pieces, does with
+ * 1 MB, where 8.6 MB are always enough. To lend less, start small and double the list on 14, as it does, up to the number
+ * that is always enough: nothing is lost by a refusal but its time.
+ * By count, set the maximum well above length / count. The maximum comes before every cost. Near length / count it
+ * allows pieces of nearly one length only; below, the longest piece is made as short as it can be (demand 3 in README.md),
+ * which comes to the same. Cuts then fall where the lengths put them: the hour of examples/by_count.c in 60 pieces has 48
  * forced cuts of 59 under the default maximum of 30 s, 22 under 61 s, and none under 65 s. */
 BUCHAWZER_NODISCARD uint32_t buchawzer_plan(
     uint32_t sample_rate,
@@ -502,7 +510,8 @@ BUCHAWZER_NODISCARD uint32_t buchawzer_plan(
  * 3 * found, 0 if there are none, and not the length of the whole list. 0, or 12 where `records` has fewer than
  * numbers_len / 3 entries; then nothing is written. Records beyond are untouched.
  * Both bools of every lent record must be 0 or 1 before the call, as zeroed memory has them (calloc, static, memset): what
- * malloc or the stack leaves there may be neither. This is not tested and must hold. */
+ * malloc or the stack leaves there may be neither. This is not tested and must hold; nor may `records` be NULL, also where
+ * calloc failed. */
 BUCHAWZER_NODISCARD uint32_t buchawzer_piece_records(
     const uint64_t *numbers,
     size_t numbers_len,
@@ -552,7 +561,7 @@ struct buchawzer_recording {
 };
 
 /* How silences are found, what lengths are wanted, and what a cut costs. Fields as the parameters of buchawzer_plan.
- * By count, set `max` well above length / count, else most cuts are forced: see buchawzer_plan. `target` is then tested
+ * By count, set `max` well above length / count, else cuts may be forced: see buchawzer_plan. `target` is then tested
  * and not used. */
 struct buchawzer_settings {
     uint8_t threshold_kind;
@@ -662,8 +671,9 @@ static inline struct buchawzer_settings buchawzer_default_settings(void)
     return s;
 }
 
-/* How many entries are enough, for so many frames: each work list; silences; `ends` and `costs` of candidates; pieces and
- * cuts of a plan, each; the parent list of a plan by count, which as a rule does with far fewer (see buchawzer_plan). */
+/* How many entries are enough, for so many frames, at most BUCHAWZER_MOST_FRAMES (more are refused by 4, and the products
+ * below may wrap): each work list; silences; `ends` and `costs` of candidates; pieces and cuts of a plan, each; the parent
+ * list of a plan by count, which as a rule does with far fewer (see buchawzer_plan). */
 static inline size_t buchawzer_work_length(size_t frames)
 {
     return 16 * (frames + 1);
@@ -689,7 +699,7 @@ static inline size_t buchawzer_plan_length(size_t frames)
     return 3 * frames;
 }
 
-/* For so many lent candidates, at least one: each work list, and the parent list of a path by count. */
+/* For so many lent candidates, from 1 to BUCHAWZER_MOST_CANDIDATES: each work list, and the parent list of a path by count. */
 static inline size_t buchawzer_path_work_length(size_t candidates)
 {
     return 16 * candidates;

@@ -4,18 +4,19 @@
 //! A program takes this file in by `#[path = "../include/buchawzer.rs"] mod buchawzer;` and links libbuchawzer.a, which
 //! `make target/staticlib/libbuchawzer.a` writes: `-L native=target/staticlib -l static=buchawzer`. examples/plan.rs and
 //! examples/by_count.rs are whole programs. Nothing here allocates or panics, and nothing is decided that the library
-//! does not decide: the caller lends every list, and no two that a call may write overlap.
+//! does not decide, but that [`cutplan`] says 12 where the declared function answers 0: the caller lends every list, and
+//! no two that a call may write overlap.
 //!
 //! - A call that is refused gives an `Err` with a [`Refusal`]: its number, its name, and README's words for it. The number
 //!   is that of the first condition that applies, in the order given for the function. Output lists are as they were.
-//! - A call that is not refused gives the fronts of the output lists, as far as they were filled. What lies beyond is
-//!   untouched.
+//! - A call that is not refused, and answers more than `()`, gives the fronts of the output lists, as far as they were
+//!   filled. What lies beyond is untouched.
 //! - Work lists and the parent list may hold anything before a call. After a refusal by a test of the input (every
 //!   number but 12, 14 and 18) they are as they were; after every other end, success too, they are all 0.
 //! - Lengths of sound are in samples of one channel, durations in nanoseconds.
 //! - [`cutplan`] keeps its lists on the stack, and wants 320 KB of it; the other operations want 64 KB.
 //!
-//! "Document 01" is the requirements that the desk wrote; docs/TRACE.md quotes them sentence by sentence. buchawzer.h
+//! "Document 01" is the requirements that the desk wrote; docs/TRACE.md goes through them sentence by sentence. buchawzer.h
 //! says more of each function.
 #![allow(dead_code)]
 
@@ -119,14 +120,14 @@ pub const PLACEMENT_CENTER: u8 = 1;
 /// For `placement_kind`: a long silence is cut at `ratio`, from 0, its start, to 1, its end.
 pub const PLACEMENT_RATIO: u8 = 2;
 
-/// A cut is in a silence.
+/// A cut is at the own place of a silence, or inside one but for what is kept of it next to sound.
 pub const REASON_SILENCE: u8 = 0;
-/// A cut is in no silence, but in the quietest quarter of the levels.
+/// A cut is at any other place whose level is in the quietest quarter of its scale, from 0 to 1.
 pub const REASON_QUIET: u8 = 1;
-/// A cut is in neither.
+/// A cut is at neither. It says nothing of the lengths of the pieces.
 pub const REASON_FORCED: u8 = 2;
 
-/// A piece is below the minimum. Its flags are a sum.
+/// A piece is below the minimum. No piece has both flags.
 pub const FLAG_SHORT: u64 = 1;
 /// A piece is above the maximum.
 pub const FLAG_LONG: u64 = 2;
@@ -1159,43 +1160,42 @@ impl Refusal {
             ],
             Self::CHANNELS => ["no channels", "give at least 1"],
             Self::FRAME_STEP => [
-                "frame rate 0 or above 192,000, hop 0 or above 1,048,576, or a frame shorter \
-                 than a sample",
+                "frame rate 0 or above 192,000, hop 0 or above 1,048,576, or a frame shorter than a \
+                 sample",
                 "a frame lasts hop / frame rate seconds: see that the two are not swapped",
             ],
             Self::LISTS => [
-                "over 1,048,576 frames, flags not one a frame, levels not one a frame for \
-                 decibels or not empty for scores",
-                "give every list one entry a frame; cut a longer recording in two, or use \
-                 longer frames; not from a job",
+                "over 1,048,576 frames, flags not one a frame, levels not one a frame for decibels or \
+                 not empty for scores",
+                "give every list one entry a frame; cut a longer recording in two, or use longer \
+                 frames; no job gives it",
             ],
             Self::VALUE => [
-                "a score outside 0 to 1, a decibel or level not finite, a flag not 0 or 1, a \
-                 flag 1 in scores",
-                "look for a NaN in the values; clamp scores; take minus infinity out of \
-                 decibels and set the frame's flag",
+                "a score outside 0 to 1, a decibel or level not finite, a flag not 0 or 1, a flag 1 \
+                 in scores",
+                "look for a NaN in the values; clamp scores; take minus infinity out of decibels and \
+                 set the frame's flag",
             ],
             Self::LENGTH => [
                 "length above 2^40, or the frames do not cover it",
-                "give the length in samples of one channel, not of all; the last frame must \
-                 start before its end",
+                "give the length in samples of one channel, not of all; the last frame must start \
+                 before its end, and one frame more would have to end behind it",
             ],
             Self::DURATION => [
-                "a duration above 24 hours, target 0, minimum above target, or target above \
-                 maximum",
+                "a duration above 24 hours, target 0, minimum above target, or target above maximum",
                 "give nanoseconds, and minimum ≤ target ≤ maximum",
             ],
             Self::COUNT => [
                 "count 0 or above 1,048,576",
-                "ask for at least one piece, or plan by length",
+                "ask for 1 to 1,048,576 pieces, or plan by length",
             ],
             Self::RATIO => [
                 "placement's ratio outside 0 to 1, or an unknown placement",
                 "give a ratio from 0, the silence's start, to 1, its end",
             ],
             Self::WEIGHTS => [
-                "a weight negative or not finite, fixed cost of a cut or pause reference 0, \
-                 reference above 24 hours",
+                "a weight negative or not finite, fixed cost of a cut or pause reference 0, reference \
+                 above 24 hours",
                 "start from the defaults, and change one weight at a time",
             ],
             Self::THRESHOLD => [
@@ -1204,42 +1204,42 @@ impl Refusal {
             ],
             Self::OUTPUT => [
                 "an output list is too short for the answer",
-                "lend as many entries as the header's functions say (buchawzer_plan_length); \
-                 not from a job",
+                "lend as many entries as the header says at the function (buchawzer_plan_length for a \
+                 plan); no job gives it",
             ],
             Self::WORK => [
                 "a work list is too short",
-                "lend 16 × (frames + 1) entries of each type (buchawzer_work_length); not from \
-                 a job",
+                "lend 16 × (frames + 1) entries of each type (buchawzer_work_length); no job gives it",
             ],
             Self::PARENT => [
                 "by count, the parent list is too short for the path",
-                "lend twice as many and call again (buchawzer_parent_length is always enough); a job's list has \
-                 16,384 entries: ask for fewer pieces, or use the library",
+                "lend twice as many, from some thousand on, and call again (buchawzer_parent_length \
+                 is always enough, for a path buchawzer_path_parent_length); a job's list has 16,384 \
+                 entries: ask for fewer pieces, or use the library",
             ],
             Self::CANDIDATES => [
                 "lent candidates: lists empty, unequal or above 1,048,577",
-                "give three lists of one length",
+                "give three lists of one length, with at least one candidate",
             ],
             Self::ENDS => [
-                "lent candidates: a left end above its right, a right above the next left, an \
-                 end or the limit above 2^40",
-                "sort the candidates, and join those that overlap",
+                "lent candidates: a left end above its right, a right above the next left, an end or \
+                 the limit above 2^40",
+                "sort the candidates, and join those that overlap; give the limit in samples",
             ],
             Self::COSTS => [
                 "a cost or length weight negative or not finite, target outside 2^−40 to 2^60, \
                  minimum outside 0 to 2^60",
-                "look for a NaN in the costs",
+                "look for a NaN in the costs; give target and minimum in samples, the target above 0",
             ],
             Self::REACH => [
                 "by count, no limit leaves few enough pieces",
                 "no input is known that gives it; ask for more pieces, or plan by length",
             ],
             Self::JOB => [
-                "no job: above 8,192 bytes or 511 frames, cut short, followed by bytes, or with \
-                 an unknown bit or kind; or standard input could not be read",
-                "look at it by tools/job --show, which names the field and offset where it stops being a job; for \
-                 more frames use the library",
+                "no job: above 8,192 bytes or 511 frames, cut short, followed by bytes, or with an \
+                 unknown bit or kind; or standard input could not be read",
+                "look at it by tools/job --show, which names the field and offset where it stops \
+                 being a job; for more frames use the library",
             ],
             _ => [
                 "unknown refusal",

@@ -12,15 +12,21 @@ static const char usage[] =
     "usage: cutplan < JOB > LISTING\n"
     "Reads one job from standard input and writes its listing, a plan or `refused` with a number, to standard output.\n"
     "What a refusal means goes to standard error. tools/job makes a job from numbers, and README.md has its bytes.\n"
-    "Status 0: the listing was written, a refusal too; 1: it could not be written; 2: an argument was given.\n";
+    "Status 0: the listing was written, a refusal too; 1: it could not be written; 2: an argument that is not -h or --help.\n";
 
-/* What the program does where it is given an argument. */
+static int unwritten(void)
+{
+    fputs("cutplan: standard output could not be written\n", stderr);
+    return 1;
+}
+
+/* What the program does where it is given an argument, which is not repeated: it may hold anything. */
 static int used(const char *argument)
 {
     if (strcmp(argument, "--help") == 0 || strcmp(argument, "-h") == 0) {
-        return fputs(usage, stdout) == EOF || fflush(stdout) == EOF;
+        return fputs(usage, stdout) == EOF || fflush(stdout) == EOF ? unwritten() : 0;
     }
-    fprintf(stderr, "cutplan: %s: cutplan takes no arguments\n%s", argument, usage);
+    fprintf(stderr, "cutplan: it takes a job on standard input, and no argument but -h or --help\n%s", usage);
     return 2;
 }
 
@@ -35,8 +41,5 @@ int main(int argc, char **argv)
         const char *meaning = buchawzer_refusal_meaning(refused);
         fprintf(stderr, "cutplan: refused %u: %s; %s\n", (unsigned)refused, meaning, buchawzer_refusal_advice(refused));
     }
-    if (status != 0) {
-        fputs("cutplan: standard output could not be written\n", stderr);
-    }
-    return status;
+    return status != 0 ? unwritten() : 0;
 }

@@ -1,4 +1,4 @@
--- Laws of IEEE 754 arithmetic that the best path and the bound of the pruned search stand on. f is either format throughout; no law assumes anything.
+-- Laws of IEEE 754 arithmetic that the best path, the bound of the pruned search and a plan's flags stand on. f is either format throughout; no law assumes anything.
 -- A law about an operation of lib.Ieee is named float-OPERATION-WHAT, and one about a definition of base_terms begins with that definition's word.
 -- `nonneg x` is "not NaN and not below zero", a "number" is any value but NaN, and `finite` and `positive` are those of lib.Ieee.Scale and lib.Ieee.Positive.
 

@@ -1,4 +1,4 @@
--- "The length in seconds of the below-off stretch at a boundary": `quietRuns` of the crate sounds gives for each frame the length of its stretch in frames.
+-- "The length in seconds of the below-off stretch at a boundary": `quietRuns` of the crate silence_runs gives for each frame the length of its stretch in frames.
 use mathlib.Core.List.{List, [], _∷_}
 use Prim.Native.Nat.{ℕ, max}
 use lib.IntN.{pos}

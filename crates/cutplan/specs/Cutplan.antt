@@ -19,13 +19,14 @@ printedFor (fails fault at) = refusalLine (faultNumber fault)
 abbrev pub cutplanOf : List ℕ → List ℕ
 cutplanOf job = printedFor (jobOf job)
 
--- the number of the refusal that it prints for a job, 0 where it prints a plan
+-- the number of a job's refusal, 19 where there is no job, and 0 where there is a plan
 unfoldable pub refusedFor : Outcome → ℕ
 refusedFor (asks a) = refusedOfPlan (a .recording) (a .segment) (a .settings) (a .values) (a .flags) (a .levels)
 refusedFor (fails fault at) = faultNumber fault
 
-abbrev pub refusalOf : List ℕ → ℕ
-refusalOf job = refusedFor (jobOf job)
+-- that of what `cutplan` prints for the bytes that it reads
+abbrev pub refusedIn : List ℕ → ℕ
+refusedIn job = refusedFor (jobOf job)
 
 -- ---- into a lent list
 

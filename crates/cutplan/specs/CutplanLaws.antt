@@ -17,7 +17,7 @@ use Rattle.job.specs.declared.answer.Reading.the-variants.{Job, Refused}
 use Rattle.listing.specs.Listing.{refusalLine}
 use Rattle.cutplan.specs.Lines.{longestListing}
 use Rattle.cutplan.specs.Head.{linesOfHead, refusedOfHead}
-use Rattle.cutplan.specs.Cutplan.{printedFor, cutplanOf, refusedFor, refusalOf, Printed, printed, printedInto}
+use Rattle.cutplan.specs.Cutplan.{printedFor, cutplanOf, refusedFor, refusedIn, Printed, printed, printedInto}
 
 -- what is printed for a job that was read
 pub job-printed : (job : List ℕ) (h : Head) → readOf job ≡ Job h → linesOfHead job h ≡ cutplanOf job
@@ -30,12 +30,12 @@ unfolding jobOf withLists printedFor
 fault-printed job fault at e = rw e
 
 -- the number that goes with a job that was read
-pub job-refused : (job : List ℕ) (h : Head) → readOf job ≡ Job h → refusedOfHead job h ≡ refusalOf job
+pub job-refused : (job : List ℕ) (h : Head) → readOf job ≡ Job h → refusedOfHead job h ≡ refusedIn job
 unfolding jobOf withLists refusedFor
 job-refused job h e = rw e
 
 -- and with bytes that are none
-pub fault-refused : (job : List ℕ) (fault : Fault) (at : ℕ) → readOf job ≡ Refused fault at → faultNumber fault ≡ refusalOf job
+pub fault-refused : (job : List ℕ) (fault : Fault) (at : ℕ) → readOf job ≡ Refused fault at → faultNumber fault ≡ refusedIn job
 unfolding jobOf withLists refusedFor
 fault-refused job fault at e = rw e
 

@@ -1,4 +1,4 @@
--- The lines for a job by its head.
+-- The lines for a job by its head, and the number of its refusal.
 use Prim.Native.Nat.{ℕ}
 use mathlib.Core.List.{List}
 use Rattle.job.specs.Job.{valuesIn, flagsIn, levelsIn}

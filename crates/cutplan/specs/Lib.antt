@@ -1,6 +1,6 @@
 -- The program `cutplan`, from the bytes of a job to those of its listing.
 
--- Cutplan: what it prints (`cutplanOf`), the number of the refusal that this is (`refusalOf`), and what a lent list then holds (`printedInto`)
+-- Cutplan: what it prints (`cutplanOf`), the number of the refusal that this is (`refusedIn`), and what a lent list then holds (`printedInto`)
 pub mod Cutplan
 -- CutplanLaws: a law for each of its ends
 pub mod CutplanLaws

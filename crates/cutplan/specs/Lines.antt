@@ -31,6 +31,7 @@ lentOutput = outputOf (replicate 1533 0) (replicate 1533 0)
 
 -- ---- of a recording and settings
 
+-- the lines of its plan, or that of its refusal
 abbrev pub linesOfPlan : Recording → SegmentConfig → PlanConfig → List Float → List ℕ → List Float → List ℕ
 linesOfPlan r segment settings values flags levels =
     linesFor (handedWithin r segment settings values flags levels lentOutput .answer) (handedWithin r segment settings values flags levels lentOutput .out)

@@ -3,7 +3,7 @@
 --   cutplan-parsed    what is printed for an accepted job, parsed, is the plan's pieces and cuts
 --   cutplan-refused   what is printed for one that Plan refuses, parsed, is its number; cutplan-unread: bytes that are no job are refused by 19
 --   cutplan-number-most, cutplan-number-line, cutplan-number-plan
---                     the number that goes with what is printed (`refusalOf`) is at most 19, is that of the line that is printed,
+--                     the number that goes with what is printed (`refusedIn`) is at most 19, is that of the line that is printed,
 --                     and is 0 only where a plan is printed
 --   cutplan-encoded   of every job within the limits, encoded, that job's lines are printed
 use mathlib.Core.Path.{_≡_, refl, sym, ap, subst, _∙_}
@@ -47,7 +47,7 @@ use Rattle.cutplan.specs.Memory.{lentWork, lentParents, endWithin, hande
 use Rattle.cutplan.specs.MemoryLaws.{never-12, never-13}
 use Rattle.cutplan.specs.Lines.{linesFor, lentOutput, linesOfPlan}
 use Rattle.cutplan.specs.RoomyLaws.{planned-lines, refused-lines}
-use Rattle.cutplan.specs.Cutplan.{printedFor, cutplanOf, refusedFor, refusalOf}
+use Rattle.cutplan.specs.Cutplan.{printedFor, cutplanOf, refusedFor, refusedIn}
 
 -- ---- the lists of a job that was read
 
@@ -149,28 +149,28 @@ cutplan-unread job fault at e = ap (λ o. parsedOf (printedFor o)) e ∙ rw (fau
 -- ---- the number that goes with what is printed
 
 -- of a job that was read it is that of Plan's answer
-refusal-of-plan : (job : List ℕ) (a : Asked) (read : jobOf job ≡ asks a) → refusalOf job ≡ numberOf (endFor job a read .answer)
+refusal-of-plan : (job : List ℕ) (a : Asked) (read : jobOf job ≡ asks a) → refusedIn job ≡ numberOf (endFor job a read .answer)
 unfolding refusedFor handedWithin
 refusal-of-plan job a read = rw read
 
 -- of bytes that are no job it is 19
-refusal-of-fault : (job : List ℕ) (fault : Fault) (at : ℕ) → jobOf job ≡ fails fault at → refusalOf job ≡ 19
+refusal-of-fault : (job : List ℕ) (fault : Fault) (at : ℕ) → jobOf job ≡ fails fault at → refusedIn job ≡ 19
 unfolding refusedFor
 refusal-of-fault job fault at e = rw e (fault-number fault)
 
 -- no number is above 19
-pub cutplan-number-most : (job : List ℕ) → refusalOf job ≤ 19
+pub cutplan-number-most : (job : List ℕ) → refusedIn job ≤ 19
 cutplan-number-most job = go (jobOf job) refl
   where
-    go : (o : Outcome) → jobOf job ≡ o → refusalOf job ≤ 19
+    go : (o : Outcome) → jobOf job ≡ o → refusedIn job ≤ 19
     go (asks a) e = omega (arith, refusal-of-plan job a e, answer-most (endFor job a e .answer))
     go (fails fault at) e = omega (arith, refusal-of-fault job fault at e)
 
 -- where it is not 0, what is printed is its line
-pub cutplan-number-line : (job : List ℕ) → (refusalOf job ≡ 0 → ⊥) → cutplanOf job ≡ refusalLine (refusalOf job)
+pub cutplan-number-line : (job : List ℕ) → (refusedIn job ≡ 0 → ⊥) → cutplanOf job ≡ refusalLine (refusedIn job)
 cutplan-number-line job other = go (jobOf job) refl
   where
-    go : (o : Outcome) → jobOf job ≡ o → cutplanOf job ≡ refusalLine (refusalOf job)
+    go : (o : Outcome) → jobOf job ≡ o → cutplanOf job ≡ refusalLine (refusedIn job)
     go (asks a) e =
         let number = refusal-of-plan job a e in
         job-lines job a e
@@ -179,7 +179,7 @@ cutplan-number-line job other = go (jobOf job) refl
     go (fails fault at) e = unfold printedFor refusedFor in rw e
 
 -- where it is 0, what is printed, parsed, is a plan
-pub cutplan-number-plan : (job : List ℕ) → refusalOf job ≡ 0 → (pieces : List Row) × (cuts : List Row) × (parsedOf (cutplanOf job) ≡ some (planned pieces cuts))
+pub cutplan-number-plan : (job : List ℕ) → refusedIn job ≡ 0 → (pieces : List Row) × (cuts : List Row) × (parsedOf (cutplanOf job) ≡ some (planned pieces cuts))
 cutplan-number-plan job none = go (jobOf job) refl
   where
     go : (o : Outcome) → jobOf job ≡ o → (pieces : List Row) × (cuts : List Row) × (parsedOf (cutplanOf job) ≡ some (planned pieces cuts))

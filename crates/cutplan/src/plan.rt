@@ -15,7 +15,7 @@ ghost use Rattle.base_terms.specs.Lists.{onto};
 ghost use Rattle.io.specs.Counts.{Counts};
 ghost use Rattle.job.specs.Job.{Within};
 ghost use Rattle.cutplan.specs.Lines.{longestListing};
-ghost use Rattle.cutplan.specs.Cutplan.{cutplanOf, refusalOf, printed, printedInto};
+ghost use Rattle.cutplan.specs.Cutplan.{cutplanOf, refusedIn, printed, printedInto};
 ghost use Rattle.cutplan.specs.Head.{linesOfHead, refusedOfHead};
 
 // No listing is longer.
@@ -56,7 +56,7 @@ fn plan_read(job: &[u8], head: Head, out: &mut [u8]) -> Answered
 pub fn list_job(job: &[u8], out: &mut [u8]) -> Answered
     requires { ⌜ longestListing ≤ length (now out) ⌝ }
     ensures { λ a. ⌜ a .size ≡ length (cutplanOf (now (job .entry))) ⌝ }
-    ensures { λ a. ⌜ a .refused ≡ refusalOf (now (job .entry)) ⌝ }
+    ensures { λ a. ⌜ a .refused ≡ refusedIn (now (job .entry)) ⌝ }
     ensures { λ _. ⌜ now (out .exit) ≡ onto (cutplanOf (now (job .entry))) (now (out .entry)) ⌝ }
 {
     match read::read(job) {

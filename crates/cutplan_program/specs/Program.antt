@@ -7,7 +7,7 @@ use lib.IntN.{ℤ, pos}
 use lib.ListN.{length, take}
 use Rattle.job.specs.Limits.{mostBytes}
 use Rattle.listing.specs.Listing.{refusalLine}
-use Rattle.cutplan.specs.Cutplan.{cutplanOf, refusalOf}
+use Rattle.cutplan.specs.Cutplan.{cutplanOf, refusedIn}
 use Rattle.cutplan_program.specs.Input.{Reads}
 use Rattle.cutplan_program.specs.declared.input.Input.{Input}
 use Rattle.cutplan_program.specs.declared.input.Input.the-variants.{Read, Failed}
@@ -19,7 +19,7 @@ printedAfter Failed buffer = refusalLine 19
 
 -- the number of the refusal that this is, 0 where it is a plan
 abbrev pub refusedAfter : Input → List ℕ → ℕ
-refusedAfter (Read n) buffer = refusalOf (take n buffer)
+refusedAfter (Read n) buffer = refusedIn (take n buffer)
 refusedAfter Failed buffer = 19
 
 -- 0, or 1 where the listing was not written whole

@@ -11,7 +11,7 @@ use Rattle.job.specs.Limits.{mostBytes}
 use Rattle.job.specs.declared.answer.Fault.the-variants.{TooLong}
 use Rattle.job.specs.declared.answer.Reading.the-variants.{Refused}
 use Rattle.listing.specs.Listing.{refusalLine}
-use Rattle.cutplan.specs.Cutplan.{cutplanOf, refusalOf}
+use Rattle.cutplan.specs.Cutplan.{cutplanOf, refusedIn}
 use Rattle.cutplan.specs.CutplanLaws.{fault-printed, fault-refused}
 use Rattle.cutplan_program.specs.Input.{FitsIn, Reads}
 use Rattle.cutplan_program.specs.Program.{printedAfter, refusedAfter, IsStatus, Ran}
@@ -25,7 +25,7 @@ module _ (got : Input) where
 
   -- for them `cutplanOf` is printed, and its number is handed over
   pub after-read : (n : ℕ) (buffer : List ℕ) → got ≡ Read n
-      → (cutplanOf (take n buffer) ≡ printedAfter got buffer) × (refusalOf (take n buffer) ≡ refusedAfter got buffer)
+      → (cutplanOf (take n buffer) ≡ printedAfter got buffer) × (refusedIn (take n buffer) ≡ refusedAfter got buffer)
   after-read n buffer e = (rw e, rw e)
 
   -- and 19 where a read failed

@@ -48,7 +48,7 @@ module _ (f : Format) (double : prec f ≡ 53) (far : 66 ≤ emax f) where
       small : (m v t : ℕ) → m < 2 ^ 37 → v ≤ m * nanosPerSec + t → t < nanosPerSec → v < 2 ^ 67
       small m v t h l k = omega arith
 
-  -- up to 2 ^ 62 the product is not rounded above m whole samples: 2 ^ 9 divides them
+  -- below 2 ^ 62 the product is not rounded above m whole samples: 2 ^ 9 divides them
   few-digits : (n m : ℕ) → m < 2 ^ 37 → n < m * nanosPerSec → n < 2 ^ 62 → T (le (quotient n) (ofInt f (pos m)))
   few-digits n m h g l =
       back-down n m (oddPart * m * 2 ^ 9) 0 h (whole-under f n (oddPart * m) 9 (rw double l) (omega arith)) (omega arith) (lit≤ tt)

@@ -59,7 +59,8 @@ digits-stop : (n b : ℕ) (bytes : List ℕ) → isDigit b ≡ false → digitsI
 unfolding digitsIn
 digits-stop n b bytes e = rw e
 
--- a number ends where a byte follows that is no digit; by `stop` so would 0, if digits behind it were read on
+-- a number ends where a byte follows that is no digit. Behind 0 `stop` is not needed: it is there so that an edit which reads on behind a 0 is refused by
+-- `zero-alone` (ParsedLaws) and not here
 number-read : (n b : ℕ) (bytes : List ℕ) → isDigit b ≡ false → numberIn (decimalOf n ++ (b ∷ bytes)) ≡ some (readOf n (b ∷ bytes))
 unfolding numberIn numberFrom decimalOf decimalWithin
 number-read zero b bytes e = let stop = digits-stop 0 b bytes e in cc

@@ -246,12 +246,12 @@ room-end g plan without-reach out q = let z : _≡_ {A = ℕ} 0 1 = cc in absurd
 
 -- ---- the parent list
 
--- too few entries
-pub parents-few : (count candidates parents : ℕ) → parents < min count (candidates - 1) * candidates → hasParents count candidates parents ≡ false
+-- a list that has fewer entries than the path wants fails the test
+pub too-few : (count candidates parents : ℕ) → parents < min count (candidates - 1) * candidates → hasParents count candidates parents ≡ false
 unfolding hasParents
-parents-few count candidates parents h = lt-leb (min count (candidates - 1) * candidates) parents h
+too-few count candidates parents h = lt-leb (min count (candidates - 1) * candidates) parents h
 
--- and so many are too few
+-- and none but such a list fails it
 pub few-parents : (count candidates parents : ℕ) → hasParents count candidates parents ≡ false → parents < min count (candidates - 1) * candidates
 unfolding hasParents
 few-parents count candidates parents e = leb-false (min count (candidates - 1) * candidates) parents e

@@ -10,7 +10,7 @@ pub mod ShowsLaws
 pub mod EndsLaws
 -- FollowsLaws: a plan that is handed out along a path follows it (`along-follows`), shows the division along it (`along-shows`), and is flagged and written (`along-flagged`, `along-written`)
 pub mod FollowsLaws
--- MadeLaws: demands 2 and 3 of a plan of a span that is not empty, by length and by count (`made-by-length`, `made-by-count`); what 14 and 18 say (`few-made`, `missing-made`), that they are given where they apply (`made-few`, `made-missing`), and how many parents are enough (`parents-sure`)
+-- MadeLaws: demands 2 and 3 of a plan of a span that is not empty, by length and by count (`made-by-length`, `made-by-count`); what 14 and 18 say (`few-made`, `missing-made`), that they are given where they apply (`short-given`, `none-given`), and how many parents are enough (`parents-sure`)
 pub mod MadeLaws
 -- Theorems: the claims hold of every plan (`plan-made`, `made-of-span`) and of every call (`plan-ended`)
 pub mod Theorems

@@ -1,5 +1,5 @@
 -- What is claimed of every call of the operation Plan (`Ended`) and of every plan that it makes (`Made`). Theorems proves it, with no hypothesis but the answer and,
--- where costs come in, what the types of the lists say (`Fitting`).
+-- for a span that is not empty, what the types of the lists say (`Fitting`).
 -- The output has three numbers for each piece, start, end and flags, and three for each cut, previous end, next start and reason; all ends are in samples.
 use mathlib.Core.Path.{_≡_}
 use mathlib.Core.Logic.{_⊎_, _↔_}
@@ -235,7 +235,8 @@ module _ (r : Recording) (segment : SegmentConfig) (plan : PlanConfig) (values :
 
   -- ---- the later refusals
 
-  -- the candidates over which a path by count is sought: the first ones; or, where the first path falls short, the completed ones under the reach
+  -- the candidates over which a path by count is sought: the first ones; or, where the first path falls short, the completed ones under the reach.
+  -- That it falls short is said of its best path, so it asks for `Fitting`
   pub data SoughtOver (count : ℕ) : List Candidate → Type 0 where
     at-first : SoughtOver count found
     with-reach : (Fitting values lent → FallsShort count) → (limit : ℕ) (far : List Cut) → IsReach g s count maximum limit → Greedy g s limit far
@@ -282,10 +283,10 @@ module _ (r : Recording) (segment : SegmentConfig) (plan : PlanConfig) (values :
       pub short-output : end .answer ≡ ShortOutput
           → (k : ℕ) × (HasRoom k out → ⊥) × ((room : Output) → HasRoom k room → planOf r segment plan values flags lent room work parent .answer ≡ Planned k)
       -- and each where its condition holds, 14 before 18
-      pub parent-short : verdict ≡ Fine → emptyIn r segment plan values flags ≡ false → Fitting values lent → FewParents (length parent) → end .answer ≡ ShortParent
-      pub reach-missing : verdict ≡ Fine → emptyIn r segment plan values flags ≡ false → Fitting values lent → (FewParents (length parent) → ⊥) → ReachMissing
+      pub gives-short-parent : verdict ≡ Fine → emptyIn r segment plan values flags ≡ false → Fitting values lent → FewParents (length parent) → end .answer ≡ ShortParent
+      pub gives-no-reach : verdict ≡ Fine → emptyIn r segment plan values flags ≡ false → Fitting values lent → (FewParents (length parent) → ⊥) → ReachMissing
           → end .answer ≡ NoReach
-      pub output-short : (k : ℕ) (room : Output) → planOf r segment plan values flags lent room work parent .answer ≡ Planned k → (HasRoom k out → ⊥)
+      pub gives-short-output : (k : ℕ) (room : Output) → planOf r segment plan values flags lent room work parent .answer ≡ Planned k → (HasRoom k out → ⊥)
           → end .answer ≡ ShortOutput
       -- 12 never comes where there is room for a piece at each frame
       pub roomy : Fitting values lent → HasRoom (length values) out → end .answer ≡ ShortOutput → ⊥

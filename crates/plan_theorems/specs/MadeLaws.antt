@@ -78,7 +78,7 @@ use Rattle.plan_theorems.specs.Made.{reasonAt, Fills, Flagged, Shows, In
 use Rattle.plan_theorems.specs.Made as made
 use Rattle.plan_theorems.specs.ShowsLaws.{shows-fills}
 use Rattle.plan_theorems.specs.FollowsLaws.{along-follows, along-shows, along-flagged, along-reasoned}
-use Rattle.plan_theorems.specs.EndsLaws.{HandedAlong, along, short-parent, without-reach, CountEnd, first-short, at-first, reach-none, second-short, with-reach, short-at-first, short-at-second, none-at-second, parents-few, few-parents}
+use Rattle.plan_theorems.specs.EndsLaws.{HandedAlong, along, short-parent, without-reach, CountEnd, first-short, at-first, reach-none, second-short, with-reach, short-at-first, short-at-second, none-at-second, too-few, few-parents}
 
 module _ (r : Recording) (segment : SegmentConfig) (plan : PlanConfig) (values : List Float) (flags : List ℕ) (lent : List Float) (n32 n64 nf : ℕ)
     (p : PlanReady r segment plan values flags lent n32 n64 nf) (full : emptyIn r segment plan values flags ≡ false)
@@ -184,6 +184,7 @@ module _ (r : Recording) (segment : SegmentConfig) (plan : PlanConfig) (values :
         added-planned : sources.Planned x ss levels (ks ++ pointsIn added) first last
         added-planned = planned-completed x ss runs levels ks added first last planned places
 
+        -- so they lie as document 01 says
         added-in-span : InSpan s (with added)
         added-in-span = points-in-span (ks ++ pointsIn added) added-planned
 
@@ -424,16 +425,17 @@ module _ (r : Recording) (segment : SegmentConfig) (plan : PlanConfig) (values :
       falls-is-short : Fitting values lent → FallsShort r segment plan values flags lent count → isShort
       falls-is-short f t = ap (suffices g plan s count maximum) none-added ∙ falls-tested f count asked t
 
-      -- the candidates over which a path is sought
+      -- a path is sought over the first candidates
       sought-first : SoughtOver r segment plan values flags lent count (with [])
       sought-first = rw none-added made.at-first
 
+      -- and the completed ones, where it falls short
       sought-second : isShort → (limit : ℕ) → reachOf g s count maximum ≡ Reach limit → SoughtOver r segment plan values flags lent count (completedByCount g plan s with count limit)
       sought-second e limit i =
           let reach = is-reach g (p .accepted) s spread count maximum limit i in
           made.with-reach (short-falls e) limit (cutsOf g s limit (piecesAsked s count)) reach (far-greedy g (p .accepted) s spread count maximum limit reach)
 
-      -- are no more than the boundaries
+      -- the candidates over which a path is sought are no more than the boundaries
       sought-few : (cs : List Candidate) → SoughtOver r segment plan values flags lent count cs → length cs ≤ suc (length values)
       sought-few cs made.at-first = subst (λ (ds : List Candidate). length ds ≤ suc (length values)) none-added (points-few (ks ++ pointsIn []))
       sought-few cs (made.with-reach f limit far reach greedy) = points-few (ks ++ pointsIn (addedByCount s count far))
@@ -452,21 +454,21 @@ module _ (r : Recording) (segment : SegmentConfig) (plan : PlanConfig) (values :
         missing-made (reach-none q e) = record { count = count; asked = asked; falls-short = short-falls q; none = no-reach g (p .accepted) s spread count maximum e }
 
         -- 14 where its condition holds
-        pub made-few : Fitting values lent → (cs : List Candidate) → SoughtOver r segment plan values flags lent count cs
+        pub short-given : Fitting values lent → (cs : List Candidate) → SoughtOver r segment plan values flags lent count cs
             → parents < min count (length cs - 1) * length cs → (out : Output) → planByCount g plan s with count parents out ≡ handedOf ShortParent out
-        made-few f cs made.at-first h out =
+        short-given f cs made.at-first h out =
             short-at-first g plan s with count parents
-            (parents-few count (length (with [])) parents (subst (λ (ds : List Candidate). parents < min count (length ds - 1) * length ds) (sym none-added) h)) out
-        made-few f cs (made.with-reach t limit far reach greedy) h out =
+            (too-few count (length (with [])) parents (subst (λ (ds : List Candidate). parents < min count (length ds - 1) * length ds) (sym none-added) h)) out
+        short-given f cs (made.with-reach t limit far reach greedy) h out =
             let same = greedy-one g (p .accepted) s spread limit far (cutsOf g s limit (piecesAsked s count)) greedy (far-greedy g (p .accepted) s spread count maximum limit reach) in
             short-at-second g plan s with count parents (falls-is-short f (t f)) limit (reach-of g (p .accepted) s spread count maximum limit reach)
-            (parents-few count (length (completedByCount g plan s with count limit)) parents
+            (too-few count (length (completedByCount g plan s with count limit)) parents
             (subst (λ (cuts : List Cut). parents < min count (length (with (addedByCount s count cuts)) - 1) * length (with (addedByCount s count cuts))) same h)) out
 
         -- 18 where its condition holds, and 14 is not given first
-        pub made-missing : Fitting values lent → (FewParents r segment plan values flags lent parents → ⊥) → FallsShort r segment plan values flags lent count
+        pub none-given : Fitting values lent → (FewParents r segment plan values flags lent parents → ⊥) → FallsShort r segment plan values flags lent count
             → ((limit : ℕ) → IsReach g s count maximum limit → ⊥) → (out : Output) → planByCount g plan s with count parents out ≡ handedOf NoReach out
-        made-missing f many t none out =
+        none-given f many t none out =
             none-at-second g plan s with count parents enough (falls-is-short f t) (unreached (reachOf g s count maximum) refl) out
           where
             enough : hasParents count (length (with [])) parents ≡ true

@@ -1,5 +1,5 @@
 -- The theorems of the operation Plan, in the words of Made.
---   plan-made    of every answer `Planned`, with no hypothesis but the answer and, where costs come in, what the types of the lists say (`Fitting`):
+--   plan-made    of every answer `Planned`, with no hypothesis but the answer and, for a span that is not empty, what the types of the lists say (`Fitting`):
 --                demand 2, where the candidates lie, demand 3 by count and by length, pieces plus what lies between them, no more of them than frames, flags, the empty span
 --   plan-ended   of every call: what is untouched, what is zeroed, that an empty span has the empty plan, that 14, 18 and 12 come under their conditions only and wherever they hold,
 --                12 never where there is room for a piece at each frame, 14 never where there are (frames + 1) × min(N, frames) parents,
@@ -47,7 +47,7 @@ use Rattle.planner.specs.Operation.{End, endOf, endAfter, spanOfPlan, candidate
 use Rattle.plan_theorems.specs.Made.{HasRoom, Written, MadeOfSpan, Made, FewParents, ReachMissing, Ended}
 use Rattle.plan_theorems.specs.EndsLaws.{HandedAlong, along-refused, PlanEnd, along, short-parent, without-reach, handedBy, Reached, ModeEnd, by-length, by-count, mode-end, Ending, end-ending, AlongSome, made-end, parent-end, reach-end, room-end}
 use Rattle.plan_theorems.specs.FollowsLaws.{along-written}
-use Rattle.plan_theorems.specs.MadeLaws.{divided-few, few-made, missing-made, made-few, made-missing, parents-sure, Laid, MadeByLength, made-by-length, MadeByCount, made-by-count}
+use Rattle.plan_theorems.specs.MadeLaws.{divided-few, few-made, missing-made, short-given, none-given, parents-sure, Laid, MadeByLength, made-by-length, MadeByCount, made-by-count}
 
 -- nothing is written for no piece
 none-written : (out : Output) → Written 0 out out
@@ -201,7 +201,7 @@ module _ (r : Recording) (segment : SegmentConfig) (plan : PlanConfig) (values :
   gives-short fine full f t o =
       mode-call fine full (ByCount (t .count)) (t .asked) o
       ∙ ap (λ (h : Handed). h .answer)
-      (made-few r segment plan values flags lent (length (work .u32s)) (length (work .u64s)) (length (work .f64s)) (ready fine) full (t .count) (t .asked) (length parent) f
+      (short-given r segment plan values flags lent (length (work .u32s)) (length (work .u64s)) (length (work .f64s)) (ready fine) full (t .count) (t .asked) (length parent) f
       (t .candidates) (t .sought) (t .few) o)
 
   -- 18 where its condition holds
@@ -211,7 +211,7 @@ module _ (r : Recording) (segment : SegmentConfig) (plan : PlanConfig) (values :
   gives-missing fine full f many t o =
       mode-call fine full (ByCount (t .count)) (t .asked) o
       ∙ ap (λ (h : Handed). h .answer)
-      (made-missing r segment plan values flags lent (length (work .u32s)) (length (work .u64s)) (length (work .f64s)) (ready fine) full (t .count) (t .asked) (length parent) f
+      (none-given r segment plan values flags lent (length (work .u32s)) (length (work .u64s)) (length (work .f64s)) (ready fine) full (t .count) (t .asked) (length parent) f
       many (t .falls-short f) (t .none) o)
 
   -- ---- every plan
@@ -346,6 +346,7 @@ module _ (r : Recording) (segment : SegmentConfig) (plan : PlanConfig) (values :
           ∙ along-refused g plan (a .candidates) (a .path) out (subst (λ (n : ℕ). HasRoom n out → ⊥) (sym (a .handed .number)) never)
     ]
 
+    -- 14 never comes with so many parents
     said-enough : (count : ℕ) → plan .mode ≡ ByCount count → (length values + 1) * min count (length values) ≤ length parent → call out .answer ≡ ShortParent → ⊥
     said-enough count asked enough e =
         let l = later out (ap isLater e) in
@@ -376,9 +377,9 @@ module _ (r : Recording) (segment : SegmentConfig) (plan : PlanConfig) (values :
       short-parent = said-short;
       no-reach = said-missing;
       short-output = said-room;
-      parent-short = λ fine full f t. gives-short fine full f t out;
-      reach-missing = λ fine full f many t. gives-missing fine full f many t out;
-      output-short = gives-room;
+      gives-short-parent = λ fine full f t. gives-short fine full f t out;
+      gives-no-reach = λ fine full f many t. gives-missing fine full f many t out;
+      gives-short-output = gives-room;
       roomy = said-roomy;
       parents-enough = said-enough;
       accepted = made-fine out;

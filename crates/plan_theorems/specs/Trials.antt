@@ -2,6 +2,7 @@
 -- a count that the first path meets, a dropped gap, an empty span, and 14, 12 and 13. So what Made claims of plans by length, at the first path and with the reach,
 -- of dropped gaps and of these ends is claimed of something.
 use mathlib.Core.Path.{_≡_, refl}
+use mathlib.Core.Bool.{true}
 use mathlib.Core.List.{List, [], _∷_}
 use Prim.Native.Nat.{ℕ}
 use lib.Ieee.{Float, binary32, binary64, span, climb, size, odd, units, round, sum, add, neg, sub, mul, div, lt, eq, le, isNan, ofInt, ofBits}
@@ -12,7 +13,7 @@ use Rattle.base_terms.specs.Lists.{filled, onto, tabulate, allOf}
 use Rattle.base_terms.specs.Work.{workOf, workOk}
 use Rattle.grid.specs.Boundary.{startOf, boundaryOf, covers}
 use Rattle.grid.specs.Durations.{framesIn, framesCeil, framesFloor, samplesFloor, samplesIn, secondsOf, frameSecs}
-use Rattle.grid.specs.Validate.{frameStepOk, framesOk, listsOk, valuesOk, lengthOk, validityOf}
+use Rattle.grid.specs.Validate.{gridOf, frameStepOk, framesOk, listsOk, valuesOk, lengthOk, validityOf}
 use Rattle.grid.specs.Validate as grid
 use Rattle.grid.specs.Values.{isScore, isFinite, isUnflagged}
 use Rattle.silence_levels.specs.Keys.{withSignal}
@@ -67,9 +68,11 @@ use Rattle.plan_pieces.specs.Along as along
 use Rattle.plan_pieces.specs.Flags.{shortFlag, longFlag, flagsOf}
 use Rattle.plan_pieces.specs.Output.{Output, outputOf, hasRoom, handedOutOf}
 use Rattle.plan_pieces.specs.PlanAlong.{planPieces, planCuts}
-use Rattle.planner.specs.Operation.{End, endOf, plannedOf, planOf}
+use Rattle.planner.specs.Operation.{End, endOf, spanOfPlan, candidatesWith, plannedOf, planOf}
 use Rattle.planner.specs.Plan.{planByLength, hasParents, suffices, plannedUnder, planByCount, planBy}
+use Rattle.grid.specs.declared.boundary.FrameGrid.{FrameGrid}
 use Rattle.grid.specs.declared.validate.Recording.{Recording}
+use Rattle.division.specs.Division.{Span}
 use Rattle.grid.specs.declared.validate.Domain.the-variants.{Scores}
 use Rattle.silence_levels.specs.declared.threshold.Threshold.the-variants.{Auto}
 use Rattle.silence_list.specs.declared.config.SegmentConfig.{SegmentConfig}
@@ -124,6 +127,16 @@ settings mode most gap = record {
   };
 }
 
+-- two pieces of at most 400 ms, with what the first path goes over
+abbrev plan2 : PlanConfig
+plan2 = settings (ByCount 2) 400000000 Keep
+
+abbrev grid2 : FrameGrid
+grid2 = gridOf recording 7
+
+abbrev span2 : Span
+span2 = spanOfPlan recording defaults plan2 scores (replicate 7 0) []
+
 -- a is what the output held, b, c and x what the work lists held, and d what the parent list held; a work list has 128 entries, 16 for each of R's eight frame boundaries
 module _ (a b c d : ℕ) (x : Float) where
   abbrev output : ℕ → ℕ → Output
@@ -153,9 +166,12 @@ module _ (a b c d : ℕ) (x : Float) where
         ≡ later (Planned 7)
         (outputOf (0 ∷ 100 ∷ 0 ∷ 100 ∷ 200 ∷ 0 ∷ 200 ∷ 300 ∷ 0 ∷ 300 ∷ 400 ∷ 0 ∷ 400 ∷ 500 ∷ 0 ∷ 500 ∷ 600 ∷ 0 ∷ 600 ∷ 700 ∷ 0 ∷ [])
         (100 ∷ 100 ∷ 2 ∷ 200 ∷ 200 ∷ 1 ∷ 300 ∷ 300 ∷ 1 ∷ 400 ∷ 400 ∷ 0 ∷ 500 ∷ 500 ∷ 2 ∷ 600 ∷ 600 ∷ 2 ∷ [])) 56
-    -- count 2 under 400 ms: the first path has two pieces, none over the maximum, so no reach is sought, and two parents for each of the five first candidates are enough
-    pub first-suffices : call (settings (ByCount 2) 400000000 Keep) scores 6 3 10
+    -- count 2 under 400 ms: the first path suffices, with two parents for each of five candidates
+    pub sufficient : suffices grid2 plan2 span2 2 400 (candidatesWith recording defaults plan2 scores (replicate 7 0) [] []) ≡ true
+    pub first-suffices : call plan2 scores 6 3 10
         ≡ later (Planned 2) (outputOf (0 ∷ 400 ∷ 0 ∷ 400 ∷ 700 ∷ 0 ∷ []) (400 ∷ 400 ∷ 0 ∷ [])) 10
+    -- 14: one entry fewer, at the first path
+    pub first-short : call plan2 scores 6 3 9 ≡ later ShortParent (output 6 3) 9
     -- the gap dropped: one piece ends at its left end and the next starts at its right end
     pub gap-dropped : callWith unpadded (settings ByLength 400000000 Drop) scores 6 3 0
         ≡ later (Planned 2) (outputOf (0 ∷ 200 ∷ 0 ∷ 500 ∷ 700 ∷ 0 ∷ []) (200 ∷ 500 ∷ 0 ∷ [])) 0
@@ -176,7 +192,9 @@ module _ (a b c d : ℕ) (x : Float) where
     printed = refl;
     count-two = refl;
     count-eight = refl;
+    sufficient = refl;
     first-suffices = refl;
+    first-short = refl;
     gap-dropped = refl;
     silent = refl;
     parents-short = refl;
