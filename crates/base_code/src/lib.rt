@@ -2,6 +2,7 @@
 pub mod clear;
 pub mod floats;
 pub mod front;
+pub mod layout;
 pub mod numbers;
 pub mod sizes;
 pub mod work;

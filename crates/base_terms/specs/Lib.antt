@@ -14,3 +14,5 @@ pub mod Round
 pub mod Lists
 -- Work: an operation's three work lists (`Work`, `workOf`), zeroed (`cleared`), and how long each must be (`workLength`, `workOk`: 13)
 pub mod Work
+-- Layout: where each part of each work list stands (`marksAt`, `entriesAt`, `searchAt`, `behindTree` and the others)
+pub mod Layout
