@@ -1,12 +1,14 @@
 # make run                    the main job: proves and builds the program cutplan, runs it on document 01's recording R, and
 #                             prints its listing; JOB=file runs it on a job of one's own, as tools/job makes it
 # make test                   the gate, which .ci/run calls: every crate proved from nothing, the trace, the reading lists and
-#                             the declarations checked, trials and examples run, then the comparison with the Rust
+#                             the declarations checked, trials and examples run, stored answers replayed, then the
+#                             comparison with the Rust
 # make compare N=.. SEED=..   the comparison alone, N inputs a subject; SUBJECTS=silences,path names some of them,
 #                             LARGE=.. sets the number of the largest inputs
 # make bench                  times beside the Rust's; PARTS=path names some of them
-# make sample                 writes the stored answers anew, from the Rust alone; PART=candidates names one of the
-#                             samples, COUNT=.. sets the number of records, of which 64 KiB are kept, of jobs 128
+# make sample                 writes the stored answers anew, from the Rust alone, into samples/ and crates/answers_jobs;
+#                             PART=candidates names one of the samples, COUNT=.. sets the number of records, of which
+#                             64 KiB are kept, of jobs 128; samples/lines.txt and the crate's stdout say what a replay prints
 #
 # FEATURES names the parts that the library has beyond the frame grid: silences, candidates, path, plan, jobs.
 # The published sources of the Rust stay in $(SHARED). Where they are not there, what needs them says so and does nothing.
@@ -75,7 +77,8 @@ bench: reference
 
 sample: reference
 	set -e; for part in $(PART); do \
-		$(DRIVER) sample $$part $(COUNT) $(SEED) > crates/answers_$$part/stdin; \
+		case $$part in jobs) file=crates/answers_jobs/stdin;; *) file=samples/$$part.bin;; esac; \
+		$(DRIVER) sample $$part $(COUNT) $(SEED) > $$file; \
 	done
 
 endif
