@@ -1,10 +1,14 @@
 -- What the replay of a record compares.
-use Prim.Native.Nat.{ℕ}
-use mathlib.Core.Bool.{Bool, _&&_}
+use Prim.Native.Nat.{ℕ, zero, suc}
+use mathlib.Core.Bool.{Bool, true, _&&_}
 use mathlib.Core.List.{List}
 use lib.Dec.{eqb}
 use lib.ListN.{length, getD}
-use Rattle.answers_shared.specs.Sample.{allBelow}
+
+-- every number below n passes
+unfoldable pub allBelow : (ℕ → Bool) → ℕ → Bool
+allBelow p zero = true
+allBelow p (suc n) = allBelow p n && p n
 
 -- byte i is the same in both
 abbrev pub sameByte : List ℕ → List ℕ → ℕ → Bool

@@ -1,9 +1,9 @@
 // Replays a stored sample of jobs with the listings of the Rust's plans, which stands on standard input, and prints how many records agree and how many differ.
 // What a record holds is said in record.rt.
 mod record;
+mod report;
 
-use answers_shared::report;
-use answers_shared::report::Tally;
+use crate::report::Tally;
 
 fn replay_all(s: &[u8]) -> Tally {
     if report::MOST < s.len() {

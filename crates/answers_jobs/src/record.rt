@@ -1,14 +1,32 @@
 // One record: the length of a job (16 bits), the job, the length of its listing (16 bits), the listing. Numbers are little-endian, with nothing between the parts.
-use answers_shared::record::Replayed;
-use answers_shared::record::broken;
 use cutplan::plan;
 use cutplan::plan::LONGEST_LISTING;
 use numbers_in::number;
 ghost use mathlib.Core.Path.{_≡_};
+ghost use mathlib.Core.Bool.{false};
 ghost use Prim.Native.Nat.{_≤_, _<_};
 ghost use lib.ListN.{length};
 ghost use Rattle.answers_jobs.specs.Record.{sameBytes};
 ghost use Rattle.cutplan.specs.Cutplan.{cutplanOf};
+
+// What came of a record: the number of bytes that were read, and whether the port's answer is the stored one.
+pub struct Replayed {
+    pub size: usize,
+    pub same: bool,
+}
+
+// What is left, where it is no whole record. It agrees with nothing.
+fn broken(s: &[u8]) -> Replayed
+    requires { ⌜ 0 < length (now s) ⌝ }
+    ensures { λ r. ⌜ 0 < r .size ⌝ }
+    ensures { λ r. ⌜ r .size ≤ length (now (s .entry)) ⌝ }
+    ensures { λ r. ⌜ r ≡ record { size = length (now (s .entry)); same = false } ⌝ }
+{
+    Replayed {
+        size: s.len(),
+        same: false,
+    }
+}
 
 // Both have the same bytes.
 fn same_bytes(a: &[u8], b: &[u8]) -> bool

@@ -3,9 +3,9 @@ use borrow.Author.Needs.{needs}
 use native.Mathlib.Omega.{arith}
 use Prim.Native.Nat.{_-_, _≤_}
 use lib.ListN.{length}
-use Rattle.answers_shared.specs.Parts.{rest-length}
-use Rattle.answers_shared.specs.Tally.{UpTo}
-use Rattle.answers_shared.specs.TallyLaws.{up-start, up-next, up-more}
+use Rattle.answers_jobs.specs.Parts.{rest-length}
+use Rattle.answers_jobs.specs.Tally.{UpTo}
+use Rattle.answers_jobs.specs.TallyLaws.{up-start, up-next, up-more}
 use Rattle.answers_jobs.proofs.replay_all.Statement.{statement}
 use Rattle.answers_jobs.proofs.replay_all.Tie as tie
 

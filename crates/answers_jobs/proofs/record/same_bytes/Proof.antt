@@ -4,10 +4,8 @@ use native.Mathlib.Omega.{arith}
 use mathlib.Core.Path.{_≡_, refl}
 use Prim.Native.Nat.{_-_, _≤_}
 use lib.ListN.{length}
-use Rattle.answers_shared.specs.Sample.{allBelow}
-use Rattle.answers_shared.specs.SampleLaws.{below-start, below-next}
-use Rattle.answers_jobs.specs.Record.{sameByte}
-use Rattle.answers_jobs.specs.RecordLaws.{bytes-other, bytes-done}
+use Rattle.answers_jobs.specs.Record.{allBelow, sameByte}
+use Rattle.answers_jobs.specs.RecordLaws.{below-start, below-next, bytes-other, bytes-done}
 use Rattle.answers_jobs.proofs.record.same_bytes.Statement.{statement}
 use Rattle.answers_jobs.proofs.record.same_bytes.Tie as tie
 

@@ -2,7 +2,7 @@
 use Prim.Native.Nat.{ℕ, _+_, _≤_}
 use mathlib.Core.Bool.{Bool, _&&_, cond}
 use lib.Dec.{eqb}
-use Rattle.answers_shared.specs.declared.report.Tally.{Tally}
+use Rattle.answers_jobs.specs.declared.report.Tally.{Tally}
 
 -- with one record more, answered as it is stored or not
 unfoldable pub withRecord : Tally → Bool → Tally

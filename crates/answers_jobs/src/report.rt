@@ -1,6 +1,6 @@
 // What a program says of its sample.
 ghost use mathlib.Core.Path.{_≡_};
-ghost use Rattle.answers_shared.specs.Tally.{UpTo, withRecord};
+ghost use Rattle.answers_jobs.specs.Tally.{UpTo, withRecord};
 
 // A sample has at most so many bytes. A program has room for one more, so that longer input is seen and not cut.
 pub const MOST: usize = 131_072;

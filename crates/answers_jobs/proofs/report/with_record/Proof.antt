@@ -1,9 +1,9 @@
 -- Each end has the numbers that the definition gives where the two tests fell so.
 use borrow.Author.Needs.{needs}
 use borrow.Author.Tests.{not-true, not-false, eq-eqb, ne-eqb}
-use Rattle.answers_shared.specs.Tally.{withRecord}
-use Rattle.answers_shared.proofs.report.with_record.Statement.{statement}
-use Rattle.answers_shared.proofs.report.with_record.Tie as tie
+use Rattle.answers_jobs.specs.Tally.{withRecord}
+use Rattle.answers_jobs.proofs.report.with_record.Statement.{statement}
+use Rattle.answers_jobs.proofs.report.with_record.Tie as tie
 
 add-records : tie.Need-add-records
 add-records c = search needs

@@ -4,8 +4,8 @@ use mathlib.Core.Bool.{Bool, true, false, cond}
 use native.Mathlib.Omega.{arith}
 use Prim.Native.Nat.{ℕ, _+_, _≤_, _<_}
 use lib.Dec.{eqb}
-use Rattle.answers_shared.specs.Tally.{UpTo, withRecord}
-use Rattle.answers_shared.specs.declared.report.Tally.{Tally}
+use Rattle.answers_jobs.specs.Tally.{UpTo, withRecord}
+use Rattle.answers_jobs.specs.declared.report.Tally.{Tally}
 
 -- before the first record
 pub up-start : (t : Tally) → t ≡ record { records = 0; agreeing = 0; differences = 0 } → UpTo 0 t
