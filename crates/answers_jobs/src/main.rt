@@ -4,8 +4,13 @@ mod record;
 mod report;
 
 use crate::report::Tally;
+ghost use mathlib.Core.Path.{_≡_};
+ghost use Rattle.answers_jobs.specs.Tally.{tallyOf};
 
-fn replay_all(s: &[u8]) -> Tally {
+// Goes through all records.
+fn replay_all(s: &[u8]) -> Tally
+    ensures { λ t. ⌜ t ≡ tallyOf (now (s .entry)) ⌝ }
+{
     if report::MOST < s.len() {
         return report::too_long();
     }

@@ -3,10 +3,9 @@ use cutplan::plan;
 use cutplan::plan::LONGEST_LISTING;
 use numbers_in::number;
 ghost use mathlib.Core.Path.{_≡_};
-ghost use mathlib.Core.Bool.{false};
 ghost use Prim.Native.Nat.{_≤_, _<_};
 ghost use lib.ListN.{length};
-ghost use Rattle.answers_jobs.specs.Record.{sameBytes};
+ghost use Rattle.answers_jobs.specs.Record.{sameBytes, rest, replayedOf};
 ghost use Rattle.cutplan.specs.Cutplan.{cutplanOf};
 
 // What came of a record: the number of bytes that were read, and whether the port's answer is the stored one.
@@ -20,7 +19,7 @@ fn broken(s: &[u8]) -> Replayed
     requires { ⌜ 0 < length (now s) ⌝ }
     ensures { λ r. ⌜ 0 < r .size ⌝ }
     ensures { λ r. ⌜ r .size ≤ length (now (s .entry)) ⌝ }
-    ensures { λ r. ⌜ r ≡ record { size = length (now (s .entry)); same = false } ⌝ }
+    ensures { λ r. ⌜ r ≡ rest (now (s .entry)) ⌝ }
 {
     Replayed {
         size: s.len(),
@@ -56,6 +55,7 @@ pub fn replay(s: &[u8]) -> Replayed
     requires { ⌜ 0 < length (now s) ⌝ }
     ensures { λ r. ⌜ 0 < r .size ⌝ }
     ensures { λ r. ⌜ r .size ≤ length (now (s .entry)) ⌝ }
+    ensures { λ r. ⌜ r ≡ replayedOf (now (s .entry)) ⌝ }
 {
     let job = number::u16_at(s, 0) as usize;
     if s.len() < job + 4 {

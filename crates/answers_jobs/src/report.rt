@@ -1,6 +1,6 @@
 // What a program says of its sample.
 ghost use mathlib.Core.Path.{_≡_};
-ghost use Rattle.answers_jobs.specs.Tally.{UpTo, withRecord};
+ghost use Rattle.answers_jobs.specs.Tally.{UpTo, noRecord, tooLong, withRecord};
 
 // A sample has at most so many bytes. A program has room for one more, so that longer input is seen and not cut.
 pub const MOST: usize = 131_072;
@@ -15,7 +15,7 @@ pub struct Tally {
 
 // Nothing is replayed yet.
 pub fn nothing() -> Tally
-    ensures { λ r. ⌜ r ≡ record { records = 0; agreeing = 0; differences = 0 } ⌝ }
+    ensures { λ r. ⌜ r ≡ noRecord ⌝ }
 {
     Tally {
         records: 0,
@@ -26,7 +26,7 @@ pub fn nothing() -> Tally
 
 // Longer input is no sample.
 pub fn too_long() -> Tally
-    ensures { λ r. ⌜ r ≡ record { records = 0; agreeing = 0; differences = 1 } ⌝ }
+    ensures { λ r. ⌜ r ≡ tooLong ⌝ }
 {
     Tally {
         records: 0,

@@ -1,16 +1,20 @@
--- A record is not empty and ends within the sample, so that each brings the end nearer.
+-- A record is not empty and ends within the sample, so that each brings the end nearer, and what is counted with what is left is the whole tally.
 use borrow.Author.Needs.{needs}
+use borrow.Author.Tests.{lt-ltb, le-ltb}
+use borrow.Rule.Slice.PartAt.{part-to-end}
+use mathlib.Core.Path.{sym, ap, _∙_}
 use native.Mathlib.Omega.{arith}
 use Prim.Native.Nat.{_-_, _≤_}
 use lib.ListN.{length}
 use Rattle.answers_jobs.specs.Parts.{rest-length}
-use Rattle.answers_jobs.specs.Tally.{UpTo}
-use Rattle.answers_jobs.specs.TallyLaws.{up-start, up-next, up-more}
+use Rattle.answers_jobs.specs.Record.{replayedOf}
+use Rattle.answers_jobs.specs.Tally.{UpTo, tallyOf}
+use Rattle.answers_jobs.specs.TallyLaws.{Counted, up-start, up-next, up-more, counted-start, counted-next, counted-end}
 use Rattle.answers_jobs.proofs.replay_all.Statement.{statement}
 use Rattle.answers_jobs.proofs.replay_all.Tie as tie
 
 abbrev Inv-loop : tie.InvT-loop
-Inv-loop s tally₀ at₀ tally at = (at ≤ length s) × (length s ≤ 131072) × UpTo at tally
+Inv-loop s tally₀ at₀ tally at = (at ≤ length s) × (length s ≤ 131072) × UpTo at tally × Counted s at tally
 
 abbrev μ-loop : tie.MeasureT-loop
 μ-loop s tally₀ at₀ tally at = length s - at
@@ -19,13 +23,14 @@ too-long-requires : tie.Need-too-long-requires Inv-loop μ-loop
 too-long-requires c κs = search needs
 
 returns : tie.Need-returns Inv-loop μ-loop
-returns c = search needs
+unfolding tallyOf
+returns c = rw (lt-ltb _ _ (c .before .if1 .taken)) (c .too-long .ensures)
 
 nothing-requires : tie.Need-nothing-requires Inv-loop μ-loop
 nothing-requires c κs = search needs
 
 loop-holds : tie.Need-loop-holds Inv-loop μ-loop
-loop-holds c = (omega arith, c .before .if1 .left, up-start _ (c .nothing .ensures))
+loop-holds c = (omega arith, c .before .if1 .left, up-start _ (c .nothing .ensures), counted-start _ _ (c .nothing .ensures))
 
 sub-replay : tie.Need-sub-replay Inv-loop μ-loop
 sub-replay c = search needs
@@ -53,11 +58,20 @@ loop-less c =
 loop-again : tie.Need-loop-again Inv-loop μ-loop
 loop-again c =
     let l = c .before .before .before .before .before .loop in
-    let rest = rest-length (l .at) (c .before .before .before .before .before .before .before .before .before .args .s .now) in
-    (omega (arith, rest), l .inv .1, up-next (l .at) _ (l .tally) _ _ (omega (arith, rest)) (l .inv .2) (c .with-record .ensures))
+    let s = c .before .before .before .before .before .before .before .before .before .args .s .now in
+    let rest = rest-length (l .at) s in
+    let told = c .before .before .replay .ensures in (
+      omega (arith, rest),
+      l .inv .1,
+      up-next (l .at) _ (l .tally) _ _ (omega (arith, rest)) (l .inv .2) (c .with-record .ensures),
+      counted-next s (l .at) (l .tally) _ (c .before .before .replay .result) (c .before .before .before .before .loop-test .taken) (told .0) (told .1 .1 ∙ ap replayedOf (part-to-end s (l .at))) (c .with-record .ensures) (l .inv .3),
+    )
 
 returns-2 : tie.Need-returns-2 Inv-loop μ-loop
-returns-2 c = search needs
+unfolding tallyOf
+returns-2 c =
+    let l = c .before .loop in
+    rw (le-ltb _ _ (l .inv .1)) (sym (counted-end _ (l .at) (l .tally) (c .loop-test .left) (l .inv .3)))
 
 pub replay-all-spec : {M : Type 1} → statement M
 replay-all-spec =
