@@ -1,8 +1,8 @@
 # make run                    the main job: proves and builds the program cutplan, runs it on document 01's recording R, and
 #                             prints its listing; JOB=file runs it on a job of one's own, as tools/job makes it
-# make test                   the gate, which .ci/run calls: every crate proved from nothing, the trace, the reading lists and
-#                             the declarations checked, trials and examples run, stored answers replayed, then the
-#                             comparison with the Rust
+# make test                   the gate, which .ci/run calls: every crate proved from nothing; the floors, the places in work
+#                             memory, the trace, the reading lists and the declarations checked; trials and examples run,
+#                             stored answers replayed; then the comparison with the Rust
 # make compare N=.. SEED=..   the comparison alone, N inputs a subject; SUBJECTS=silences,path names some of them,
 #                             LARGE=.. sets the number of the largest inputs
 # make bench                  times beside the Rust's; PARTS=path names some of them

@@ -15,21 +15,21 @@ withRecord t same = record {
   differences = cond same (t .differences) (t .differences + 1);
 }
 
--- nothing is replayed yet
+-- the tally before the first record
 abbrev pub noRecord : Tally
 noRecord = record { records = 0; agreeing = 0; differences = 0 }
 
--- longer input is no sample
+-- the tally of input that is too long for a sample: one difference
 abbrev pub tooLong : Tally
 tooLong = record { records = 0; agreeing = 0; differences = 1 }
 
--- with the records of s, n of them at most
+-- a tally with the records of s, n of them at most
 unfoldable pub withRecords : ℕ → List ℕ → Tally → Tally
 withRecords zero s t = t
 withRecords (suc n) s t =
     cond (eqb (length s) 0) t (withRecords n (drop (replayedOf s .size) s) (withRecord t (replayedOf s .same)))
 
--- of a sample: a record takes a byte at least, so that it has at most as many records as bytes
+-- the tally of a sample: a record takes a byte at least, so that it has at most as many records as bytes
 unfoldable pub tallyOf : List ℕ → Tally
 tallyOf s = cond (ltb 131072 (length s)) tooLong (withRecords (length s) s noRecord)
 

@@ -37,14 +37,14 @@ up-more n m t h u = record { records-up = omega (arith, u .records-up); agreeing
 -- ---- what is left to count
 
 -- at most `most` records stand behind a place, and with them the tally t is that of the sample
-pub record Counted (s : List ℕ) (at : ℕ) (t : Tally) : Type 0 where
+pub record Tallied (s : List ℕ) (at : ℕ) (t : Tally) : Type 0 where
   pub most : ℕ
   pub enough : length s ≤ at + most
   pub whole : withRecords (length s) s noRecord ≡ withRecords most (drop at s) t
 
 -- before the first record
-pub counted-start : (s : List ℕ) (t : Tally) → t ≡ noRecord → Counted s 0 t
-counted-start s t e = record { most = length s; enough = omega arith; whole = rw e refl }
+pub tallied-start : (s : List ℕ) (t : Tally) → t ≡ noRecord → Tallied s 0 t
+tallied-start s t e = record { most = length s; enough = omega arith; whole = rw e refl }
 
 -- one record is counted where one stands
 records-next : (n : ℕ) (s : List ℕ) (t : Tally) (r : Replayed) → 0 < length s → r ≡ replayedOf s
@@ -53,12 +53,12 @@ unfolding withRecords
 records-next n s t r h e = rw (e, ne-eqb (length s) 0 (λ z. omega (arith, z, h)))
 
 -- with one record more
-pub counted-next : (s : List ℕ) (at : ℕ) (t u : Tally) (r : Replayed) → at < length s → 0 < r .size
-    → r ≡ replayedOf (drop at s) → u ≡ withRecord t (r .same) → Counted s at t → Counted s (at + r .size) u
-counted-next s at t u r h pos e f c = rw f (go (c .most) (c .enough) (c .whole))
+pub tallied-next : (s : List ℕ) (at : ℕ) (t u : Tally) (r : Replayed) → at < length s → 0 < r .size
+    → r ≡ replayedOf (drop at s) → u ≡ withRecord t (r .same) → Tallied s at t → Tallied s (at + r .size) u
+tallied-next s at t u r h pos e f c = rw f (go (c .most) (c .enough) (c .whole))
   where
     go : (n : ℕ) → length s ≤ at + n → withRecords (length s) s noRecord ≡ withRecords n (drop at s) t
-        → Counted s (at + r .size) (withRecord t (r .same))
+        → Tallied s (at + r .size) (withRecord t (r .same))
     go zero enough w = absurd (omega (arith, h, enough))
     go (suc n) enough w = record {
       most = n;
@@ -68,9 +68,9 @@ counted-next s at t u r h pos e f c = rw f (go (c .most) (c .enough) (c .whole))
     }
 
 -- behind the last record
-pub counted-end : (s : List ℕ) (at : ℕ) (t : Tally) → length s ≤ at → Counted s at t → withRecords (length s) s noRecord ≡ t
+pub tallied-end : (s : List ℕ) (at : ℕ) (t : Tally) → length s ≤ at → Tallied s at t → withRecords (length s) s noRecord ≡ t
 unfolding withRecords
-counted-end s at t h c = c .whole ∙ go (c .most)
+tallied-end s at t h c = c .whole ∙ go (c .most)
   where
     go : (n : ℕ) → withRecords n (drop at s) t ≡ t
     go zero = refl

@@ -1,4 +1,5 @@
-// Replays a stored sample of jobs with the listings of the Rust's plans, which stands on standard input, and prints how many records agree and how many differ.
+// Replays a stored sample of jobs with the listings of the Rust's plans, which stands on standard input, and prints how
+// many records agree and how many differ.
 // What a record holds is said in record.rt.
 mod record;
 mod report;
@@ -24,6 +25,7 @@ fn replay_all(s: &[u8]) -> Tally
     tally
 }
 
+// Reads the sample, and prints one line.
 fn main() {
     let mut buf = [0u8; report::MOST + 1];
     let n = io::read_full(0, &mut buf);

@@ -1,4 +1,5 @@
-// One record: the length of a job (16 bits), the job, the length of its listing (16 bits), the listing. Numbers are little-endian, with nothing between the parts.
+// One record: the length of a job (16 bits), the job, the length of its listing (16 bits), the listing. Numbers are
+// little-endian, with nothing between the parts.
 use cutplan::plan;
 use cutplan::plan::LONGEST_LISTING;
 use numbers_in::number;

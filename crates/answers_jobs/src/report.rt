@@ -5,7 +5,8 @@ ghost use Rattle.answers_jobs.specs.Tally.{UpTo, noRecord, tooLong, with
 // A sample has at most so many bytes. A program has room for one more, so that longer input is seen and not cut.
 pub const MOST: usize = 131_072;
 
-// How many records were replayed, how many of them before the first that differs, and how many were answered otherwise or are not whole.
+// How many records were replayed, how many of them before the first that differs, and how many were answered otherwise
+// or are not whole.
 // The last records of a sample are spoiled on purpose: where these three are known, so is which records differ.
 pub struct Tally {
     pub records: u64,

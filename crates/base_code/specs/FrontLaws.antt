@@ -14,7 +14,7 @@ use Rattle.base_laws.specs.Tests.{lt-or-le}
 -- ---- what is at the front, and what is beyond it
 
 module _ {A : Type 0} where
-  -- nothing is written
+  -- where no element is written, the list stays
   pub onto-nil : (xs : List A) → onto [] xs ≡ xs
   unfolding onto
   onto-nil xs = refl
@@ -29,6 +29,7 @@ module _ {A : Type 0} where
   unfolding onto
   onto-at p xs k z h = List·getD-append p (drop (length p) xs) z k h
 
+  -- taken off again, it is what was written
   pub onto-take : (p xs : List A) → take (length p) (onto p xs) ≡ p
   unfolding onto
   onto-take p xs = take-at p (drop (length p) xs) (length p) refl
@@ -54,11 +55,13 @@ module _ {A : Type 0} where
 
   -- ---- the values of a function
 
+  -- there are n of them
   pub tabulate-length : (f : ℕ → A) (n : ℕ) → length (tabulate f n) ≡ n
   unfolding tabulate
   tabulate-length f zero = refl
   tabulate-length f (suc n) = simp length-append (omega (arith, tabulate-length f n))
 
+  -- the one at k is the function's value there
   pub tabulate-at : (f : ℕ → A) (n k : ℕ) (z : A) → k < n → getD (tabulate f n) k z ≡ f k
   unfolding tabulate
   tabulate-at f zero k z h = absurd (omega arith)
@@ -67,13 +70,13 @@ module _ {A : Type 0} where
     | inr g ↦ let e : k ≡ n = omega arith in rw e (getD-at (tabulate f n) (f n) [] z n (tabulate-length f n))
   ]
 
-  -- one more, in front
+  -- one more: the first value stands in front of the others
   pub tabulate-first : (f : ℕ → A) (n : ℕ) → tabulate f (suc n) ≡ f 0 ∷ tabulate (λ (i : ℕ). f (suc i)) n
   unfolding tabulate
   tabulate-first f zero = refl
   tabulate-first f (suc n) = ap (λ (xs : List A). xs ++ (f (suc n) ∷ [])) (tabulate-first f n)
 
-  -- of one value only
+  -- where every value is v, they are v so many times
   pub tabulate-same : (v : A) (n : ℕ) → tabulate (λ (i : ℕ). v) n ≡ replicate n v
   unfolding tabulate
   tabulate-same v zero = refl
@@ -84,9 +87,11 @@ module _ {A : Type 0} where
   unfolding tabulate
   onto-tabulate-next f xs n h = onto-next (tabulate f n) xs n (f n) (tabulate-length f n) h
 
+  -- what stood where they are written does not matter
   pub onto-tabulate-set : (f : ℕ → A) (xs : List A) (n i : ℕ) (v : A) → i < n → onto (tabulate f n) (set xs i v) ≡ onto (tabulate f n) xs
   onto-tabulate-set f xs n i v h = onto-set (tabulate f n) xs i v (rw tabulate-length h)
 
+  -- the first is written
   pub onto-tabulate-one : (f : ℕ → A) (xs : List A) (v : A) → 0 < length xs → v ≡ f 0 → set xs 0 v ≡ onto (tabulate f 1) xs
   unfolding tabulate
   onto-tabulate-one f xs v h e = ap (λ (x : A). set xs 0 x) e ∙ ap (λ (l : List A). set l 0 (f 0)) (sym (onto-nil xs)) ∙ onto-tabulate-next f xs 0 h

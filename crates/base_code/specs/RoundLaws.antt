@@ -79,6 +79,7 @@ zero-doubled m e z =
     let w : toUnsigned 64 (add binary64 (fin true m e) (fin true m e)) ≡ 0 = no-part (add binary64 (fin true m e) (fin true m e)) (rw (double-is true m e) (round-has binary64 true (m * up e * 2) (down e))) in
     record { within = rw w (lit≤ tt); rounds = rw (w, z) (sym (div-eq-of-lt (omega (arith, down-pos e)))) }
 
+-- both facts hold of a value of the format that is zero or more and below 2^52
 pub doubled : (x : Float) → T (fits binary64 x) → T (le (fin false 0 (pos 0)) x) → T (lt x (fin false 1 (pos 52))) → Doubled x
 unfolding le lt eq
 doubled nan f n t = absurd n

@@ -12,9 +12,11 @@ use Rattle.base_laws.specs.Tests.{both}
 use Rattle.base_terms.specs.Lists.{filled}
 use Rattle.base_terms.specs.Work.{Work, cleared, workLength, workOk}
 
+-- a sixteenth of the length is n or more: the list is long enough
 pub long-enough : (n len : ℕ) → n ≤ len / 16 → leb (workLength n) len ≡ true
 long-enough n len h = le-leb (workLength n) len (omega arith)
 
+-- a sixteenth of the length is below n: the list is too short
 pub too-short : (n len : ℕ) → len / 16 < n → leb (workLength n) len ≡ false
 too-short n len h = lt-leb (workLength n) len (omega arith)
 
@@ -24,6 +26,7 @@ pub record WorkIn (n n32 n64 nf : ℕ) : Type 0 where
   pub enough64 : workLength n ≤ n64
   pub enoughf : workLength n ≤ nf
 
+-- test 13 passes lists of that length alone
 pub work-parts : (n n32 n64 nf : ℕ) → workOk n n32 n64 nf ≡ true → WorkIn n n32 n64 nf
 unfolding workOk
 work-parts n n32 n64 nf e =

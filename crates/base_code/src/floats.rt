@@ -74,7 +74,8 @@ pub fn clamp_f64(x: f64, lo: f64, hi: f64) -> f64
     y
 }
 
-// The nearest whole number, halves away from zero, of a value that is not negative. A double is exact, so nothing is rounded on the way.
+// The nearest whole number, halves away from zero, of a value that is not negative. A double is exact, so nothing is
+// rounded on the way.
 pub fn round_half_away(x: f64) -> u64
     requires { ⌜ T (Ieee.le (fin false 0 (pos 0)) x) ⌝ }
     requires { ⌜ T (Ieee.lt x (fin false 1 (pos 52))) ⌝ }

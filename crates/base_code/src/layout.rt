@@ -1,8 +1,10 @@
-// Where each part of each work list stands, in one place: for a recording of so many frames, and for a search over n candidates.
+// Where each part of each work list stands, in one place: for a recording of so many frames, and for a search over n
+// candidates.
 // docs/ARCHITECTURE.md has the picture. The contracts cite specs/Layout of base_terms.
 ghost use mathlib.Core.Path.{_≡_};
 ghost use Prim.Native.Nat.{_<_};
-ghost use Rattle.base_terms.specs.Layout.{side, runsAt, marksAt, entriesAt, searchAt, pathAt, rightsAt, costsAt, scoresAt, endF64};
+ghost use Rattle.base_terms.specs.Layout.{side, runsAt, marksAt, entriesAt, searchAt, pathAt};
+ghost use Rattle.base_terms.specs.Layout.{rightsAt, costsAt, scoresAt, endF64};
 ghost use Rattle.base_terms.specs.Layout.{behindTable, endByLength, behindTree, endByCount};
 
 // The frame boundaries.

@@ -3,7 +3,8 @@ use crate::clear;
 ghost use mathlib.Core.Path.{_≡_};
 ghost use Rattle.base_terms.specs.Work.{workOf, cleared, workOk};
 
-// Test 13: the lengths of the three lists, for n = frames + 1 or the number of candidates. Divided, so that no product is too large for any n.
+// Test 13: the lengths of the three lists, for n = frames + 1 or the number of candidates. Divided, so that no product
+// is too large for any n.
 pub fn work_ok(n: usize, n32: usize, n64: usize, nf: usize) -> bool
     ensures { λ r. ⌜ r ≡ workOk n n32 n64 nf ⌝ }
 {

@@ -39,7 +39,7 @@ of-under s a t b h = elim (lt-or-le (posi s a + nega t b) (posi t b + nega s a))
   | inr g ↦ or-r (below s a t b) (level s a t b) (eq→level s a t b (le-antisymm h g))
 ]
 
--- what `le` says
+-- what `le` says, by cases
 pub le→Le : (x y : Float) → T (le x y) → Le x y
 unfolding le
 le→Le nan y t = t
@@ -55,7 +55,7 @@ le→Le (fin s m e) (inf true) t = t
 le→Le (fin s m e) (inf false) t = tt
 le→Le (fin s m e) (fin u n d) t = to-under s (m * up e * down d) u (n * up d * down e) t
 
--- and when it says so
+-- and back
 pub Le→le : (x y : Float) → Le x y → T (le x y)
 unfolding le
 Le→le nan y h = h
@@ -100,7 +100,7 @@ Le-total (fin s m e) (fin t n d) p q =
     let b = n * up d * down e in
     elim (lt-or-le (posi s a + nega t b) (posi t b + nega s a)) [ inl l ↦ inl (le-of-lt l) | inr g ↦ inr g ]
 
--- it chains
+-- at most chains
 pub Le-trans : (x y z : Float) → Le x y → Le y z → Le x z
 Le-trans nan y z h k = h
 Le-trans (inf s) nan z h k = absurd h

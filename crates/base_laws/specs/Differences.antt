@@ -37,7 +37,7 @@ float-add-finite f (fin s m e) nan h k = absurd k
 float-add-finite f (fin s m e) (inf t) h k = absurd k
 float-add-finite f (fin s m e) (fin t n d) h k = sum-number f s (m * up e * down d) t (n * up d * down e) (down e * down d)
 
--- and as their difference
+-- and a number as their difference
 pub float-sub-finite-number : (f : Format) (x y : Float) → T (not (isNan x)) → T (finite y) → T (not (isNan (sub f x y)))
 unfolding sub
 float-sub-finite-number f x y h k = float-add-finite f x (neg y) h (neg-finite y k)

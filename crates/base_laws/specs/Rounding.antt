@@ -32,7 +32,7 @@ Le-of-values (fin u m e) s a c (fin v n g) t b d C D p q h =
     (subst (λ (i : Bool). Under s (m * up e * down g) i (n * up g * down e)) (sym (q .0))
     (under-transfer s (m * up e) (down e) a c t (n * up g) (down g) b d C D (p .1) (q .1) h))
 
--- a value is finite
+-- what has the value of a fraction is finite
 pub finite-of-value : (x : Float) (s : Bool) (a c : ℕ) → HasValue x s a c → T (finite x)
 finite-of-value nan s a c h = h
 finite-of-value (inf t) s a c h = h

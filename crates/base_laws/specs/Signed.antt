@@ -33,12 +33,12 @@ abbrev pub nega : Bool → ℕ → ℕ
 nega true a = a
 nega false a = 0
 
--- either scales
+-- k times as much counts for k times as much, above zero
 pub posi-scale : (s : Bool) (a k : ℕ) → posi s (a * k) ≡ posi s a * k
 posi-scale true a k = sym (zero-mul k)
 posi-scale false a k = refl
 
--- as does the other
+-- and below zero
 pub nega-scale : (s : Bool) (a k : ℕ) → nega s (a * k) ≡ nega s a * k
 nega-scale true a k = refl
 nega-scale false a k = sym (zero-mul k)
@@ -49,14 +49,14 @@ nega-scale false a k = sym (zero-mul k)
 abbrev pub Under : Bool → ℕ → Bool → ℕ → Type 0
 Under s a t b = posi s a + nega t b ≤ posi t b + nega s a
 
--- scaled, it holds
+-- both sides multiplied, it still holds
 pub under-scale : (s : Bool) (a : ℕ) (t : Bool) (b k : ℕ) → Under s a t b → Under s (a * k) t (b * k)
 under-scale s a t b k h = simp (posi-scale, nega-scale) (simp add-mul at (mul-le-mul-right k h))
 
 under-unscale : (s : Bool) (a : ℕ) (t : Bool) (b k : ℕ) → 0 < k → Under s (a * k) t (b * k) → Under s a t b
 under-unscale s a t b k K h = le-of-mul-le-mul-right (rw (add-mul (posi s a), add-mul (posi t b)) (simp (posi-scale, nega-scale) at h)) K
 
--- negated, it turns round
+-- both sides negated, it holds the other way round
 pub under-flip : (s : Bool) (a : ℕ) (t : Bool) (b : ℕ) → Under s a t b → Under (not t) b (not s) a
 under-flip true a true b h = omega arith
 under-flip true a false b h = omega arith

@@ -3,7 +3,7 @@ use Prim.Native.Nat.{ℕ, _+_, _*_}
 
 -- ---- a plan of a recording of so many frames
 
--- the frame boundaries: a part has one place for each of them, or some
+-- how many frame boundaries there are; a part has a place for each of them, or several
 abbrev pub side : ℕ → ℕ
 side frames = frames + 1
 

@@ -12,6 +12,7 @@ pub record Work : Type 0 where
   pub u64s : List ℕ
   pub f64s : List Float
 
+-- the work lists, from the three
 abbrev pub workOf : List ℕ → List ℕ → List Float → Work
 workOf u32s u64s f64s = record { u32s = u32s; u64s = u64s; f64s = f64s }
 

@@ -21,8 +21,8 @@ use Rattle.base_laws.specs.Whole.{whole-mono, whole-nonneg}
 use Rattle.base_laws.specs.Clamp.{min-one, min-below}
 use Rattle.grid.specs.Limits.{maxDuration, nanosPerSec}
 use Rattle.grid.specs.Durations.{secondsOf}
-use Rattle.candidate_settings.specs.Tests.{weightsOk}
-use Rattle.candidate_settings.specs.TestsLaws.{Weight, Weighed, weights-parts}
+use Rattle.plan_settings.specs.Tests.{weightsOk}
+use Rattle.plan_settings.specs.TestsLaws.{Weight, Weighed, weights-parts}
 use Rattle.path_pieces.specs.declared.weights.Weights.{Weights}
 use Rattle.candidate_costs.specs.Normalize.{unit}
 use Rattle.candidate_costs.specs.NormalizeLaws.{OnScale, scale-finite}

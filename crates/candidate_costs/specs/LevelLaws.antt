@@ -40,18 +40,21 @@ module _ (f : ℕ → Float) (n : ℕ) where
   frames-length : length (tabulate f n) ≡ n
   frames-length = tabulate-length f n
 
+  -- the first boundary has the level of the first frame
   pub level-first : 0 < n → levelAt (tabulate f n) 0 ≡ div binary64 (f 0) unit
   unfolding levelAt
   level-first h =
       ap meanOf (around-first (tabulate f n) nan (omega (arith, frames-length))) ∙ mean-one (getD (tabulate f n) 0 nan)
       ∙ ap (λ (x : Float). div binary64 x unit) (tabulate-at f n 0 nan h)
 
+  -- a boundary between two frames has their mean
   pub level-inner : (k : ℕ) → suc k < n → levelAt (tabulate f n) (suc k) ≡ div binary64 (add binary64 (f k) (f (suc k))) double
   unfolding levelAt
   level-inner k h =
       ap meanOf (around-inner (tabulate f n) k nan (omega (arith, frames-length))) ∙ mean-two (getD (tabulate f n) k nan) (getD (tabulate f n) (suc k) nan)
       ∙ rw (tabulate-at f n k nan (omega arith), tabulate-at f n (suc k) nan h)
 
+  -- the last boundary has the level of the last frame
   pub level-last : (k : ℕ) → suc k ≡ n → levelAt (tabulate f n) (suc k) ≡ div binary64 (f k) unit
   unfolding levelAt
   level-last k h =
@@ -78,6 +81,7 @@ module _ (f : ℕ → Float) (n : ℕ) where
       let g = levelAt (tabulate f n) in
       search (arith, length-set out 0 v, onto-tabulate-one g out v (omega arith) (rw e (sym (level-first h))) ∙ sym (onto-tabulate-set g out 1 0 v (omega arith)))
 
+  -- each next one is written from the frame before it and the one after it
   pub levelling-next : (out₀ : List Float) (end : ℕ) (out : List Float) (before here : Float) (k : ℕ) → k < end → here ≡ f k
       → Levelling out₀ end out before k → Levelling out₀ end (set out k (div binary64 (add binary64 before here) double)) here (k + 1)
   levelling-next out₀ end out before here zero l e w = absurd (not-suc-le-zero (w .some))
@@ -108,9 +112,10 @@ module _ (f : ℕ → Float) (n : ℕ) where
 -- ---- what the code asks of its input
 
 -- windows for the values, and for decibels a level lent for each
-pub record Measured (domain : Domain) (width : ℕ) (values lent : List Float) : Type 0 where
+pub record Measured (domain : Domain) (width : ℕ) (values levels : List Float) : Type 0 where
   pub windows : Windowed width values
-  pub lends : length lent ≡ levelCount domain (length values)
+  pub lends : length levels ≡ levelCount domain (length values)
 
-pub lent-each : (domain : Domain) (width : ℕ) (values lent : List Float) → _≡_ {A = Domain} domain Decibels → Measured domain width values lent → length lent ≡ length values
-lent-each domain width values lent e m = m .lends ∙ ap (λ (d : Domain). levelCount d (length values)) e
+-- of decibels a level is lent for each value
+pub lent-each : (domain : Domain) (width : ℕ) (values levels : List Float) → _≡_ {A = Domain} domain Decibels → Measured domain width values levels → length levels ≡ length values
+lent-each domain width values levels e m = m .lends ∙ ap (λ (d : Domain). levelCount d (length values)) e

@@ -17,9 +17,9 @@ minRange = ofInt binary64 (pos 20)
 
 -- how many decibels the scale spans: the reference less the floor, in f32, and 20 at least
 unfoldable pub rangeOf : Levels → Float
-rangeOf levels = maxOf (sub binary32 (levels .reference) (levels .floor)) minRange
+rangeOf scale = maxOf (sub binary32 (scale .reference) (scale .floor)) minRange
 
 -- a value on the scale: scores are on it already, decibels are scaled between the floor and the reference
 unfoldable pub normalizeOf : Domain → Levels → Float → Float
-normalizeOf Scores levels value = clampOf value nought unit
-normalizeOf Decibels levels value = clampOf (div binary64 (sub binary64 value (levels .floor)) (rangeOf levels)) nought unit
+normalizeOf Scores scale value = clampOf value nought unit
+normalizeOf Decibels scale value = clampOf (div binary64 (sub binary64 value (scale .floor)) (rangeOf scale)) nought unit

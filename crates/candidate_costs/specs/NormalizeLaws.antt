@@ -21,25 +21,26 @@ pub record OnScale (x : Float) : Type 0 where
   pub low : T (le nought x)
   pub high : T (le x unit)
 
+-- a number from 0 to 1 is finite
 pub scale-finite : (x : Float) → OnScale x → T (finite x)
 scale-finite x s = finite-between nought x unit tt tt (s .low) (s .high)
 
 -- ---- the scale of decibels
 
 -- a floor and a reference that are finite
-pub record Scaled (levels : Levels) : Type 0 where
-  pub low-end : isFinite (levels .floor) ≡ true
-  pub high-end : isFinite (levels .reference) ≡ true
+pub record Scaled (scale : Levels) : Type 0 where
+  pub low-end : isFinite (scale .floor) ≡ true
+  pub high-end : isFinite (scale .reference) ≡ true
 
 -- their difference is a number
-pub span-number : (levels : Levels) → Scaled levels → T (not (isNan (sub binary32 (levels .reference) (levels .floor))))
-span-number levels s =
-    float-sub-finite-number binary32 (levels .reference) (levels .floor) (value-number (levels .reference) (s .high-end)) (value-finite (levels .floor) (s .low-end))
+pub span-number : (scale : Levels) → Scaled scale → T (not (isNan (sub binary32 (scale .reference) (scale .floor))))
+span-number scale s =
+    float-sub-finite-number binary32 (scale .reference) (scale .floor) (value-number (scale .reference) (s .high-end)) (value-finite (scale .floor) (s .low-end))
 
 -- the range is 20 at least
-range-least : (levels : Levels) → Scaled levels → T (le minRange (rangeOf levels))
+range-least : (scale : Levels) → Scaled scale → T (le minRange (rangeOf scale))
 unfolding rangeOf isNan ofInt round
-range-least levels s = max-above (sub binary32 (levels .reference) (levels .floor)) minRange (span-number levels s) tt .1
+range-least scale s = max-above (sub binary32 (scale .reference) (scale .floor)) minRange (span-number scale s) tt .1
 
 -- a finite value over such a range is a number
 scaled-number : (x range : Float) → T (finite x) → T (le minRange range) → T (not (isNan (div binary64 x range)))
@@ -59,15 +60,15 @@ unfolding le lt eq
 clamped x n = let r = clamp-range x nought unit n tt in record { low = r .0; high = r .1 }
 
 -- a number becomes a score
-pub score-scale : (levels : Levels) (x : Float) → T (not (isNan x)) → OnScale (normalizeOf Scores levels x)
+pub score-scale : (scale : Levels) (x : Float) → T (not (isNan x)) → OnScale (normalizeOf Scores scale x)
 unfolding normalizeOf
-score-scale levels x n = clamped x n
+score-scale scale x n = clamped x n
 
 -- and a finite f64 a level of decibels, where the floor is a finite f32
-pub decibel-scale : (levels : Levels) (x : Float) → Scaled levels → T (fits binary32 (levels .floor)) → T (finite x) → T (fits binary64 x)
-    → OnScale (normalizeOf Decibels levels x)
+pub decibel-scale : (scale : Levels) (x : Float) → Scaled scale → T (fits binary32 (scale .floor)) → T (finite x) → T (fits binary64 x)
+    → OnScale (normalizeOf Decibels scale x)
 unfolding normalizeOf
-decibel-scale levels x s g p f =
-    let above : Float = sub binary64 x (levels .floor) in
-    clamped (div binary64 above (rangeOf levels))
-    (scaled-number above (rangeOf levels) (difference-finite x (levels .floor) p (value-finite (levels .floor) (s .low-end)) f g) (range-least levels s))
+decibel-scale scale x s g p f =
+    let above : Float = sub binary64 x (scale .floor) in
+    clamped (div binary64 above (rangeOf scale))
+    (scaled-number above (rangeOf scale) (difference-finite x (scale .floor) p (value-finite (scale .floor) (s .low-end)) f g) (range-least scale s))

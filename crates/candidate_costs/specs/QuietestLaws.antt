@@ -106,6 +106,7 @@ pub record Seeking (levels : List Float) (from to best k : ℕ) : Type 0 where
   pub left : quietestIn levels (to - k) best k ≡ quietestOf levels from to
 
 module _ (levels : List Float) (from to : ℕ) where
+  -- of one boundary that one is the quietest
   pub seeking-start : from < to → Seeking levels from to from (from + 1)
   seeking-start h = record { within = omega arith; below = omega arith; left = unfold quietestOf in rw add-one }
 
@@ -114,6 +115,7 @@ module _ (levels : List Float) (from to : ℕ) where
   lesser false b k h = omega arith
 
   module _ (best k : ℕ) (w : Seeking levels from to best k) where
+    -- one boundary more: the quieter of the two goes on
     pub seeking-next : (r : ℕ) → k < to → r ≡ quieter levels best k → Seeking levels from to r (k + 1)
     unfolding quieter
     seeking-next r h e =
@@ -121,6 +123,7 @@ module _ (levels : List Float) (from to : ℕ) where
         let moved : quietestIn levels (to - suc k) r (suc k) ≡ quietestIn levels (to - k) best k = rw more (unfold quietestIn in unfold quieter in rw e) in
         record { within = omega arith; below = rw e (lesser (le (getD levels best nan) (getD levels k nan)) best k (w .below)); left = rw add-one (moved ∙ w .left) }
 
+    -- after the last one it is the quietest of all
     pub seeking-done : to ≤ k → best ≡ quietestOf levels from to
     seeking-done h =
         let whole : (left : ℕ) → left ≡ 0 → quietestIn levels left best k ≡ best = λ left e. unfold quietestIn in rw e in

@@ -39,15 +39,18 @@ unfolding mostOf
 most-two x y = omega arith
 
 module _ (runs : List ℕ) where
+  -- at the first boundary it is that of the first frame
   pub stretch-first : 0 < length runs → getD runs 0 0 ≡ stretchAt runs 0
   unfolding stretchAt
   stretch-first h = rw (around-first runs 0 h) (most-one (getD runs 0 0))
 
+  -- between two frames it is the longer of theirs
   pub stretch-inner : (k : ℕ) → 0 < k → k < length runs → max (getD runs (k - 1) 0) (getD runs k 0) ≡ stretchAt runs k
   unfolding stretchAt
   stretch-inner zero s h = absurd (omega arith)
   stretch-inner (suc k) s h = rw (around-inner runs k 0 h, one-back k) (most-two (getD runs k 0) (getD runs (suc k) 0))
 
+  -- at the last boundary it is that of the last frame
   pub stretch-last : (k : ℕ) → 0 < k → k ≡ length runs → getD runs (k - 1) 0 ≡ stretchAt runs k
   unfolding stretchAt
   stretch-last zero s h = absurd (omega arith)

@@ -27,6 +27,7 @@ use Rattle.candidate_costs.specs.Window.{partOf, clipped, halfOf, window
 
 -- ---- parts
 
+-- the number before the one after k is k
 pub one-back : (k : ℕ) → suc k - 1 ≡ k
 one-back k = omega arith
 
@@ -43,9 +44,11 @@ module _ {A : Type 0} where
   all-take p (suc n) [] e = refl
   all-take p (suc n) (x ∷ xs) e = let a = all-parts p x xs e in rw (a .0, all-take p n xs (a .1))
 
+  -- what every element passes, every element of a part passes
   pub all-part : (p : A → Bool) (from to : ℕ) (xs : List A) → allOf p xs ≡ true → allOf p (partOf from to xs) ≡ true
   all-part p from to xs e = all-take p (to - from) (drop from xs) (all-drop p from xs e)
 
+  -- a part has as many elements as lie between its ends
   pub part-length : (from to : ℕ) (xs : List A) → to ≤ length xs → length (partOf from to xs) ≡ to - from
   part-length from to xs h = simp (length-take, length-drop) (omega arith)
 
@@ -57,14 +60,17 @@ module _ {A : Type 0} where
   two : (xs : List A) (from to : ℕ) (z : A) → suc from < length xs → to - from ≡ 2 → partOf from to xs ≡ getD xs from z ∷ (getD xs (suc from) z ∷ [])
   two xs from to z h e = rw (e, drop-cons xs from z (omega arith), drop-cons xs (suc from) z h)
 
+  -- at the first boundary there is one element, the first
   pub around-first : (xs : List A) (z : A) → 0 < length xs → clipped 1 1 xs 0 ≡ getD xs 0 z ∷ []
   unfolding clipped
   around-first xs z h = one xs (0 - 1) (min (0 + 1) (length xs)) z (omega arith) (omega arith)
 
+  -- between two elements there are both
   pub around-inner : (xs : List A) (k : ℕ) (z : A) → suc k < length xs → clipped 1 1 xs (suc k) ≡ getD xs k z ∷ (getD xs (suc k) z ∷ [])
   unfolding clipped
   around-inner xs k z h = rw (one-back k) (two xs k (min (suc k + 1) (length xs)) z h (omega arith))
 
+  -- at the last boundary there is one, the last
   pub around-last : (xs : List A) (k : ℕ) (z : A) → suc k ≡ length xs → clipped 1 1 xs (suc k) ≡ getD xs k z ∷ []
   unfolding clipped
   around-last xs k z h = rw (one-back k) (one xs k (min (suc k + 1) (length xs)) z (omega arith) (omega arith))
@@ -93,11 +99,12 @@ pub window-mean : (width : ℕ) (values : List Float) (i from to : ℕ) → from
 unfolding meanOf windowOf clipped
 window-mean width values i from to a b total e = rw (← a, ← b, part-length from to values (omega (arith, b)), e)
 
--- the smoothing width is one of those
+-- the smoothing width is one at least
 pub width-some : (frameRate hop : ℕ) → 0 < widthOf frameRate hop
 unfolding widthOf
 width-some frameRate hop = omega arith
 
+-- and no wider than the widest
 pub width-narrow : (frameRate hop : ℕ) → InFrames frameRate hop smoothing → widthOf frameRate hop ≤ maxWidth
 unfolding widthOf framesCeil
 width-narrow frameRate hop w =
@@ -114,17 +121,20 @@ pub record Summing (part : List Float) (end : ℕ) (total : Float) (i : ℕ) : T
   pub ends : end ≡ length part
   pub left : sumFrom total (drop i part) ≡ sumOf part
 
+-- the sum starts with the first value
 pub summing-start : (part : List Float) → 0 < length part → Summing part (length part) (getD part 0 nan) 1
 unfolding sumOf
 summing-start [] h = absurd (not-suc-le-zero h)
 summing-start (x ∷ xs) h = record { within = omega arith; ends = refl; left = refl }
 
+-- a value more is added
 pub summing-next : (part : List Float) (end : ℕ) (total : Float) (i : ℕ) → i < end → Summing part end total i
     → Summing part end (add binary64 total (getD part i nan)) (i + 1)
 unfolding sumFrom
 summing-next part end total i l w =
     search (arith, add-one, ap (sumFrom total) (sym (drop-cons part i nan (omega (arith, w .ends)))) ∙ w .left)
 
+-- after the last one it is the sum of the part
 pub summing-done : (part : List Float) (end : ℕ) (total : Float) (i : ℕ) → end ≤ i → Summing part end total i → total ≡ sumOf part
 unfolding sumFrom
 summing-done part end total i l w =

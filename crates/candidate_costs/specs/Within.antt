@@ -70,34 +70,34 @@ mean-scale f n (suc k) g h l =
 -- ---- the levels of a recording
 
 -- what tests 4 and 5 leave of a recording's lists, beside what their types say: an f32 for each value, an f64 for each level
-pub record Levelled (domain : Domain) (levels : Levels) (width : ℕ) (values : List Float) (flags : List ℕ) (lent : List Float) : Type 0 where
-  pub measured : Measured domain width values lent
-  pub scaled : Scaled levels
-  pub accepted : valuesOk domain values flags lent ≡ true
-  pub floor-fits : T (fits binary32 (levels .floor))
-  pub lent-fits : (i : ℕ) → T (fits binary64 (getD lent i nan))
+pub record Levelled (domain : Domain) (scale : Levels) (width : ℕ) (values : List Float) (flags : List ℕ) (levels : List Float) : Type 0 where
+  pub measured : Measured domain width values levels
+  pub scaled : Scaled scale
+  pub accepted : valuesOk domain values flags levels ≡ true
+  pub floor-fits : T (fits binary32 (scale .floor))
+  pub lent-fits : (i : ℕ) → T (fits binary64 (getD levels i nan))
 
-module _ (levels : Levels) (width : ℕ) (values : List Float) (flags : List ℕ) (lent : List Float) where
+module _ (scale : Levels) (width : ℕ) (values : List Float) (flags : List ℕ) (levels : List Float) where
   -- the level of a frame is on the scale
-  pub frame-within : (domain : Domain) → Levelled domain levels width values flags lent → (i : ℕ) → i < length values
-      → OnScale (frameLevel domain levels width values lent i)
+  pub frame-within : (domain : Domain) → Levelled domain scale width values flags levels → (i : ℕ) → i < length values
+      → OnScale (frameLevel domain scale width values levels i)
   unfolding frameLevel smoothedAt valuesOk
   frame-within Scores w i h =
-      score-scale levels (smoothedAt Scores width values lent i)
-      (nonneg-number (smoothedAt Scores width values lent i)
+      score-scale scale (smoothedAt Scores width values levels i)
+      (nonneg-number (smoothedAt Scores width values levels i)
       (window-nonneg width values i (w .measured .windows) h (both (allOf isScore values) (allOf isUnflagged flags) (w .accepted) .0)))
   frame-within Decibels w i h =
-      let each : allOf isFinite lent ≡ true = both (allOf isFinite values && allOf isFlag flags) (allOf isFinite lent) (w .accepted) .1 in
-      let l : length lent ≡ length values = lent-each Decibels width values lent refl (w .measured) in
-      decibel-scale levels (getD lent i nan) (w .scaled) (w .floor-fits) (value-finite (getD lent i nan) (all-at isFinite lent i nan (omega (arith, l)) each)) (w .lent-fits i)
+      let each : allOf isFinite levels ≡ true = both (allOf isFinite values && allOf isFlag flags) (allOf isFinite levels) (w .accepted) .1 in
+      let l : length levels ≡ length values = lent-each Decibels width values levels refl (w .measured) in
+      decibel-scale scale (getD levels i nan) (w .scaled) (w .floor-fits) (value-finite (getD levels i nan) (all-at isFinite levels i nan (omega (arith, l)) each)) (w .lent-fits i)
 
   -- so is that of a boundary
-  pub level-within : (domain : Domain) → Levelled domain levels width values flags lent → 0 < length values → (k : ℕ) → k ≤ length values
-      → OnScale (getD (boundaryLevels domain levels width values lent) k nan)
+  pub level-within : (domain : Domain) → Levelled domain scale width values flags levels → 0 < length values → (k : ℕ) → k ≤ length values
+      → OnScale (getD (boundaryLevels domain scale width values levels) k nan)
   unfolding boundaryLevels
   level-within domain w h k l =
-      rw (tabulate-at (levelAt (tabulate (frameLevel domain levels width values lent) (length values))) (suc (length values)) k nan (omega arith))
-      (mean-scale (frameLevel domain levels width values lent) (length values) k (frame-within domain w) h l)
+      rw (tabulate-at (levelAt (tabulate (frameLevel domain scale width values levels) (length values))) (suc (length values)) k nan (omega arith))
+      (mean-scale (frameLevel domain scale width values levels) (length values) k (frame-within domain w) h l)
 
 -- ---- floor and reference of an accepted recording
 
@@ -125,28 +125,28 @@ smoothing-frames rate frameRate hop e =
       time = lit≤ tt;
     }
 
-module _ (r : Recording) (values : List Float) (flags : List ℕ) (lent : List Float) (p : AcceptedRecording r values flags lent) where
+module _ (r : Recording) (values : List Float) (flags : List ℕ) (levels : List Float) (p : AcceptedRecording r values flags levels) where
   -- its windows
-  pub passed-measured : Measured (r .domain) (widthOf (r .«frame_rate») (r .hop)) values lent
+  pub passed-measured : Measured (r .domain) (widthOf (r .«frame_rate») (r .hop)) values levels
   passed-measured =
-      let l = lists-parts (r .domain) (length values) (length flags) (length lent) (p .lists) in
+      let l = lists-parts (r .domain) (length values) (length flags) (length levels) (p .lists) in
       record {
         windows = record {
           some = width-some (r .«frame_rate») (r .hop);
           narrow = width-narrow (r .«frame_rate») (r .hop) (smoothing-frames (r .«sample_rate») (r .«frame_rate») (r .hop) (p .frames));
           few = leb→le (length values) maxFrames (holds (l .0));
-          bounded = values-finite (r .domain) values flags lent (p .within);
+          bounded = values-finite (r .domain) values flags levels (p .within);
         };
-        lends = eqb→eq (length lent) (levelCount (r .domain) (length values)) (holds (l .2));
+        lends = eqb→eq (length levels) (levelCount (r .domain) (length values)) (holds (l .2));
       }
 
   -- and its levels, under any threshold
-  pub passed-levelled : (threshold : Threshold) → ((i : ℕ) → T (fits binary32 (getD values i nan))) → ((i : ℕ) → T (fits binary64 (getD lent i nan)))
-      → Levelled (r .domain) (levelsOf (r .domain) threshold values flags) (widthOf (r .«frame_rate») (r .hop)) values flags lent
+  pub passed-levelled : (threshold : Threshold) → ((i : ℕ) → T (fits binary32 (getD values i nan))) → ((i : ℕ) → T (fits binary64 (getD levels i nan)))
+      → Levelled (r .domain) (levelsOf (r .domain) threshold values flags) (widthOf (r .«frame_rate») (r .hop)) values flags levels
   passed-levelled threshold f g =
       record {
         measured = passed-measured;
-        scaled = levels-scaled (r .domain) threshold values flags (values-finite (r .domain) values flags lent (p .within));
+        scaled = levels-scaled (r .domain) threshold values flags (values-finite (r .domain) values flags levels (p .within));
         accepted = p .within;
         floor-fits = floor-held (r .domain) threshold values flags f;
         lent-fits = g;

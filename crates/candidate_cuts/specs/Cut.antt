@@ -9,12 +9,13 @@ use lib.Ieee.{Float, nan, inf}
 use lib.ListN.{length, getD}
 use Rattle.base_terms.specs.Floats.{minOf}
 use Rattle.grid.specs.Limits.{maxFrames}
-use Rattle.candidate_settings.specs.declared.config.Gap.{Gap}
-use Rattle.candidate_settings.specs.declared.config.Gap.the-variants.{Keep, Drop}
-use Rattle.candidate_settings.specs.declared.config.Placement.{Placement}
+use Rattle.plan_settings.specs.declared.config.Gap.{Gap}
+use Rattle.plan_settings.specs.declared.config.Gap.the-variants.{Keep, Drop}
+use Rattle.plan_settings.specs.declared.config.Placement.{Placement}
+use Rattle.candidate_span.specs.declared.padding.Padding.{Padding}
 use Rattle.candidate_span.specs.Bounds.{lowOf, highOf}
 use Rattle.candidate_span.specs.Listed.{startAt, endAt}
-use Rattle.candidate_settings.specs.Tests.{ratioOk}
+use Rattle.plan_settings.specs.Tests.{ratioOk}
 use Rattle.candidate_cuts.specs.declared.cut.SilenceCut.{SilenceCut}
 use Rattle.candidate_cuts.specs.Place.{chosenBy}
 
@@ -42,16 +43,16 @@ unfoldable pub openCut : Gap → Placement → List Float → ℕ → ℕ → �
 openCut Keep placement levels start end lo hi = pointCut levels (chosenBy placement levels lo hi)
 openCut Drop placement levels start end lo hi = record { left = lo; right = hi; level = leastLevel levels start end }
 
--- the candidate of a silence of n frames, with `pre` frames kept before sound and `tail` after it
-unfoldable pub silenceCut : Gap → Placement → ℕ → ℕ → ℕ → List Float → ℕ → ℕ → SilenceCut
-silenceCut gap placement n pre tail levels start end =
-    let lo = lowOf n tail start in
-    let hi = highOf n pre end in
+-- document 01's silence candidate: both its ends, and the level that its cost is made with
+unfoldable pub silenceCut : Gap → Placement → Padding → List Float → ℕ → ℕ → SilenceCut
+silenceCut gap placement p levels start end =
+    let lo = lowOf p start in
+    let hi = highOf p end in
     cond (ltb hi lo) (pointCut levels (splitPoint hi lo start end)) (openCut gap placement levels start end lo hi)
 
 -- the candidate of silence i of a list
-abbrev pub cutAt : Gap → Placement → ℕ → ℕ → ℕ → List Float → List ℕ → ℕ → SilenceCut
-cutAt gap placement n pre tail levels ss i = silenceCut gap placement n pre tail levels (startAt ss i) (endAt ss i)
+abbrev pub cutAt : Gap → Placement → Padding → List Float → List ℕ → ℕ → SilenceCut
+cutAt gap placement p levels ss i = silenceCut gap placement p levels (startAt ss i) (endAt ss i)
 
 -- ---- what it asks
 

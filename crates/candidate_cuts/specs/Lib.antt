@@ -1,3 +1,5 @@
+-- A silence's own candidate: where it is cut, and at which level.
+
 -- Place: the boundary that a placement chooses (`chosenBy`, `shareOf`)
 pub mod Place
 -- ShareLaws: a ratio's share of a width is at most the width (`share-within`)

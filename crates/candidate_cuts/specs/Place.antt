@@ -9,9 +9,9 @@ use lib.Ieee.{Float, binary64, mul, ofInt}
 use lib.ListN.{length}
 use Rattle.base_terms.specs.Round.{halfAway}
 use Rattle.grid.specs.Limits.{maxFrames}
-use Rattle.candidate_settings.specs.declared.config.Placement.{Placement}
-use Rattle.candidate_settings.specs.declared.config.Placement.the-variants.{Quietest, Center, Ratio}
-use Rattle.candidate_settings.specs.Tests.{ratioOk}
+use Rattle.plan_settings.specs.declared.config.Placement.{Placement}
+use Rattle.plan_settings.specs.declared.config.Placement.the-variants.{Quietest, Center, Ratio}
+use Rattle.plan_settings.specs.Tests.{ratioOk}
 use Rattle.candidate_costs.specs.Quietest.{quietestOf}
 
 -- ---- definitions
@@ -20,6 +20,7 @@ use Rattle.candidate_costs.specs.Quietest.{quietestOf}
 unfoldable pub shareOf : Float → ℕ → ℕ
 shareOf ratio frames = halfAway (mul binary64 ratio (ofInt binary64 (pos frames)))
 
+-- the boundary that the placement chooses
 unfoldable pub chosenBy : Placement → List Float → ℕ → ℕ → ℕ
 chosenBy Quietest levels lo hi = quietestOf levels lo (hi + 1)
 chosenBy Center levels lo hi = (lo + hi) / 2
@@ -33,6 +34,7 @@ pub record WithLevels (levels : List Float) (lo hi : ℕ) : Type 0 where
   pub held : hi < length levels
   pub few : hi ≤ maxFrames
 
+-- boundaries in order, each with a level, and a ratio that test 9 passes
 pub record Placeable (placement : Placement) (levels : List Float) (lo hi : ℕ) : Type 0 where
   pub bounded : WithLevels levels lo hi
   pub ratio : ratioOk placement ≡ true

@@ -1,9 +1,10 @@
 // The cut in a silence that has sound on both sides.
 use crate::place;
 use base_code::floats;
-use candidate_settings::config::Gap;
-use candidate_settings::config::Placement;
 use candidate_span::bounds;
+use candidate_span::padding::Padding;
+use plan_settings::config::Gap;
+use plan_settings::config::Placement;
 ghost use mathlib.Core.Path.{_≡_};
 ghost use Prim.Native.Nat.{_≤_, _<_};
 ghost use lib.ListN.{length};
@@ -58,21 +59,20 @@ fn point_cut(levels: &[f64], k: usize) -> SilenceCut
     }
 }
 
-// The candidate of the silence from frame `start` to before frame `end`. `levels` has one level for each frame boundary.
+// The candidate of the silence from frame `start` to before frame `end`. `levels` has one level for each frame
+// boundary.
 pub fn silence_cut(
     gap: Gap,
     placement: Placement,
-    n: usize,
-    pre: usize,
-    tail: usize,
+    p: Padding,
     levels: &[f64],
     start: usize,
     end: usize,
 ) -> SilenceCut
-    requires { ⌜ Inner placement n (now levels) start end ⌝ }
-    ensures { λ r. ⌜ r ≡ silenceCut gap placement n pre tail (now (levels .entry)) start end ⌝ }
+    requires { ⌜ Inner placement (p .frames) (now levels) start end ⌝ }
+    ensures { λ r. ⌜ r ≡ silenceCut gap placement p (now (levels .entry)) start end ⌝ }
 {
-    let b = bounds::silence_bounds(n, pre, tail, start, end);
+    let b = bounds::silence_bounds(p, start, end);
     if b.hi < b.lo {
         return point_cut(levels, split_point(b.hi, b.lo, start, end));
     }

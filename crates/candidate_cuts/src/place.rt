@@ -1,7 +1,7 @@
 // Where a silence that is longer than its padding is cut.
 use base_code::floats;
 use candidate_costs::quietest;
-use candidate_settings::config::Placement;
+use plan_settings::config::Placement;
 ghost use mathlib.Core.Path.{_≡_};
 ghost use mathlib.Core.Bool.{true};
 ghost use Prim.Native.Nat.{_≤_};

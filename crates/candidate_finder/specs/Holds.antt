@@ -8,6 +8,7 @@ use lib.Ieee.{Float}
 use lib.ListN.{length, take, drop}
 use lib.Seq.{take-at}
 use borrow.Rule.Slice.PartMut.{putMid}
+use Rattle.base_terms.specs.Layout.{runsAt}
 use Rattle.base_terms.specs.Lists.{onto}
 use Rattle.base_terms.specs.Work.{workLength}
 use Rattle.base_code.specs.FrontLaws.{onto-take, tabulate-length}
@@ -35,20 +36,20 @@ use Rattle.candidate_finder.specs.CandidatesIn.{recordingLevels, runsIn,
 use Rattle.candidate_finder.specs.NeededLevels.{neededLevels, needed-on, needed-off, needed-levels}
 
 -- a recording that can be measured in lists of these lengths
-pub record Measurable (r : Recording) (segment : SegmentConfig) (values : List Float) (flags : List ℕ) (lent : List Float) (n32 nf : ℕ) : Type 0 where
+pub record Measurable (r : Recording) (segment : SegmentConfig) (values : List Float) (flags : List ℕ) (levels : List Float) (n32 nf : ℕ) : Type 0 where
   pub sounds : SoundReady r segment values flags
   pub smoothed : InFrames (r .«frame_rate») (r .hop) smoothing
-  pub measured : Measured (r .domain) (widthOf (r .«frame_rate») (r .hop)) values lent
+  pub measured : Measured (r .domain) (widthOf (r .«frame_rate») (r .hop)) values levels
   pub scaled : Scaled (recordingLevels r segment values flags)
   pub room : workLength (length values + 1) ≤ n32
   pub roomf : workLength (length values + 1) ≤ nf
 
 -- a measured recording, with so many silences
-pub record Holds (r : Recording) (segment : SegmentConfig) (values : List Float) (flags : List ℕ) (lent : List Float) (count : ℕ) (work : List ℕ) (workf : List Float) : Type 0 where
-  pub counted : 2 * count ≡ length (silencesIn r segment values flags)
-  pub silences : silencesHeld count work ≡ silencesIn r segment values flags
+pub record Holds (r : Recording) (segment : SegmentConfig) (values : List Float) (flags : List ℕ) (levels : List Float) (silences : ℕ) (work : List ℕ) (workf : List Float) : Type 0 where
+  pub counted : 2 * silences ≡ length (silencesIn r segment values flags)
+  pub listed : silencesHeld silences work ≡ silencesIn r segment values flags
   pub runs : runsHeld (length values) work ≡ runsIn r segment values flags
-  pub levels : levelsHeld (length values) workf ≡ levelsIn r segment values flags lent
+  pub leveled : levelsHeld (length values) workf ≡ levelsIn r segment values flags levels
 
 -- ---- the silences
 
@@ -62,6 +63,7 @@ module _ (r : Recording) (segment : SegmentConfig) (values : List Float) (flags 
   unfolding silencesIn
   silences-before = omega (arith, silences-room (soundsIn r segment values flags), sounds-size)
 
+  -- they are listed in order
   pub silences-are : Listed (length values) (silencesIn r segment values flags)
   unfolding silencesIn
   silences-are = subst (λ (n : ℕ). Listed n (silencesOf (soundsIn r segment values flags))) sounds-size (silences-listed (soundsIn r segment values flags))
@@ -79,6 +81,7 @@ module _ (r : Recording) (segment : SegmentConfig) (values : List Float) (flags 
     unfolding silencesIn soundsIn
     silences-by = rw (e, f, g, needed-on (r .domain) (recordingLevels r segment values flags), needed-off (r .domain) (recordingLevels r segment values flags))
 
+    -- they stand at the list's front, two numbers each
     pub silences-front : (list list₀ : List ℕ) (numbers : ℕ) → numbers ≡ length (silencesOf (soundsOf (l .on) (l .off) minSound minSilence values flags))
         → list ≡ silencesOf (soundsOf (l .on) (l .off) minSound minSilence values flags) ++ drop (length (silencesOf (soundsOf (l .on) (l .off) minSound minSilence values flags))) list₀
         → (2 * (numbers / 2) ≡ length (silencesIn r segment values flags)) × (take (2 * (numbers / 2)) list ≡ silencesIn r segment values flags)
@@ -90,25 +93,31 @@ module _ (r : Recording) (segment : SegmentConfig) (values : List Float) (flags 
 
 -- ---- all of it
 
-module _ (r : Recording) (segment : SegmentConfig) (values : List Float) (flags : List ℕ) (lent : List Float) (n32 nf : ℕ) (m : Measurable r segment values flags lent n32 nf)
-    (count : ℕ) (l : Levels) (work : List ℕ) (is : l ≡ neededLevels (r .domain) (recordingLevels r segment values flags)) (counted : 2 * count ≡ length (silencesIn r segment values flags))
-    (front : take (2 * count) work ≡ silencesIn r segment values flags) (same : length work ≡ n32)
+module _ (r : Recording) (segment : SegmentConfig) (values : List Float) (flags : List ℕ) (levels : List Float) (n32 nf : ℕ) (m : Measurable r segment values flags levels n32 nf)
+    (silences : ℕ) (l : Levels) (work : List ℕ) (is : l ≡ neededLevels (r .domain) (recordingLevels r segment values flags))
+    (counted : 2 * silences ≡ length (silencesIn r segment values flags)) (front : take (2 * silences) work ≡ silencesIn r segment values flags) (same : length work ≡ n32)
   where
     -- the stretches behind the silences, and the levels in the other list
-    pub holds-all : (runs : List ℕ) (end width : ℕ) (workf workf′ : List Float) → end ≡ length values + 1 + length values → runs ≡ quietRuns (belowOff (l .off) values flags)
-        → width ≡ widthOf (r .«frame_rate») (r .hop) → workf′ ≡ onto (boundaryLevels (r .domain) l width values lent) workf
-        → Holds r segment values flags lent count (putMid (length values + 1) (end - (length values + 1)) work runs) workf′
-    holds-all runs end width workf workf′ z e w h =
-        let bl : List Float = boundaryLevels (r .domain) l width values lent in
+    pub holds-all : (runs : List ℕ) (at width : ℕ) (workf workf′ : List Float) → at ≡ runsAt (length values) → runs ≡ quietRuns (belowOff (l .off) values flags)
+        → width ≡ widthOf (r .«frame_rate») (r .hop) → workf′ ≡ onto (boundaryLevels (r .domain) l width values levels) workf
+        → Holds r segment values flags levels silences (putMid at (at + length values - at) work runs) workf′
+    holds-all runs at width workf workf′ z e w h =
+        let bl : List Float = boundaryLevels (r .domain) l width values levels in
         let runs-are : runs ≡ runsIn r segment values flags = unfold runsIn in (e ∙ rw (is, needed-off (r .domain) (recordingLevels r segment values flags))) in
         let size : length runs ≡ length values = ap length e ∙ quiet-length (belowOff (l .off) values flags) ∙ below-length (l .off) values flags (m .sounds .flagged) in
-        let fits : length values + 1 + length runs ≤ length work = omega (arith, size, m .room, same) in
-        let put : putMid (length values + 1) (end - (length values + 1)) work runs ≡ placed (length values + 1) runs work =
-        placed-put (length values + 1) runs work fits end (omega (arith, z, size)) in
-        let levels-are : bl ≡ levelsIn r segment values flags lent =
-        unfold levelsIn in (rw (is, w) (needed-levels (r .domain) (recordingLevels r segment values flags) (widthOf (r .«frame_rate») (r .hop)) values lent)) in
+        let fits : at + length runs ≤ length work = omega (arith, size, m .room, same, z) in
+        let put : putMid at (at + length values - at) work runs ≡ placed at runs work = placed-put at runs work fits (at + length values) (omega (arith, size)) in
+        let levels-are : bl ≡ levelsIn r segment values flags levels =
+        unfold levelsIn in (rw (is, w) (needed-levels (r .domain) (recordingLevels r segment values flags) (widthOf (r .«frame_rate») (r .hop)) values levels)) in
         let long : length bl ≡ length values + 1 =
         ap length levels-are ∙ (unfold levelsIn in unfold boundaryLevels in (tabulate-length _ (suc (length values)) ∙ sym (add-one (length values)))) in
-        let a = ap (take (2 * count)) put ∙ placed-take (length values + 1) runs work fits (2 * count) (omega (arith, counted, silences-before r segment values flags (m .sounds .flagged))) ∙ front in
-        let b = ap (λ (xs : List ℕ). take (length values) (drop (length values + 1) xs)) put ∙ placed-part (length values + 1) runs work fits (length values) (sym size) ∙ runs-are in
-        search (arith, ap (take (length values + 1)) h ∙ ap (λ (k : ℕ). take k (onto bl workf)) (sym long) ∙ onto-take bl workf ∙ levels-are)
+        let stretches : take (length values) (drop at (putMid at (at + length values - at) work runs)) ≡ runsIn r segment values flags =
+        ap (λ (xs : List ℕ). take (length values) (drop at xs)) put ∙ placed-part at runs work fits (length values) (sym size) ∙ runs-are in
+        record {
+          counted = counted;
+          listed =
+              ap (take (2 * silences)) put
+              ∙ placed-take at runs work fits (2 * silences) (omega (arith, z, counted, silences-before r segment values flags (m .sounds .flagged))) ∙ front;
+          runs = ap (λ (k : ℕ). take (length values) (drop k (putMid at (at + length values - at) work runs))) (sym z) ∙ stretches;
+          leveled = ap (take (length values + 1)) h ∙ ap (λ (k : ℕ). take k (onto bl workf)) (sym long) ∙ onto-take bl workf ∙ levels-are;
+        }

@@ -37,10 +37,10 @@ unfolding neededLevels isFinite lt
 needed-scaled Decibels l s = s
 needed-scaled Scores l s = record { low-end = refl; high-end = refl }
 
-pub needed-levels : (domain : Domain) (l : Levels) (width : ℕ) (values lent : List Float) → boundaryLevels domain (neededLevels domain l) width values lent ≡ boundaryLevels domain l width values lent
+pub needed-levels : (domain : Domain) (l : Levels) (width : ℕ) (values levels : List Float) → boundaryLevels domain (neededLevels domain l) width values levels ≡ boundaryLevels domain l width values levels
 unfolding neededLevels boundaryLevels frameLevel normalizeOf
-needed-levels Decibels l width values lent = refl
-needed-levels Scores l width values lent = refl
+needed-levels Decibels l width values levels = refl
+needed-levels Scores l width values levels = refl
 
 -- ---- what is made of a recording
 

@@ -13,7 +13,7 @@ use Rattle.grid.specs.declared.validate.Recording.{Recording}
 use Rattle.silence_list.specs.Silences.{silencesIn}
 use Rattle.silence_list.specs.declared.config.SegmentConfig.{SegmentConfig}
 use Rattle.path_pieces.specs.Domain.{Candidates, Costs}
-use Rattle.candidate_settings.specs.declared.config.PlanConfig.{PlanConfig}
+use Rattle.plan_settings.specs.declared.config.PlanConfig.{PlanConfig}
 use Rattle.candidate_span.specs.Gaps.{Cut}
 use Rattle.candidate_points.specs.Points.{blockEnd, isIn}
 use Rattle.candidate_costs.specs.QuietestLaws.{Quietest}
@@ -26,8 +26,8 @@ use Rattle.candidates.specs.Alone.{cutOf}
 use Rattle.candidates.specs.Samples.{leftsOf, rightsOf}
 use Rattle.candidates.specs.Cheapest.{Cheapest}
 use Rattle.candidates.specs.declared.candidate.Candidate.{Candidate}
-use Rattle.candidate_finder.specs.CandidatesIn.{runsIn, levelsIn, spacingIn, contextOf}
-use Rattle.candidate_finder.specs.SpanIn.{firstIn, lastIn, gapsIn, blockedIn, gridPointsIn, listedIn}
+use Rattle.candidate_finder.specs.CandidatesIn.{runsIn, levelsIn, contextOf, gridPointsIn, listedIn}
+use Rattle.candidate_finder.specs.SpanIn.{spacingIn, firstIn, lastIn, gapsIn, blockedIn}
 
 -- a candidate with left end k, by its number
 pub record StartsAt (cs : List Candidate) (k : ℕ) : Type 0 where
@@ -47,12 +47,12 @@ pub record QuietestOfBlock (blocked : ℕ → Bool) (levels : List Float) (block
   pub own : Block blocked levels block last (suc first) start k
   pub quietest : Quietest levels start (blockEnd blocked block last start) k
 
-module _ (r : Recording) (segment : SegmentConfig) (plan : PlanConfig) (values : List Float) (flags : List ℕ) (lent : List Float) (cs : List Candidate) where
+module _ (r : Recording) (segment : SegmentConfig) (settings : PlanConfig) (values : List Float) (flags : List ℕ) (levels : List Float) (cs : List Candidate) where
   abbrev first : ℕ
-  first = firstIn r segment plan values flags
+  first = firstIn r segment settings values flags
 
   abbrev last : ℕ
-  last = lastIn r segment plan values flags
+  last = lastIn r segment settings values flags
 
   -- where the candidates lie
   pub record PlanCandidates : Type 0 where
@@ -69,22 +69,22 @@ module _ (r : Recording) (segment : SegmentConfig) (plan : PlanConfig) (values :
     pub apart : (i j : ℕ) → i < j → j < length cs → candidateAt cs i .right < candidateAt cs j .left
     -- between the ends: "silence candidates, one grid point for each block"
     pub source : (i : ℕ) → 0 < i → suc i < length cs
-        → Source (contextOf r segment plan (length values)) (silencesIn r segment values flags) (runsIn r segment values flags) (levelsIn r segment values flags lent)
-        (gridPointsIn r segment plan values flags lent) (candidateAt cs i)
+        → Source (contextOf r segment settings (length values)) (silencesIn r segment values flags) (runsIn r segment values flags) (levelsIn r segment values flags levels)
+        (gridPointsIn r segment settings values flags levels) (candidateAt cs i)
     -- nothing is listed outside the span: the Rust's `retain` removes nothing
-    pub inside : (c : Candidate) → List·Memᴰ c (listedIn r segment plan values flags lent) → (first < c .left) × (c .right < last)
+    pub inside : (c : Candidate) → List·Memᴰ c (listedIn r segment settings values flags levels) → (first < c .left) × (c .right < last)
     -- "One candidate survives for each left end"
-    pub survivor : (c : Candidate) → List·Memᴰ c (listedIn r segment plan values flags lent) → StartsAt cs (c .left)
+    pub survivor : (c : Candidate) → List·Memᴰ c (listedIn r segment settings values flags levels) → StartsAt cs (c .left)
     -- "A dropped gap is a candidate whose left end is below its right end": those candidates and no others
-    pub gap-dropped : (i : ℕ) → i < length cs → candidateAt cs i .left < candidateAt cs i .right → List·Memᴰ (cutOf (candidateAt cs i)) (gapsIn r segment plan values flags)
-    pub gap-found : (gap : Cut) → List·Memᴰ gap (gapsIn r segment plan values flags) → Ends cs gap
+    pub gap-dropped : (i : ℕ) → i < length cs → candidateAt cs i .left < candidateAt cs i .right → List·Memᴰ (cutOf (candidateAt cs i)) (gapsIn r segment settings values flags)
+    pub gap-found : (gap : Cut) → List·Memᴰ gap (gapsIn r segment settings values flags) → Ends cs gap
     -- "no other candidate [..] lies in a dropped gap, edges included"
-    pub alone : (gap : Cut) → List·Memᴰ gap (gapsIn r segment plan values flags) → (i : ℕ) → i < length cs
+    pub alone : (gap : Cut) → List·Memᴰ gap (gapsIn r segment settings values flags) → (i : ℕ) → i < length cs
         → (cutOf (candidateAt cs i) ≡ gap) ⊎ ((candidateAt cs i .right < gap .left) ⊎ (gap .right < candidateAt cs i .left))
     -- "one grid point for each block": each boundary that is not blocked lies in a block whose point is listed
-    pub blocks : (k : ℕ) → first < k → k < last → blockedIn r segment plan values flags k ≡ false
-        → InBlock (blockedIn r segment plan values flags) (levelsIn r segment values flags lent) (spacingIn r segment plan (length values) .block) last (suc first)
-        (gridPointsIn r segment plan values flags lent) k
+    pub blocks : (k : ℕ) → first < k → k < last → blockedIn r segment settings values flags k ≡ false
+        → InBlock (blockedIn r segment settings values flags) (levelsIn r segment values flags levels) (spacingIn r segment settings (length values) .block) last (suc first)
+        (gridPointsIn r segment settings values flags levels) k
     -- in samples they pass refusals 15 and 16 of the path search
     pub asked : Candidates (leftsOf (gridOf r (length values)) cs) (rightsOf (gridOf r (length values)) cs)
 
@@ -93,11 +93,11 @@ module _ (r : Recording) (segment : SegmentConfig) (plan : PlanConfig) (values :
     -- no cost is negative, none is a NaN
     pub cost : (i : ℕ) → i < length cs → T (nonneg (candidateAt cs i .cost))
     -- a cut between the ends costs more than nothing, or +inf, where the fixed cost is an f64, as its type says
-    pub positive : T (fits binary64 (plan .weights .cut)) → (i : ℕ) → 0 < i → suc i < length cs → T (lt nought (candidateAt cs i .cost))
+    pub positive : T (fits binary64 (settings .weights .cut)) → (i : ℕ) → 0 < i → suc i < length cs → T (lt nought (candidateAt cs i .cost))
     -- "the cheapest, the earlier listed on equal cost"
-    pub cheapest : (i : ℕ) → 0 < i → suc i < length cs → Cheapest (withLeft (candidateAt cs i .left) (listedIn r segment plan values flags lent)) (candidateAt cs i)
+    pub cheapest : (i : ℕ) → 0 < i → suc i < length cs → Cheapest (withLeft (candidateAt cs i .left) (listedIn r segment settings values flags levels)) (candidateAt cs i)
     -- "(quietest, the first of equals)"
-    pub quietest : (k : ℕ) → isIn (gridPointsIn r segment plan values flags lent) k ≡ true
-        → QuietestOfBlock (blockedIn r segment plan values flags) (levelsIn r segment values flags lent) (spacingIn r segment plan (length values) .block) first last k
+    pub quietest : (k : ℕ) → isIn (gridPointsIn r segment settings values flags levels) k ≡ true
+        → QuietestOfBlock (blockedIn r segment settings values flags) (levelsIn r segment values flags levels) (spacingIn r segment settings (length values) .block) first last k
     -- the path search may add them up
     pub costs-asked : Costs (costsOf cs) (length cs)

@@ -1,4 +1,6 @@
-// What a recording's candidates are made from, written to work memory: its silences, the stretches below off and the levels of its boundaries.
+// What a recording's candidates are made from, written to work memory: its silences, the stretches below off and
+// the levels of its boundaries.
+use base_code::layout;
 use candidate_costs::level;
 use candidate_costs::window;
 use grid::durations;
@@ -53,9 +55,9 @@ fn needed_levels(
 }
 
 // Levels and number of silences.
-pub struct LevelsAndCount {
+pub struct LevelsAndSilences {
     pub levels: Levels,
-    pub count: usize,
+    pub silences: usize,
 }
 
 // The levels of a recording, and its silences at the front of a list. The keys of percentiles stand there before.
@@ -65,12 +67,14 @@ fn levels_and_silences(
     values: &[f32],
     flags: &[u8],
     list: &mut [u32],
-) -> LevelsAndCount
+) -> LevelsAndSilences
     requires { ⌜ SoundReady r segment (now values) (now flags) ⌝ }
     requires { ⌜ length (now values) + 2 ≤ length (now list) ⌝ }
-    ensures { λ h. ⌜ h .levels ≡ neededLevels (r .domain) (recordingLevels r segment (now (values .entry)) (now (flags .entry))) ⌝ }
-    ensures { λ h. ⌜ 2 * h .count ≡ length (silencesIn r segment (now (values .entry)) (now (flags .entry))) ⌝ }
-    ensures { λ h. ⌜ take (2 * h .count) (now (list .exit)) ≡ silencesIn r segment (now (values .entry)) (now (flags .entry)) ⌝ }
+    ensures { λ h. ⌜ h .levels
+        ≡ neededLevels (r .domain) (recordingLevels r segment (now (values .entry)) (now (flags .entry))) ⌝ }
+    ensures { λ h. ⌜ 2 * h .silences ≡ length (silencesIn r segment (now (values .entry)) (now (flags .entry))) ⌝ }
+    ensures { λ h. ⌜ take (2 * h .silences) (now (list .exit))
+        ≡ silencesIn r segment (now (values .entry)) (now (flags .entry)) ⌝ }
 {
     let threshold = segment.threshold;
     let domain = r.domain;
@@ -86,9 +90,9 @@ fn levels_and_silences(
         flags,
         list,
     );
-    LevelsAndCount {
+    LevelsAndSilences {
         levels: l,
-        count: numbers / 2,
+        silences: numbers / 2,
     }
 }
 
@@ -109,23 +113,23 @@ pub fn hold(
     segment: SegmentConfig,
     values: &[f32],
     flags: &[u8],
-    lent: &[f64],
+    levels: &[f64],
     work_u32: &mut [u32],
     work_f64: &mut [f64],
 ) -> usize
-    requires { ⌜ Measurable r segment (now values) (now flags) (now lent)
+    requires { ⌜ Measurable r segment (now values) (now flags) (now levels)
         (length (now «work_u32»)) (length (now «work_f64»)) ⌝ }
     requires { ⌜ 0 < length (now values) ⌝ }
-    ensures { λ count. ⌜ Holds r segment (now (values .entry)) (now (flags .entry)) (now (lent .entry)) count
+    ensures { λ silences. ⌜ Holds r segment (now (values .entry)) (now (flags .entry)) (now (levels .entry)) silences
         (now («work_u32» .exit)) (now («work_f64» .exit)) ⌝ }
 {
     let n = values.len();
     let found = levels_and_silences(r, segment, values, flags, &mut *work_u32);
     let l = found.levels;
-    let end = n + 1 + n;
-    quiet_stretches(l.off, values, flags, &mut work_u32[n + 1..end]);
+    let at = layout::runs_at(n);
+    quiet_stretches(l.off, values, flags, &mut work_u32[at..at + n]);
     let width = window::smoothing_width(r.frame_rate, r.hop);
     let domain = r.domain;
-    level::fill_levels(domain, l, width, values, lent, work_f64);
-    found.count
+    level::fill_levels(domain, l, width, values, levels, work_f64);
+    found.silences
 }

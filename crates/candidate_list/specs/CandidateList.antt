@@ -10,9 +10,12 @@ use Rattle.base_terms.specs.Lists.{onto}
 use Rattle.base_terms.specs.Work.{Work, cleared}
 use Rattle.grid.specs.declared.validate.Recording.{Recording}
 use Rattle.silence_list.specs.declared.config.SegmentConfig.{SegmentConfig}
-use Rattle.candidate_settings.specs.declared.config.PlanConfig.{PlanConfig}
+use Rattle.plan_settings.specs.declared.config.PlanConfig.{PlanConfig}
 use Rattle.plan_tests.specs.Refusal as tests
+use Rattle.plan_tests.specs.declared.refusal.Verdict.{Verdict}
+use Rattle.plan_tests.specs.declared.refusal.Verdict.the-variants.{Fine, Fails}
 use Rattle.candidates.specs.Entries.{entriesOf, costsOf}
+use Rattle.candidates.specs.declared.candidate.Candidate.{Candidate}
 use Rattle.candidate_finder.specs.CandidatesIn.{candidatesIn}
 use Rattle.candidate_list.specs.declared.list.Answer.{Answer}
 use Rattle.candidate_list.specs.declared.list.Answer.the-variants.{Found, Refused, ShortOutput}
@@ -20,7 +23,7 @@ use Rattle.candidate_list.specs.declared.list.Answer.the-variants.{Found
 -- document 01's number for each case; 0 where the list was made
 abbrev pub numberOf : Answer → ℕ
 numberOf (Found n) = 0
-numberOf (Refused v) = tests.numberOf v
+numberOf (Refused r) = tests.numberOf r
 numberOf ShortOutput = 12
 
 -- the output: three numbers for each candidate, its left boundary, its right boundary and its reason, and a cost for each
@@ -28,6 +31,7 @@ pub record Output : Type 0 where
   pub ends : List ℕ
   pub costs : List Float
 
+-- the output, from its two lists
 abbrev pub outputOf : List ℕ → List Float → Output
 outputOf ends costs = record { ends = ends; costs = costs }
 
@@ -37,9 +41,11 @@ pub record End : Type 0 where
   pub out : Output
   pub work : Work
 
+-- what a call leaves, from its parts
 abbrev pub endOf : Answer → Output → Work → End
 endOf answer out work = record { answer = answer; out = out; work = work }
 
+-- one of two, by a test
 abbrev pub pick : Bool → End → End → End
 pick test a b = cond test a b
 
@@ -55,8 +61,13 @@ handedOutOf candidates entries costs out work =
     (endOf ShortOutput out (cleared work))
 
 -- a refusal before 12 leaves every list as it was; else the candidates are handed out
+abbrev pub endAfter : Verdict → List Candidate → Output → Work → End
+endAfter Fine cs out work = handedOutOf (length cs) (entriesOf cs) (costsOf cs) out work
+endAfter (Fails r) cs out work = endOf (Refused r) out work
+
+-- the operation "candidate list": the first test that fails, or the candidates
 unfoldable pub candidateListOf : Recording → SegmentConfig → PlanConfig → List Float → List ℕ → List Float → Output → Work → End
-candidateListOf r segment plan values flags levels out work =
-    let verdict = tests.firstRefusalOf r segment plan values flags levels (length (work .u32s)) (length (work .u64s)) (length (work .f64s)) in
-    let cs = candidatesIn r segment plan values flags levels in
-    pick (tests.isFine verdict) (handedOutOf (length cs) (entriesOf cs) (costsOf cs) out work) (endOf (Refused verdict) out work)
+candidateListOf r segment settings values flags levels out work =
+    endAfter
+    (tests.firstRefusalOf r segment settings values flags levels (length (work .u32s)) (length (work .u64s)) (length (work .f64s)))
+    (candidatesIn r segment settings values flags levels) out work

@@ -13,7 +13,7 @@ use Rattle.base_laws.specs.Tests.{lt-or-le, both}
 use Rattle.base_code.specs.FrontLaws.{tabulate-at, tabulate-length}
 use Rattle.grid.specs.declared.boundary.FrameGrid.{FrameGrid}
 use Rattle.silence_runs.specs.Runs.{putRun}
-use Rattle.candidate_settings.specs.declared.config.Gap.{Gap}
+use Rattle.plan_settings.specs.declared.config.Gap.{Gap}
 use Rattle.candidate_span.specs.Listed.{count, startAt, endAt}
 use Rattle.candidate_span.specs.ListedLaws.{Listed, listed-own, listed-apart, listed-within}
 use Rattle.candidate_span.specs.Bounds.{lowOf, highOf}
@@ -27,10 +27,12 @@ use Rattle.candidate_points.specs.Blocked.{getsGrid, touches, opens, blo
 -- ---- in a silence
 
 module _ (start end k : ℕ) where
+  -- a boundary from its start to its end is in it
   pub touches-in : start ≤ k → k ≤ end → touches start end k ≡ true
   unfolding touches
   touches-in h l = rw (le-leb start k h, le-leb k end l)
 
+  -- one before it or after it is not
   pub touches-out : (k < start) ⊎ (end < k) → touches start end k ≡ false
   unfolding touches
   touches-out h = elim h [ inl l ↦ rw (lt-leb start k l) | inr l ↦ rw (lt-leb k end l) (and-false (leb start k)) ]
@@ -92,37 +94,40 @@ module _ (start end lo hi : ℕ) (xs : List ℕ) (own : start ≤ end) (fits : e
       go false f q = one k h l ∙ sym (outside (either (q refl)))
 
 -- the same of a silence's own bounds
-module _ (gap : Gap) (g : FrameGrid) (s : Spacing) (start end : ℕ) (xs : List ℕ) (own : start ≤ end) (within : end ≤ g .frames) (size : length xs ≡ suc (g .frames)) where
-  lo-above : start ≤ lowOf (g .frames) (s .tail) start
-  lo-above = low-within (g .frames) (s .tail) start (omega arith) .0
+module _ (gap : Gap) (g : FrameGrid) (s : Spacing) (start end : ℕ) (xs : List ℕ) (own : start ≤ end) (within : end ≤ g .frames) (size : length xs ≡ suc (g .frames)) (same : s .padding .frames ≡ g .frames) where
+  lo-above : start ≤ lowOf (s .padding) start
+  lo-above = low-within (s .padding) start (omega arith) .0
 
-  some : (grid : Bool) → (leb (lowOf (g .frames) (s .tail) start) (highOf (g .frames) (s .pre) end) && grid) ≡ true → lowOf (g .frames) (s .tail) start ≤ highOf (g .frames) (s .pre) end
-  some grid t = leb-true (lowOf (g .frames) (s .tail) start) (highOf (g .frames) (s .pre) end) (both (leb (lowOf (g .frames) (s .tail) start) (highOf (g .frames) (s .pre) end)) grid t .0)
+  some : (grid : Bool) → (leb (lowOf (s .padding) start) (highOf (s .padding) end) && grid) ≡ true → lowOf (s .padding) start ≤ highOf (s .padding) end
+  some grid t = leb-true (lowOf (s .padding) start) (highOf (s .padding) end) (both (leb (lowOf (s .padding) start) (highOf (s .padding) end)) grid t .0)
 
+  -- there are as many flags as before
   pub shut-length : length (shutBy gap g s start end xs) ≡ length xs
   shut-length = unfold shutBy in unfold shut in
-      range-length start end (lowOf (g .frames) (s .tail) start) (highOf (g .frames) (s .pre) end) xs own (omega arith) lo-above (high-within (g .frames) (s .pre) end)
-      (leb (lowOf (g .frames) (s .tail) start) (highOf (g .frames) (s .pre) end) && getsGrid gap g (s .«edge_limit») start end) (some (getsGrid gap g (s .«edge_limit») start end))
+      range-length start end (lowOf (s .padding) start) (highOf (s .padding) end) xs own (omega arith) lo-above (high-within (s .padding) end)
+      (leb (lowOf (s .padding) start) (highOf (s .padding) end) && getsGrid gap g (s .«edge_limit») start end) (some (getsGrid gap g (s .«edge_limit») start end))
 
   -- outside the silence a flag stays
   pub shut-out : (k : ℕ) → (k < start) ⊎ (end < k) → getD (shutBy gap g s start end xs) k 0 ≡ getD xs k 0
   shut-out = unfold shutBy in unfold shut in
-      range-out start end (lowOf (g .frames) (s .tail) start) (highOf (g .frames) (s .pre) end) xs own (omega arith) lo-above (high-within (g .frames) (s .pre) end)
-      (leb (lowOf (g .frames) (s .tail) start) (highOf (g .frames) (s .pre) end) && getsGrid gap g (s .«edge_limit») start end) (some (getsGrid gap g (s .«edge_limit») start end))
+      range-out start end (lowOf (s .padding) start) (highOf (s .padding) end) xs own (omega arith) lo-above (high-within (s .padding) end)
+      (leb (lowOf (s .padding) start) (highOf (s .padding) end) && getsGrid gap g (s .«edge_limit») start end) (some (getsGrid gap g (s .«edge_limit») start end))
 
   -- in it the flag says whether it is blocked
   pub shut-in : (k : ℕ) → start ≤ k → k ≤ end → getD (shutBy gap g s start end xs) k 0 ≡ flagOf (not (opens gap g s start end k))
   shut-in = unfold shutBy in unfold shut in unfold opens in
-      range-in start end (lowOf (g .frames) (s .tail) start) (highOf (g .frames) (s .pre) end) xs own (omega arith) lo-above (high-within (g .frames) (s .pre) end)
+      range-in start end (lowOf (s .padding) start) (highOf (s .padding) end) xs own (omega arith) lo-above (high-within (s .padding) end)
       (getsGrid gap g (s .«edge_limit») start end)
 
 -- ---- all silences
 
 module _ (gap : Gap) (g : FrameGrid) (s : Spacing) (ss : List ℕ) where
+  -- there is a flag for each boundary
   pub flags-length : (i : ℕ) → length (flagsBy gap g s ss i) ≡ suc (g .frames)
   unfolding flagsBy
   flags-length i = tabulate-length (flagBy gap g s ss i) (suc (g .frames))
 
+  -- which says whether one of the first i silences blocks it
   pub flags-at : (i k : ℕ) → k ≤ g .frames → getD (flagsBy gap g s ss i) k 0 ≡ flagOf (blockedBy gap g s ss i k)
   unfolding flagsBy flagBy
   flags-at i k h = tabulate-at (flagBy gap g s ss i) (suc (g .frames)) k 0 (omega arith)
@@ -134,8 +139,8 @@ module _ (gap : Gap) (g : FrameGrid) (s : Spacing) (ss : List ℕ) where
   blocked-none (suc i) k f = rw (blocked-none i k (λ (j : ℕ) (h : j < i). f j (omega arith)), touches-out (startAt ss i) (endAt ss i) k (inr (f i (omega arith))))
 
   -- the flags of one more silence
-  pub flags-next : Listed (g .frames) ss → (i : ℕ) → i < count ss → shutBy gap g s (startAt ss i) (endAt ss i) (flagsBy gap g s ss i) ≡ flagsBy gap g s ss (suc i)
-  flags-next l i h = ext-getD 0 next (flagsBy gap g s ss (suc i)) (size ∙ sym (flags-length (suc i))) each
+  pub flags-next : s .padding .frames ≡ g .frames → Listed (g .frames) ss → (i : ℕ) → i < count ss → shutBy gap g s (startAt ss i) (endAt ss i) (flagsBy gap g s ss i) ≡ flagsBy gap g s ss (suc i)
+  flags-next same l i h = ext-getD 0 next (flagsBy gap g s ss (suc i)) (size ∙ sym (flags-length (suc i))) each
     where
       own : startAt ss i ≤ endAt ss i
       own = omega (arith, listed-own l i h)
@@ -147,19 +152,19 @@ module _ (gap : Gap) (g : FrameGrid) (s : Spacing) (ss : List ℕ) where
       next = shutBy gap g s (startAt ss i) (endAt ss i) (flagsBy gap g s ss i)
 
       size : length next ≡ suc (g .frames)
-      size = (shut-length gap g s (startAt ss i) (endAt ss i) (flagsBy gap g s ss i) own within (flags-length i) ∙ flags-length i)
+      size = (shut-length gap g s (startAt ss i) (endAt ss i) (flagsBy gap g s ss i) own within (flags-length i) same ∙ flags-length i)
 
       -- outside this silence the earlier ones decide
       outside : (k : ℕ) → k ≤ g .frames → (k < startAt ss i) ⊎ (endAt ss i < k) → getD next k 0 ≡ flagOf (blockedBy gap g s ss (suc i) k)
       outside k m o = unfold blockedBy in unfold blocksAt in
           rw (touches-out (startAt ss i) (endAt ss i) k o, or-false)
-          (shut-out gap g s (startAt ss i) (endAt ss i) (flagsBy gap g s ss i) own within (flags-length i) k o ∙ flags-at i k m)
+          (shut-out gap g s (startAt ss i) (endAt ss i) (flagsBy gap g s ss i) own within (flags-length i) same k o ∙ flags-at i k m)
 
       -- in it the earlier ones have ended
       inside : (k : ℕ) → startAt ss i ≤ k → k ≤ endAt ss i → getD next k 0 ≡ flagOf (blockedBy gap g s ss (suc i) k)
       inside k a b = unfold blockedBy in unfold blocksAt in
           rw (blocked-none i k (λ (j : ℕ) (d : j < i). omega (arith, listed-apart l j i d h)), touches-in (startAt ss i) (endAt ss i) k a b)
-          (shut-in gap g s (startAt ss i) (endAt ss i) (flagsBy gap g s ss i) own within (flags-length i) k a b)
+          (shut-in gap g s (startAt ss i) (endAt ss i) (flagsBy gap g s ss i) own within (flags-length i) same k a b)
 
       at : (k : ℕ) → k ≤ g .frames → getD next k 0 ≡ flagOf (blockedBy gap g s ss (suc i) k)
       at k m = elim (lt-or-le k (startAt ss i)) [
@@ -172,15 +177,17 @@ module _ (gap : Gap) (g : FrameGrid) (s : Spacing) (ss : List ℕ) where
 
   -- ---- the flags say what is blocked
 
+  -- there is a flag for each boundary
   pub blocked-length : length (blockedOf gap g s ss) ≡ suc (g .frames)
   unfolding blockedOf
   blocked-length = flags-length (count ss)
 
+  -- which is not 0 exactly where the boundary is blocked
   pub blocked-at : (k : ℕ) → k ≤ g .frames → not (eqb (getD (blockedOf gap g s ss) k 0) 0) ≡ isBlocked gap g s ss k
   unfolding blockedOf isBlocked
   blocked-at k h = rw (flags-at (count ss) k h) (flag-set (blockedBy gap g s ss (count ss) k))
 
-  -- a boundary in a silence that gets no grid points is blocked
+  -- a boundary in a silence is blocked where it is not open to grid points
   pub blocked-in : (i k : ℕ) → i < count ss → touches (startAt ss i) (endAt ss i) k ≡ true → opens gap g s (startAt ss i) (endAt ss i) k ≡ false → isBlocked gap g s ss k ≡ true
   unfolding isBlocked
   blocked-in i k h t o = go (count ss) h

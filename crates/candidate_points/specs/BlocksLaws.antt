@@ -12,6 +12,7 @@ use Rattle.candidate_points.specs.FlagsLaws.{not-both}
 -- ---- the first blocked boundary
 
 module _ (blocked : ℕ → Bool) where
+  -- it is one of those looked at, or the boundary after them
   pub open-within : (left k : ℕ) → (k ≤ openTo blocked left k) × (openTo blocked left k ≤ k + left)
   unfolding openTo
   open-within zero k = (omega arith, omega arith)
@@ -56,6 +57,7 @@ module _ (blocked : ℕ → Bool) (block last k : ℕ) where
   unfolding blockEnd
   end-within h = let p = open-within blocked (min (k + block) last - k) k in (omega arith, omega arith)
 
+  -- it is not before the block's start
   pub end-from : k ≤ blockEnd blocked block last k
   unfolding blockEnd
   end-from = open-within blocked (min (k + block) last - k) k .0
@@ -74,6 +76,7 @@ module _ (blocked : ℕ → Bool) (block last k : ℕ) where
   unfolding blockEnd
   end-open j h l = open-before blocked (min (k + block) last - k) k j h l
 
+  -- only what is blocked from the block's start to the span's last boundary matters
   pub end-same : (other : ℕ → Bool) → ((j : ℕ) → k ≤ j → j < last → other j ≡ blocked j) → blockEnd other block last k ≡ blockEnd blocked block last k
   unfolding blockEnd
   end-same other f = open-same blocked other (min (k + block) last - k) k (λ (j : ℕ) (h : k ≤ j) (l : j < k + (min (k + block) last - k)). f j h (omega arith))

@@ -12,8 +12,8 @@ use borrow.Author.Tests.{ltb-true}
 use Rattle.base_laws.specs.Tests.{lt-or-le}
 use Rattle.base_code.specs.FrontLaws.{tabulate-at}
 use Rattle.grid.specs.declared.boundary.FrameGrid.{FrameGrid}
-use Rattle.candidate_settings.specs.declared.config.Gap.{Gap}
-use Rattle.candidate_settings.specs.declared.config.Gap.the-variants.{Keep, Drop}
+use Rattle.plan_settings.specs.declared.config.Gap.{Gap}
+use Rattle.plan_settings.specs.declared.config.Gap.the-variants.{Keep, Drop}
 use Rattle.candidate_span.specs.Listed.{startAt, endAt}
 use Rattle.candidate_span.specs.ListedLaws.{Listed, listed-own, listed-within}
 use Rattle.candidate_span.specs.Bounds.{lowOf, highOf}
@@ -49,6 +49,7 @@ module _ (blocked other : ℕ → Bool) (levels : List Float) (block last : ℕ)
       go true y p q = rw (f k (omega arith) (y refl), end-same blocked block last k other f, p, q)
       go false y p q = refl
 
+  -- two tests that agree there give the same grid points
   pub points-same : (first : ℕ) → ((j : ℕ) → first < j → j < last → other j ≡ blocked j) → gridPoints other levels block first last ≡ gridPoints blocked levels block first last
   unfolding gridPoints
   points-same first f = same-from (last - suc first) (suc first) f
@@ -61,27 +62,27 @@ unfolding opens getsGrid
 drop-shut g s start end k = refl
 
 -- a gap lies inside its silence, whose boundaries are all blocked
-clear-one : (g : FrameGrid) (s : Spacing) (ss : List ℕ) → Listed (g .frames) ss → (p : ℕ) → isBlocked Drop g s ss p ≡ false → (c : Cut) → GapAt (g .frames) (s .pre) (s .tail) ss c
+clear-one : (g : FrameGrid) (s : Spacing) (ss : List ℕ) → Listed (s .padding .frames) ss → (p : ℕ) → isBlocked Drop g s ss p ≡ false → (c : Cut) → GapAt (s .padding) ss c
     → (p < c .left) ⊎ (c .right < p)
 clear-one g s ss l p e c a =
     let start : ℕ = startAt ss (a .number) in
     let end : ℕ = endAt ss (a .number) in
-    let low : ℕ = lowOf (g .frames) (s .tail) start in
-    let high : ℕ = highOf (g .frames) (s .pre) end in
+    let low : ℕ = lowOf (s .padding) start in
+    let high : ℕ = highOf (s .padding) end in
     let shut : low ≤ p → p ≤ high → isBlocked Drop g s ss p ≡ true =
     λ h k. blocked-in Drop g s ss (a .number) p (a .listed)
-    (touches-in start end p (omega (arith, low-within (g .frames) (s .tail) start (omega (arith, listed-own l (a .number) (a .listed), listed-within l (a .number) (a .listed)))))
-    (omega (arith, high-within (g .frames) (s .pre) end)))
+    (touches-in start end p (omega (arith, low-within (s .padding) start (omega (arith, listed-own l (a .number) (a .listed), listed-within l (a .number) (a .listed)))))
+    (omega (arith, high-within (s .padding) end)))
     (drop-shut g s start end p) in
     elim (lt-or-le p low) [
       | inl h ↦ inl (rw (a .is) h)
       | inr h ↦ elim (lt-or-le high p) [ inl k ↦ inr (rw (a .is) k) | inr k ↦ absurd (not-both (shut h k) e) ]
     ]
 
-clear : (gap : Gap) (g : FrameGrid) (s : Spacing) (ss : List ℕ) → Listed (g .frames) ss → (p : ℕ) → isBlocked gap g s ss p ≡ false → Outside (gapsOf gap (g .frames) (s .pre) (s .tail) ss) p
+clear : (gap : Gap) (g : FrameGrid) (s : Spacing) (ss : List ℕ) → Listed (s .padding .frames) ss → (p : ℕ) → isBlocked gap g s ss p ≡ false → Outside (gapsOf gap (s .padding) ss) p
 unfolding gapsOf
 clear Keep g s ss l p e c m = absurd (List·Memᴰ·not-nil m)
-clear Drop g s ss l p e c m = clear-one g s ss l p e c (gap-from (g .frames) (s .pre) (s .tail) ss c m)
+clear Drop g s ss l p e c m = clear-one g s ss l p e c (gap-from (s .padding) ss c m)
 
 -- ---- the marks of a plan
 
@@ -96,12 +97,12 @@ module _ (gap : Gap) (g : FrameGrid) (s : Spacing) (ss : List ℕ) (levels : Lis
       (points-same (isBlocked gap g s ss) (isSet (blockedOf gap g s ss)) levels block last first (λ (j : ℕ) (a : first < j) (b : j < last). blocked-at gap g s ss j (omega arith)))
 
   -- document 01: "In a plan no other candidate, found or added later, lies in a dropped gap, edges included"
-  pub point-clear : 1 ≤ block → Listed (g .frames) ss → (p : ℕ) → isPoint (isBlocked gap g s ss) levels block first last p ≡ true → Outside (gapsOf gap (g .frames) (s .pre) (s .tail) ss) p
+  pub point-clear : 1 ≤ block → Listed (s .padding .frames) ss → (p : ℕ) → isPoint (isBlocked gap g s ss) levels block first last p ≡ true → Outside (gapsOf gap (s .padding) ss) p
   point-clear b l p e = clear gap g s ss l p (point-open (isBlocked gap g s ss) levels block last b first p e)
 
   -- so every grid point is a kept frame boundary
-  pub point-kept : 1 ≤ block → Listed (g .frames) ss → (p : ℕ) → isPoint (isBlocked gap g s ss) levels block first last p ≡ true
-      → List·Memᴰ p (keptBoundaries first (gapsOf gap (g .frames) (s .pre) (s .tail) ss) last)
+  pub point-kept : 1 ≤ block → Listed (s .padding .frames) ss → (p : ℕ) → isPoint (isBlocked gap g s ss) levels block first last p ≡ true
+      → List·Memᴰ p (keptBoundaries first (gapsOf gap (s .padding) ss) last)
   point-kept b l p e =
       let i = point-inside (isBlocked gap g s ss) levels block last b first p e in
-      kept-in first (gapsOf gap (g .frames) (s .pre) (s .tail) ss) last p (i .0) (i .1) (point-clear b l p e)
+      kept-in first (gapsOf gap (s .padding) ss) last p (i .0) (i .1) (point-clear b l p e)

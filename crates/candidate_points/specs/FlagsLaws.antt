@@ -5,10 +5,12 @@ use lib.Dec.{eqb}
 use Rattle.base_laws.specs.Tests.{holds}
 use Rattle.candidate_points.specs.Flags.{flagOf}
 
+-- the flag of a test that passes is 1
 pub flag-yes : flagOf true ≡ 1
 unfolding flagOf
 flag-yes = refl
 
+-- and of one that fails 0
 pub flag-no : flagOf false ≡ 0
 unfolding flagOf
 flag-no = refl

@@ -1,3 +1,5 @@
+-- Where grid points go: blocked boundaries, blocks and their points.
+
 -- Flags: 1 where a test passes, and else 0 (`flagOf`)
 pub mod Flags
 -- FlagsLaws: a test read from its flag (`flag-set`)

@@ -1,5 +1,4 @@
--- What stands where after a list was written over the middle of another.
--- What stands where after a range of a list was filled.
+-- What stands where after a list was written over the middle of another, and after a range of a list was filled.
 use mathlib.Core.Path.{_≡_, sym, ap, _∙_}
 use mathlib.Core.List.{List, _++_, append-assoc}
 use Prim.Native.Nat.{ℕ, _+_, _-_, _≤_, _<_}
@@ -10,10 +9,13 @@ use borrow.Rule.Slice.PartMut.{putMid, post-is, put-same}
 use Rattle.candidate_points.specs.Placed.{placed}
 use Rattle.silence_runs.specs.Runs.{putRun}
 
+-- ---- a list written over another
+
 module _ {A : Type 0} (base : ℕ) (p xs : List A) (fits : base + length p ≤ length xs) where
   front : length (take base xs) ≡ base
   front = length-take-le base xs (omega arith)
 
+  -- the list is as long as before
   pub placed-length : length (placed base p xs) ≡ length xs
   unfolding placed
   placed-length = simp (length-append, length-drop, front) (omega arith)
@@ -24,6 +26,7 @@ module _ {A : Type 0} (base : ℕ) (p xs : List A) (fits : base + length p ≤ l
   placed-take m h =
       sym (take-take m base (placed base p xs) h) ∙ ap (take m) (take-at (take base xs) (p ++ drop (base + length p) xs) base front) ∙ take-take m base xs h
 
+  -- the same, by places
   pub placed-before : (j : ℕ) (z : A) → j < base → getD (placed base p xs) j z ≡ getD xs j z
   placed-before j z h =
       sym (getD-take base (placed base p xs) j z h) ∙ ap (λ (l : List A). getD l j z) (placed-take base (omega arith)) ∙ getD-take base xs j z h
@@ -53,6 +56,8 @@ placed-same base k xs h =
     let long : length (take k (drop base xs)) ≡ k = length-take-le k (drop base xs) (simp length-drop (omega arith)) in
     rw (long, ← drop-drop) (put-same base k xs)
 
+-- ---- a range filled
+
 after-front : {A : Type 0} (ps qs : List A) (n k : ℕ) (z : A) → length ps ≡ n → n ≤ k → getD (ps ++ qs) k z ≡ getD qs (k - n) z
 after-front {A} ps qs n k z e h = ap (λ (j : ℕ). getD (ps ++ qs) j z) (omega arith) ∙ getD-append-add ps qs (k - n) z
 
@@ -60,20 +65,24 @@ module _ (a b w : ℕ) (xs : List ℕ) (order : a ≤ b) (fits : b ≤ length xs
   low-part : length (take a xs) ≡ a
   low-part = length-take-le a xs (omega arith)
 
+  -- the list is as long as before
   pub put-length : length (putRun a b w xs) ≡ length xs
   unfolding putRun
   put-length = simp (length-append, length-drop, length-replicate, low-part) (omega arith)
 
+  -- before the range each number is as it was
   pub put-before : (k z : ℕ) → k < a → getD (putRun a b w xs) k z ≡ getD xs k z
   unfolding putRun
   put-before k z h = List·getD-append (take a xs) (replicate (b - a) w ++ drop b xs) z k (omega (arith, low-part)) ∙ getD-take a xs k z h
 
+  -- in the range each is the new one
   pub put-in : (k z : ℕ) → a ≤ k → k < b → getD (putRun a b w xs) k z ≡ w
   unfolding putRun
   put-in k z h l =
       after-front (take a xs) (replicate (b - a) w ++ drop b xs) a k z low-part h
       ∙ List·getD-append (replicate (b - a) w) (drop b xs) z (k - a) (omega (arith, length-replicate (b - a) w)) ∙ getD-replicate (b - a) (k - a) w z (omega arith)
 
+  -- after the range each is as it was
   pub put-after : (k z : ℕ) → b ≤ k → getD (putRun a b w xs) k z ≡ getD xs k z
   unfolding putRun
   put-after k z h =

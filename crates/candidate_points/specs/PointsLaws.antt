@@ -74,16 +74,19 @@ pub record Opened (blocked : ℕ → Bool) (levels : List Float) (block last k :
   pub walk : PointWalk blocked levels block last (blockEnd blocked block last k) others
 
 module _ {blocked : ℕ → Bool} {levels : List Float} {block last : ℕ} where
+  -- at a blocked boundary it goes on to the next
   pub walk-pass : {k : ℕ} {ps : List ℕ} → PointWalk blocked levels block last k ps → k < last → blocked k ≡ true → PointWalk blocked levels block last (suc k) ps
   walk-pass (ended h) l e = absurd (omega arith)
   walk-pass (passed h f w) l e = w
   walk-pass (opened h f q w) l e = absurd (not-both e f)
 
+  -- at an open one it starts a block
   pub walk-open : {k : ℕ} {ps : List ℕ} → PointWalk blocked levels block last k ps → k < last → blocked k ≡ false → Opened blocked levels block last k ps
   walk-open (ended h) l e = absurd (omega arith)
   walk-open (passed h f w) l e = absurd (not-both f e)
   walk-open (opened {ps = qs} h f q w) l e = record { others = qs; are = rw q; walk = w }
 
+  -- the points from there on are the block's own and those after it
   pub opened-in : {k : ℕ} {ps : List ℕ} → (o : Opened blocked levels block last k ps) (j : ℕ) → isIn ps j ≡ (eqb (quietestOf levels k (blockEnd blocked block last k)) j || isIn (o .others) j)
   unfolding isIn
   opened-in o j = rw (o .are)

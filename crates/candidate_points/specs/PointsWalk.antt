@@ -64,6 +64,7 @@ pub record HalfMarked (levels : List Float) (block first last : ℕ) (flags mark
   pub behind : (j : ℕ) → first < j → j < k → getD marks j 0 ≡ markAt levels block first last flags j
 
 module _ (levels : List Float) (block first last : ℕ) (flags : List ℕ) where
+  -- before the first step all are flags
   pub half-start : SpanFlagged block first last levels flags → HalfMarked levels block first last flags flags (first + 1)
   half-start r =
       let one : first + 1 ≡ suc first = omega arith in
@@ -126,6 +127,7 @@ module _ (levels : List Float) (block first last : ℕ) (flags : List ℕ) where
       now : (j : ℕ) → k ≤ j → (eqb point j || isIn (starts .others) j) ≡ isPoint (isSet flags) levels block first last j
       now j h = ap (λ (p : ℕ). eqb p j || isIn (starts .others) j) (q ∙ ap (quietestOf levels k) f) ∙ sym (opened-in starts j) ∙ w .ahead j h
 
+      -- the block's point is marked, and all before the block's end are marks
       pub half-open : HalfMarked levels block first last flags (set marks point 1) end
       half-open = record {
         some = w .some;
@@ -166,6 +168,7 @@ module _ (levels : List Float) (block first last : ℕ) (flags : List ℕ) where
   still : (marks : List ℕ) (k : ℕ) → HalfMarked levels block first last flags marks k → (j : ℕ) → k ≤ j → isSet marks j ≡ isSet flags j
   still marks k w j h = rw (w .rest j h)
 
+  -- after the step it holds at the boundary that follows
   pub half-next : (marks marks′ : List ℕ) (k k′ : ℕ) → k < last → k′ ≡ nextOf (isSet marks) block last k → marks′ ≡ stepped levels block last k marks
       → HalfMarked levels block first last flags marks k → HalfMarked levels block first last flags marks′ k′
   unfolding nextOf stepped
@@ -180,6 +183,7 @@ module _ (levels : List Float) (block first last : ℕ) (flags : List ℕ) where
       go false t s c d = rw (rw (s, t) at c, rw (s, t) at d, same-end)
           (half-open marks k l w t (blockEnd (isSet flags) block last k) (quietestOf levels k (blockEnd (isSet flags) block last k)) refl refl)
 
+  -- what the step needs is there
   pub half-ready : (marks : List ℕ) (k : ℕ) → k < last → HalfMarked levels block first last flags marks k → SpanFlagged block k last levels marks
   half-ready marks k l w = record { some = w .some; order = l; heard = w .heard; flagged = omega (arith, w .same, w .flagged) }
 
@@ -189,6 +193,7 @@ module _ (levels : List Float) (block first last : ℕ) (flags : List ℕ) where
 
   -- ---- the others are cleared
 
+  -- with 0 up to the span's first boundary and from its last one on, all are marks
   pub marked-all : (marks marks′ marks″ : List ℕ) (start end : ℕ) → SpanFlagged block first last levels flags → Marked levels block first last flags marks → start ≡ first + 1 → end ≡ length marks′
       → marks′ ≡ putRun 0 start 0 marks → marks″ ≡ putRun last end 0 marks′ → marks″ ≡ marksOf levels block first last flags
   unfolding marksOf
@@ -245,10 +250,12 @@ pub record Opening (flags : List ℕ) (block last k most end : ℕ) : Type 0 whe
   pub left : openTo (isSet flags) (most - end) end ≡ blockEnd (isSet flags) block last k
 
 module _ (flags : List ℕ) (block last k most : ℕ) where
+  -- at the block's start nothing is looked at yet
   pub opening-start : k < last → most ≡ min (k + block) last → Opening flags block last k most k
   opening-start h e = record { is = e; after = omega arith; within = omega arith; left = unfold blockEnd in rw e }
 
   module _ (end : ℕ) (o : Opening flags block last k most end) where
+    -- an open boundary is passed
     pub opening-next : end < most → getD flags end 0 ≡ 0 → Opening flags block last k most (end + 1)
     opening-next h e =
         let more : most - end ≡ suc (most - suc end) = omega arith in
@@ -256,9 +263,11 @@ module _ (flags : List ℕ) (block last k most : ℕ) where
         rw more (open-pass (isSet flags) (most - suc end) end (set-no flags end e)) in
         record { is = o .is; after = omega (arith, o .after); within = omega arith; left = rw add-one (sym passed ∙ o .left) }
 
+    -- a blocked boundary ends the block
     pub opening-shut : (getD flags end 0 ≡ 0 → ⊥) → end ≡ blockEnd (isSet flags) block last k
     opening-shut e = sym (open-shut (isSet flags) (most - end) end (set-yes flags end e)) ∙ o .left
 
+    -- without one it ends at `most`
     pub opening-done : most ≤ end → end ≡ blockEnd (isSet flags) block last k
     opening-done h =
         let whole : (left : ℕ) → left ≡ 0 → openTo (isSet flags) left end ≡ end = λ left e. unfold openTo in rw e in
@@ -283,6 +292,7 @@ module _ (block last k : ℕ) (levels : List Float) (marks : List ℕ) where
     pub step-some : (k < end) × (end ≤ last)
     step-some = (omega (arith, e, end-after (isSet marks) block last k (r .some) (r .order) (set-no marks k h)), omega (arith, e, end-within (isSet marks) block last k (r .order)))
 
+    -- its point stands before the span's last boundary
     pub step-inside : (at : ℕ) → at ≡ quietestOf levels k end → at < last
     step-inside at f = omega (arith, f, quietest-within levels k end (step-some .0), step-some)
 

@@ -60,6 +60,7 @@ module _ (blocked : ℕ → Bool) (levels : List Float) (block last : ℕ) (some
   walk-of (passed h f w) p e = past-of h f (walk-of w p e)
   walk-of {k = k} (opened {p = q} {ps = ps} h f s w) p e = opened-of k q h f s p (eqb q p) (isIn ps p) (eqb-true q p) e (walk-of w p)
 
+  -- every grid point is the point of some block
   pub point-of : (first p : ℕ) → isPoint blocked levels block first last p ≡ true → PointOf blocked levels block last (suc first) p
   unfolding isPoint
   point-of first p e = walk-of (points-walk blocked levels block last some first) p e
@@ -133,6 +134,7 @@ module _ (blocked : ℕ → Bool) (levels : List Float) (block last : ℕ) (some
     | inr d ↦ next-in q h f (walk-in w j d l e)
   ]
 
+  -- every open boundary strictly inside the span lies in a block
   pub open-in : (first j : ℕ) → first < j → j < last → blocked j ≡ false → InBlock blocked levels block last (suc first) (gridPoints blocked levels block first last) j
   open-in first j h l e = walk-in (points-walk blocked levels block last some first) j h l e
 

@@ -24,7 +24,8 @@ fn block_end(block: usize, last: usize, k: usize, flags: &[u32]) -> usize
     end
 }
 
-// At a blocked boundary: its flag goes, and the next boundary follows. At an open one: its block's point is marked, and the block's end follows.
+// At a blocked boundary: its flag goes, and the next boundary follows. At an open one: its block's point is marked, and
+// the block's end follows.
 fn mark_block(block: usize, last: usize, k: usize, levels: &[f64], marks: &mut [u32]) -> usize
     requires { ⌜ SpanFlagged block k last (now levels) (now marks) ⌝ }
     ensures { λ r. ⌜ r ≡ nextOf (isSet (now (marks .entry))) block last k ⌝ }
@@ -40,7 +41,8 @@ fn mark_block(block: usize, last: usize, k: usize, levels: &[f64], marks: &mut [
     end
 }
 
-// Blocks restart after every blocked stretch, so a stretch longer than a block, such as long padding, never leaves the candidates on either side of it more than a block away.
+// Blocks restart after every blocked stretch, so a stretch longer than a block, such as long padding, never leaves the
+// candidates on either side of it more than a block away.
 fn mark_blocks(block: usize, first: usize, last: usize, levels: &[f64], marks: &mut [u32])
     requires { ⌜ SpanFlagged block first last (now levels) (now marks) ⌝ }
     ensures { λ _. ⌜ Marked (now (levels .entry)) block first last (now (marks .entry)) (now (marks .exit)) ⌝ }
@@ -51,7 +53,8 @@ fn mark_blocks(block: usize, first: usize, last: usize, levels: &[f64], marks: &
     }
 }
 
-// Turns the flags of blocked boundaries into marks: 1 at each grid point of the span from boundary `first` to `last`, and else 0.
+// Turns the flags of blocked boundaries into marks: 1 at each grid point of the span from boundary `first` to `last`,
+// and else 0.
 pub fn mark_points(block: usize, first: usize, last: usize, levels: &[f64], marks: &mut [u32])
     requires { ⌜ SpanFlagged block first last (now levels) (now marks) ⌝ }
     ensures { λ _. ⌜ now (marks .exit) ≡ marksOf (now (levels .entry)) block first last (now (marks .entry)) ⌝ }

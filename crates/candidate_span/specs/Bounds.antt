@@ -4,18 +4,20 @@ use Prim.Native.Nat.{ℕ, _+_, _-_, min}
 use mathlib.Core.Bool.{Bool, not, _&&_, cond}
 use lib.Dec.{eqb}
 use Rattle.candidate_span.specs.declared.bounds.Bounds.{Bounds}
+use Rattle.candidate_span.specs.declared.padding.Padding.{Padding}
 
--- the lower bound of a silence that starts at frame `start`, of n frames
-unfoldable pub lowOf : ℕ → ℕ → ℕ → ℕ
-lowOf n tail start = cond (eqb start 0) 0 (min (start + tail) n)
+-- the lower bound of a silence that starts at frame `start`
+unfoldable pub lowOf : Padding → ℕ → ℕ
+lowOf p start = cond (eqb start 0) 0 (min (start + p .tail) (p .frames))
 
 -- the upper bound of a silence that ends before frame `end`
-unfoldable pub highOf : ℕ → ℕ → ℕ → ℕ
-highOf n pre end = cond (eqb end n) n (end - pre)
+unfoldable pub highOf : Padding → ℕ → ℕ
+highOf p end = cond (eqb end (p .frames)) (p .frames) (end - p .pre)
 
-abbrev pub boundsOf : ℕ → ℕ → ℕ → ℕ → ℕ → Bounds
-boundsOf n pre tail start end = record { lo = lowOf n tail start; hi = highOf n pre end }
+-- both bounds of a silence
+abbrev pub boundsOf : Padding → ℕ → ℕ → Bounds
+boundsOf p start end = record { lo = lowOf p start; hi = highOf p end }
 
--- an inner silence has sound on both sides
+-- a silence of a recording of n frames is inner: it has sound on both sides
 unfoldable pub isInner : ℕ → ℕ → ℕ → Bool
 isInner n start end = not (eqb start 0) && not (eqb end n)

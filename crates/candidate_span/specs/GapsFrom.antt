@@ -6,17 +6,18 @@ use mathlib.Core.List.{List, [], _∷_, List·Memᴰ, List·Memᴰ·head, List·
 use Prim.Native.Nat.{ℕ, zero, suc, _<_}
 use native.Mathlib.Omega.{arith}
 use Rattle.base_laws.specs.Tests.{tested}
+use Rattle.candidate_span.specs.declared.padding.Padding.{Padding}
 use Rattle.candidate_span.specs.Listed.{count, startAt, endAt}
 use Rattle.silence_runs.specs.SilencesLaws.{start-after, end-after}
 use Rattle.candidate_span.specs.Gaps.{Cut, isGap, silenceGap, innerGaps}
 
-module _ (n pre tail : ℕ) where
+module _ (p : Padding) where
   -- silence i has a gap, and g is it
   pub record GapAt (ss : List ℕ) (g : Cut) : Type 0 where
     pub number : ℕ
     pub listed : number < count ss
-    pub left : isGap n pre tail (startAt ss number) (endAt ss number) ≡ true
-    pub is : g ≡ silenceGap n pre tail (startAt ss number) (endAt ss number)
+    pub left : isGap p (startAt ss number) (endAt ss number) ≡ true
+    pub is : g ≡ silenceGap p (startAt ss number) (endAt ss number)
 
   -- the same silence behind one more
   behind : (s e : ℕ) (ss : List ℕ) (g : Cut) → GapAt ss g → GapAt (s ∷ (e ∷ ss)) g
@@ -27,11 +28,12 @@ module _ (n pre tail : ℕ) where
     is = rw (start-after s e ss (a .number), end-after s e ss (a .number)) (a .is);
   }
 
-  pub gap-from : (ss : List ℕ) (g : Cut) → List·Memᴰ g (innerGaps n pre tail ss) → GapAt ss g
+  -- each gap is that of some silence
+  pub gap-from : (ss : List ℕ) (g : Cut) → List·Memᴰ g (innerGaps p ss) → GapAt ss g
   unfolding innerGaps
   gap-from [] g m = absurd (List·Memᴰ·not-nil m)
   gap-from (s ∷ []) g m = absurd (List·Memᴰ·not-nil m)
-  gap-from (s ∷ (e ∷ ss)) g m = elim (tested (isGap n pre tail s e)) [
+  gap-from (s ∷ (e ∷ ss)) g m = elim (tested (isGap p s e)) [
     | inl t ↦ elim (List·Memᴰ·cases-cons (rw t at m)) [
       | inl q ↦ record { number = 0; listed = omega arith; left = t; is = q }
       | inr i ↦ behind s e ss g (gap-from ss g i)
@@ -39,15 +41,16 @@ module _ (n pre tail : ℕ) where
     | inr t ↦ behind s e ss g (gap-from ss g (rw t at m))
   ]
 
-  pub gap-in : (ss : List ℕ) (i : ℕ) → i < count ss → isGap n pre tail (startAt ss i) (endAt ss i) ≡ true
-      → List·Memᴰ (silenceGap n pre tail (startAt ss i) (endAt ss i)) (innerGaps n pre tail ss)
+  -- and each silence that has one gives its gap
+  pub gap-in : (ss : List ℕ) (i : ℕ) → i < count ss → isGap p (startAt ss i) (endAt ss i) ≡ true
+      → List·Memᴰ (silenceGap p (startAt ss i) (endAt ss i)) (innerGaps p ss)
   unfolding innerGaps
   gap-in [] i h t = absurd (omega arith)
   gap-in (s ∷ []) i h t = absurd (omega arith)
   gap-in (s ∷ (e ∷ ss)) zero h t = rw t (List·Memᴰ·head refl)
   gap-in (s ∷ (e ∷ ss)) (suc i) h t =
       rw (start-after s e ss i, end-after s e ss i)
-      (elim (tested (isGap n pre tail s e)) [
+      (elim (tested (isGap p s e)) [
         | inl f ↦ rw f (List·Memᴰ·tail (gap-in ss i (omega arith) (rw (start-after s e ss i, end-after s e ss i) at t)))
         | inr f ↦ rw f (gap-in ss i (omega arith) (rw (start-after s e ss i, end-after s e ss i) at t))
       ])

@@ -3,15 +3,16 @@ use mathlib.Core.Path.{_≡_, sym, ap, subst, _∙_}
 use mathlib.Core.Logic.{inl, inr}
 use mathlib.Core.Bool.{true}
 use mathlib.Core.List.{List, [], _∷_, List·Memᴰ, List·Memᴰ·head, List·Memᴰ·tail}
-use Prim.Native.Nat.{ℕ, zero, suc, _+_, _-_, _*_, _≤_, _<_}
+use Prim.Native.Nat.{ℕ, zero, suc, _+_, _*_, _≤_, _<_}
 use native.Mathlib.Omega.{arith}
 use lib.Dec.{ltb}
 use lib.ListN.{length, getD}
 use borrow.Author.Tests.{ltb-true, ltb-false}
 use Rattle.base_laws.specs.Tests.{tested, both}
 use Rattle.silence_runs.specs.SilencesLaws.{Rising, rising-least, start-after, end-after}
-use Rattle.candidate_settings.specs.declared.config.Gap.{Gap}
-use Rattle.candidate_settings.specs.declared.config.Gap.the-variants.{Keep, Drop}
+use Rattle.plan_settings.specs.declared.config.Gap.{Gap}
+use Rattle.plan_settings.specs.declared.config.Gap.the-variants.{Keep, Drop}
+use Rattle.candidate_span.specs.declared.padding.Padding.{Padding}
 use Rattle.candidate_span.specs.Listed.{count, startAt, endAt}
 use Rattle.candidate_span.specs.Bounds.{lowOf, highOf, isInner}
 use Rattle.candidate_span.specs.BoundsLaws.{inner-parts, low-within, high-within}
@@ -22,12 +23,12 @@ use Rattle.candidate_span.specs.Gaps.{Cut, isGap, gapWidth, innerGaps, g
 -- ---- one gap
 
 -- a gap belongs to an inner silence, and its left end is below its right end
-pub gap-parts : (n pre tail start end : ℕ) → isGap n pre tail start end ≡ true → (start ≡ 0 → ⊥) × (end ≡ n → ⊥) × (lowOf n tail start < highOf n pre end)
+pub gap-parts : (p : Padding) (start end : ℕ) → isGap p start end ≡ true → (start ≡ 0 → ⊥) × (end ≡ p .frames → ⊥) × (lowOf p start < highOf p end)
 unfolding isGap
-gap-parts n pre tail start end h =
-    let p = both (isInner n start end) (ltb (lowOf n tail start) (highOf n pre end)) h in
-    let i = inner-parts n start end (p .0) in
-    (i .0, i .1, ltb-true (lowOf n tail start) (highOf n pre end) (p .1))
+gap-parts p start end h =
+    let t = both (isInner (p .frames) start end) (ltb (lowOf p start) (highOf p end)) h in
+    let i = inner-parts (p .frames) start end (t .0) in
+    (i .0, i .1, ltb-true (lowOf p start) (highOf p end) (t .1))
 
 -- ---- all of them
 
@@ -50,36 +51,38 @@ ends-rest n z s e ss f i h d =
 starts-next : (a e n : ℕ) (ss : List ℕ) → a ≤ e → Rising (suc e) n ss → StartsAfter a ss
 starts-next a e n ss h r i l d = omega (arith, rising-least (suc e) n ss (2 * i) r (omega arith))
 
-spread-from : (n pre tail a z lo : ℕ) (ss : List ℕ) → Rising lo n ss → a < z → StartsAfter a ss → EndsBefore n z ss → Spread a (innerGaps n pre tail ss) z
+spread-from : (p : Padding) (a z lo : ℕ) (ss : List ℕ) → Rising lo (p .frames) ss → a < z → StartsAfter a ss → EndsBefore (p .frames) z ss → Spread a (innerGaps p ss) z
 unfolding innerGaps
-spread-from n pre tail a z lo [] r h f g = h
-spread-from n pre tail a z lo (s ∷ []) r h f g = h
-spread-from n pre tail a z lo (s ∷ (e ∷ ss)) r h f g = elim (tested (isGap n pre tail s e)) [
+spread-from p a z lo [] r h f g = h
+spread-from p a z lo (s ∷ []) r h f g = h
+spread-from p a z lo (s ∷ (e ∷ ss)) r h f g = elim (tested (isGap p s e)) [
   | inl t ↦
-      let q = gap-parts n pre tail s e t in
-      let k : highOf n pre e < z = omega (arith, g 0 (omega arith) (q .1), high-within n pre e) in
+      let q = gap-parts p s e t in
+      let k : highOf p e < z = omega (arith, g 0 (omega arith) (q .1), high-within p e) in
       rw t (
-        omega (arith, f 0 (omega arith) (q .0), low-within n tail s (r .1) .0),
+        omega (arith, f 0 (omega arith) (q .0), low-within p s (r .1) .0),
         q .2,
-        spread-from n pre tail (highOf n pre e) z (suc e) ss (r .2 .2) k (starts-next (highOf n pre e) e n ss (high-within n pre e) (r .2 .2)) (ends-rest n z s e ss g),
+        spread-from p (highOf p e) z (suc e) ss (r .2 .2) k (starts-next (highOf p e) e (p .frames) ss (high-within p e) (r .2 .2)) (ends-rest (p .frames) z s e ss g),
       )
-  | inr t ↦ rw t (spread-from n pre tail a z (suc e) ss (r .2 .2) h (starts-rest a s e ss f) (ends-rest n z s e ss g))
+  | inr t ↦ rw t (spread-from p a z (suc e) ss (r .2 .2) h (starts-rest a s e ss f) (ends-rest (p .frames) z s e ss g))
 ]
 
 -- document 01's dropped gaps lie strictly inside the span, with a frame at least between them
-pub gaps-spread : (gap : Gap) (n pre tail : ℕ) (ss : List ℕ) → Spanned gap n ss → Spread (firstOf gap pre ss) (gapsOf gap n pre tail ss) (lastOf gap n tail ss)
+pub gaps-spread : (gap : Gap) (p : Padding) (ss : List ℕ) → Spanned gap (p .frames) ss → Spread (firstOf gap p ss) (gapsOf gap p ss) (lastOf gap p ss)
 unfolding gapsOf
-gaps-spread Keep n pre tail ss p = ends-order Keep n pre tail ss p .0
-gaps-spread Drop n pre tail ss p =
-    spread-from n pre tail (firstOf Drop pre ss) (lastOf Drop n tail ss) 0 ss (p .listed .rises) (ends-order Drop n pre tail ss p .0)
-    (λ i h d. inner-first Drop n pre ss p i h d) (λ i h d. inner-last Drop n tail ss p i h d)
+gaps-spread Keep p ss s = ends-order Keep p ss s .0
+gaps-spread Drop p ss s =
+    spread-from p (firstOf Drop p ss) (lastOf Drop p ss) 0 ss (s .listed .rises) (ends-order Drop p ss s .0)
+    (λ i h d. inner-first Drop p ss s i h d) (λ i h d. inner-last Drop p ss s i h d)
 
 -- ---- what that says of each gap
 
+-- a span that gaps lie in has a frame at least
 pub spread-ends : (a : ℕ) (gs : List Cut) (z : ℕ) → Spread a gs z → a < z
 spread-ends a [] z s = s
 spread-ends a (g ∷ gs) z s = omega (arith, s .0, s .1, spread-ends (g .right) gs z (s .2))
 
+-- each gap lies strictly inside, and drops a frame at least
 pub spread-inside : (a : ℕ) (gs : List Cut) (z : ℕ) (g : Cut) → Spread a gs z → List·Memᴰ g gs → (a < g .left) × (g .left < g .right) × (g .right < z)
 spread-inside a (h ∷ gs) z g s (List·Memᴰ·head e) =
     let l = ap (λ (c : Cut). c .left) e in
@@ -89,27 +92,28 @@ spread-inside a (h ∷ gs) z g s (List·Memᴰ·tail m) =
     let i = spread-inside (h .right) gs z g (s .2) m in
     (omega (arith, s .0, s .1, i .0), i .1, i .2)
 
+-- each gap ends before the next one starts
 pub spread-apart : (a : ℕ) (gs : List Cut) (z : ℕ) (i : ℕ) (d : Cut) → Spread a gs z → suc i < length gs → getD gs i d .right < getD gs (suc i) d .left
 spread-apart a [] z i d s h = absurd (omega arith)
 spread-apart a (g ∷ []) z i d s h = absurd (omega arith)
 spread-apart a (g ∷ (k ∷ gs)) z zero d s h = s .2 .0
 spread-apart a (g ∷ (k ∷ gs)) z (suc i) d s h = spread-apart (g .right) (k ∷ gs) z i d (s .2) (omega arith)
 
-module _ (gap : Gap) (n pre tail : ℕ) (ss : List ℕ) (p : Spanned gap n ss) where
+module _ (gap : Gap) (p : Padding) (ss : List ℕ) (s : Spanned gap (p .frames) ss) where
   -- each gap lies strictly inside the span, and drops a frame at least
-  pub gaps-inside : (g : Cut) → List·Memᴰ g (gapsOf gap n pre tail ss) → (firstOf gap pre ss < g .left) × (g .left < g .right) × (g .right < lastOf gap n tail ss)
-  gaps-inside g m = spread-inside (firstOf gap pre ss) (gapsOf gap n pre tail ss) (lastOf gap n tail ss) g (gaps-spread gap n pre tail ss p) m
+  pub gaps-inside : (g : Cut) → List·Memᴰ g (gapsOf gap p ss) → (firstOf gap p ss < g .left) × (g .left < g .right) × (g .right < lastOf gap p ss)
+  gaps-inside g m = spread-inside (firstOf gap p ss) (gapsOf gap p ss) (lastOf gap p ss) g (gaps-spread gap p ss s) m
 
   -- a frame at least lies between a gap and the next
-  pub gaps-apart : (i : ℕ) (d : Cut) → suc i < length (gapsOf gap n pre tail ss) → getD (gapsOf gap n pre tail ss) i d .right < getD (gapsOf gap n pre tail ss) (suc i) d .left
-  gaps-apart i d h = spread-apart (firstOf gap pre ss) (gapsOf gap n pre tail ss) (lastOf gap n tail ss) i d (gaps-spread gap n pre tail ss p) h
+  pub gaps-apart : (i : ℕ) (d : Cut) → suc i < length (gapsOf gap p ss) → getD (gapsOf gap p ss) i d .right < getD (gapsOf gap p ss) (suc i) d .left
+  gaps-apart i d h = spread-apart (firstOf gap p ss) (gapsOf gap p ss) (lastOf gap p ss) i d (gaps-spread gap p ss s) h
 
 -- ---- how many frames gaps drop
 
 -- those of the first silence's gap, and those of the others
-pub dropped-first : (n pre tail s e : ℕ) (ss : List ℕ) → dropped (innerGaps n pre tail (s ∷ (e ∷ ss))) ≡ gapWidth n pre tail s e + dropped (innerGaps n pre tail ss)
+pub dropped-first : (p : Padding) (s e : ℕ) (ss : List ℕ) → dropped (innerGaps p (s ∷ (e ∷ ss))) ≡ gapWidth p s e + dropped (innerGaps p ss)
 unfolding innerGaps isGap gapWidth dropped
-dropped-first n pre tail s e ss = elim (tested (isInner n s e)) [
-  | inl f ↦ elim (tested (ltb (lowOf n tail s) (highOf n pre e))) [ inl t ↦ rw (f, t) | inr t ↦ rw (f, t) (omega (arith, ltb-false (lowOf n tail s) (highOf n pre e) t)) ]
+dropped-first p s e ss = elim (tested (isInner (p .frames) s e)) [
+  | inl f ↦ elim (tested (ltb (lowOf p s) (highOf p e))) [ inl t ↦ rw (f, t) | inr t ↦ rw (f, t) (omega (arith, ltb-false (lowOf p s) (highOf p e) t)) ]
   | inr f ↦ rw f (omega arith)
 ]

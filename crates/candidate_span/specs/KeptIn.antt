@@ -13,6 +13,7 @@ use Rattle.candidate_span.specs.Kept.{inNone, boundaries, passing, keptB
 
 -- ---- the boundaries of a run
 
+-- every boundary after a, up to the last of the run, is in it
 pub in-boundaries : (a n k : ℕ) → a < k → k ≤ a + n → List·Memᴰ k (boundaries a n)
 unfolding boundaries
 in-boundaries a zero k h l = absurd (omega arith)
@@ -23,6 +24,7 @@ in-boundaries a (suc n) k h l = elim (lt-or-le (suc a) k) [
       List·Memᴰ·head e
 ]
 
+-- and no other
 pub of-boundaries : (a n k : ℕ) → List·Memᴰ k (boundaries a n) → (a < k) × (k ≤ a + n)
 unfolding boundaries
 of-boundaries a zero k m = absurd (List·Memᴰ·not-nil m)
@@ -54,6 +56,7 @@ of-passing p (j ∷ ks) k m = elim (tested (p j)) [
 abbrev pub Outside : List Cut → ℕ → Type 0
 Outside gs k = (g : Cut) → List·Memᴰ g gs → (k < g .left) ⊎ (g .right < k)
 
+-- then the test that it is in none passes
 pub outside-none : (gs : List Cut) (k : ℕ) → Outside gs k → inNone gs k ≡ true
 unfolding inNone
 outside-none [] k o = refl
@@ -62,6 +65,7 @@ outside-none (g ∷ gs) k o = let rest = outside-none gs k (λ j m. o j (List·M
   | inr h ↦ rw (lt-leb k (g .right) h, and-false (leb (g .left) k), rest)
 ]
 
+-- and only then
 pub none-outside : (gs : List Cut) (k : ℕ) → inNone gs k ≡ true → Outside gs k
 unfolding inNone
 none-outside [] k e g m = absurd (List·Memᴰ·not-nil m)

@@ -8,7 +8,8 @@ use native.Mathlib.Omega.{arith}
 use lib.ListN.{length, length-append}
 use borrow.Author.Tests.{le-leb, lt-leb}
 use Rattle.base_laws.specs.Tests.{tested}
-use Rattle.candidate_settings.specs.declared.config.Gap.{Gap}
+use Rattle.plan_settings.specs.declared.config.Gap.{Gap}
+use Rattle.candidate_span.specs.declared.padding.Padding.{Padding}
 use Rattle.candidate_span.specs.Span.{firstOf, lastOf}
 use Rattle.candidate_span.specs.SpanLaws.{Spanned}
 use Rattle.candidate_span.specs.Gaps.{Cut, dropped, Spread, gapsOf}
@@ -82,15 +83,18 @@ parted a l r z h k m =
 
 -- ---- counts over any span
 
+-- gaps leave a frame of the span at least
 pub dropped-less : (a : ℕ) (gs : List Cut) (z : ℕ) → Spread a gs z → a + dropped gs < z
 unfolding dropped
 dropped-less a [] z s = omega (arith, s)
 dropped-less a (g ∷ gs) z s = omega (arith, s .0, s .1, dropped-less (g .right) gs z (s .2))
 
+-- so a frame at least is kept
 pub spread-some : (a : ℕ) (gs : List Cut) (z : ℕ) → Spread a gs z → 1 ≤ keptFrames a gs z
 unfolding keptFrames
 spread-some a gs z s = omega (arith, dropped-less a gs z s)
 
+-- kept boundaries + gaps + 1 = kept frames, of any gaps that lie in a span
 pub spread-count : (a : ℕ) (gs : List Cut) (z : ℕ) → Spread a gs z → length (keptBoundaries a gs z) + length gs + 1 ≡ keptFrames a gs z
 unfolding keptBoundaries keptFrames dropped
 spread-count a [] z s = omega (arith, s, all-pass (inNone []) a (z - suc a) (λ k h l. before-all k [] (suc k) k (omega arith) (omega arith)))
@@ -126,12 +130,12 @@ spread-count a (g ∷ gs) z s =
 
 -- ---- and over a plan's
 
-module _ (gap : Gap) (n pre tail : ℕ) (ss : List ℕ) (p : Spanned gap n ss) where
+module _ (gap : Gap) (p : Padding) (ss : List ℕ) (s : Spanned gap (p .frames) ss) where
   -- a span that is not empty keeps a frame
-  pub kept-some : 1 ≤ keptFrames (firstOf gap pre ss) (gapsOf gap n pre tail ss) (lastOf gap n tail ss)
-  kept-some = spread-some (firstOf gap pre ss) (gapsOf gap n pre tail ss) (lastOf gap n tail ss) (gaps-spread gap n pre tail ss p)
+  pub kept-some : 1 ≤ keptFrames (firstOf gap p ss) (gapsOf gap p ss) (lastOf gap p ss)
+  kept-some = spread-some (firstOf gap p ss) (gapsOf gap p ss) (lastOf gap p ss) (gaps-spread gap p ss s)
 
   -- kept boundaries + gaps + 1 = kept frames
-  pub kept-count : length (keptBoundaries (firstOf gap pre ss) (gapsOf gap n pre tail ss) (lastOf gap n tail ss)) + length (gapsOf gap n pre tail ss) + 1
-      ≡ keptFrames (firstOf gap pre ss) (gapsOf gap n pre tail ss) (lastOf gap n tail ss)
-  kept-count = spread-count (firstOf gap pre ss) (gapsOf gap n pre tail ss) (lastOf gap n tail ss) (gaps-spread gap n pre tail ss p)
+  pub kept-count : length (keptBoundaries (firstOf gap p ss) (gapsOf gap p ss) (lastOf gap p ss)) + length (gapsOf gap p ss) + 1
+      ≡ keptFrames (firstOf gap p ss) (gapsOf gap p ss) (lastOf gap p ss)
+  kept-count = spread-count (firstOf gap p ss) (gapsOf gap p ss) (lastOf gap p ss) (gaps-spread gap p ss s)

@@ -1,3 +1,5 @@
+-- What a plan keeps of a recording: spacing, span, dropped gaps and kept frames.
+
 -- Spacing: block, padding and its cap, the grid's edge limit, from the settings (`spacingOf`)
 pub mod Spacing
 -- SpacingLaws: what the conversions need (`Spaced`, `passed-spaced`); a block has a frame at least (`block-some`); what the parts make together (`spacing-is`)
@@ -10,7 +12,7 @@ pub mod ListedLaws
 pub mod Bounds
 -- BoundsLaws: the bounds lie inside the silence
 pub mod BoundsLaws
--- Span: the two ends of the span, and when it is empty (`endsOf`, `emptySpan`, `firstOf`, `lastOf`)
+-- Span: the two ends of the span, and when it is empty (`endsOf`, `emptySpan`, `firstOf`, `lastOf`); the span itself (`spanOf`, `spanIn`)
 pub mod Span
 -- SpanLaws: the ends are in order (`ends-order`), inner silences lie strictly inside (`inner-first`, `inner-last`), what an answer says (`ends-found`, `ends-none`)
 pub mod SpanLaws

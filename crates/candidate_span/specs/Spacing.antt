@@ -5,6 +5,7 @@ use Rattle.grid.specs.Limits.{nanosPerSec}
 use Rattle.grid.specs.Durations.{framesIn, framesFloor, samplesFloor}
 use Rattle.grid.specs.Boundary.{boundaryOf}
 use Rattle.grid.specs.declared.boundary.FrameGrid.{FrameGrid}
+use Rattle.candidate_span.specs.declared.padding.Padding.{Padding}
 use Rattle.candidate_span.specs.declared.spacing.Spacing.{Spacing}
 
 -- the block's duration: half of maximum less minimum, an eighth of the maximum at least, a second at most
@@ -36,4 +37,5 @@ unfoldable pub spacingOf : FrameGrid → ℕ → ℕ → ℕ → ℕ → Spacing
 spacingOf g pre tail least most =
     let block = blockOf g least most in
     let cap = paddingCap g block most in
-    record { block = block; «edge_limit» = edgeLimit g block most; pre = paddingOf g cap pre; tail = paddingOf g cap tail }
+    let padding : Padding = record { frames = g .frames; pre = paddingOf g cap pre; tail = paddingOf g cap tail } in
+    record { block = block; «edge_limit» = edgeLimit g block most; padding = padding }

@@ -38,6 +38,7 @@ passed-spaced r values flags levels p ns h =
 pub block-time-most : (least most : ℕ) → blockTime least most ≤ nanosPerSec
 block-time-most least most = omega arith
 
+-- so its conversion to frames fits
 pub spaced-block : {g : FrameGrid} {ns : ℕ} (least most : ℕ) → Spaced g ns → InFrames (g .«frame_rate») (g .hop) (blockTime least most)
 spaced-block least most s = record { rate = s .rate; step = s .step; most = s .bounded .hop; time = omega (arith, block-time-most least most) }
 
@@ -50,6 +51,6 @@ block-some g least most = omega arith
 pub spacing-is : (g : FrameGrid) (pre tail least most block cap before after kept after-kept limit : ℕ) → block ≡ blockOf g least most → cap ≡ paddingCap g block most
     → before ≡ framesIn (g .«frame_rate») (g .hop) pre → kept ≡ min before cap → after ≡ framesIn (g .«frame_rate») (g .hop) tail → after-kept ≡ min after cap
     → limit ≡ edgeLimit g block most
-    → _≡_ {A = Spacing} (record { block = block; «edge_limit» = limit; pre = kept; tail = after-kept }) (spacingOf g pre tail least most)
+    → _≡_ {A = Spacing} (record { block = block; «edge_limit» = limit; padding = record { frames = g .frames; pre = kept; tail = after-kept } }) (spacingOf g pre tail least most)
 unfolding spacingOf paddingOf
 spacing-is g pre tail least most block cap before after kept after-kept limit a b c d e f h = rw (h, f, e, d, c, b, a)

@@ -1,14 +1,17 @@
 -- Document 01's "span", which "lies between its two ends, which the Rust takes from the frames, silences and settings".
--- `endsOf` is what contracts cite; that its ends are in order is in SpanLaws. n is the frame count, ss the list of silences.
+-- `endsOf` and `spanOf` are what contracts cite; that the ends are in order is in SpanLaws. n is the frame count, ss the list of silences.
 use Prim.Native.Nat.{ℕ, _+_, _-_, min}
 use mathlib.Core.Bool.{Bool, _&&_, _||_, cond}
 use mathlib.Core.List.{List}
 use lib.Dec.{eqb, ltb}
-use Rattle.candidate_settings.specs.declared.config.Gap.{Gap}
-use Rattle.candidate_settings.specs.declared.config.Gap.the-variants.{Keep, Drop}
+use Rattle.plan_settings.specs.declared.config.Gap.{Gap}
+use Rattle.plan_settings.specs.declared.config.Gap.the-variants.{Keep, Drop}
 use Rattle.candidate_span.specs.declared.ends.SpanEnds.{SpanEnds}
 use Rattle.candidate_span.specs.declared.ends.SpanEnds.the-variants.{Empty, Between}
+use Rattle.candidate_span.specs.declared.padding.Padding.{Padding}
+use Rattle.candidate_span.specs.declared.held.HeldSpan.{HeldSpan}
 use Rattle.candidate_span.specs.Listed.{count, startAt, endAt}
+use Rattle.candidate_span.specs.Gaps.{Cut, gapsOf}
 
 -- the first silence starts with the recording
 unfoldable pub isLeading : List ℕ → Bool
@@ -28,15 +31,29 @@ emptySpan Keep n ss = eqb n 0
 emptySpan Drop n ss = eqb n 0 || allSilent n ss
 
 -- the span's first boundary: with gaps dropped, padding before the first sound is kept of a leading silence
-unfoldable pub firstOf : Gap → ℕ → List ℕ → ℕ
-firstOf Keep pre ss = 0
-firstOf Drop pre ss = cond (isLeading ss) (endAt ss 0 - pre) 0
+unfoldable pub firstOf : Gap → Padding → List ℕ → ℕ
+firstOf Keep p ss = 0
+firstOf Drop p ss = cond (isLeading ss) (endAt ss 0 - p .pre) 0
 
 -- the span's last boundary: with gaps dropped, padding after the last sound is kept of a trailing silence
-unfoldable pub lastOf : Gap → ℕ → ℕ → List ℕ → ℕ
-lastOf Keep n tail ss = n
-lastOf Drop n tail ss = cond (isTrailing n ss) (min (startAt ss (count ss - 1) + tail) n) n
+unfoldable pub lastOf : Gap → Padding → List ℕ → ℕ
+lastOf Keep p ss = p .frames
+lastOf Drop p ss = cond (isTrailing (p .frames) ss) (min (startAt ss (count ss - 1) + p .tail) (p .frames)) (p .frames)
 
 -- the two ends of the span, or that it is empty
-unfoldable pub endsOf : Gap → ℕ → ℕ → ℕ → List ℕ → SpanEnds
-endsOf gap n pre tail ss = cond (emptySpan gap n ss) Empty (Between (firstOf gap pre ss) (lastOf gap n tail ss))
+unfoldable pub endsOf : Gap → Padding → List ℕ → SpanEnds
+endsOf gap p ss = cond (emptySpan gap (p .frames) ss) Empty (Between (firstOf gap p ss) (lastOf gap p ss))
+
+-- document 01's "span": it lies between its two ends, and the dropped gaps lie in it
+pub record Span : Type 0 where
+  pub first : ℕ
+  pub gaps : List Cut
+  pub last : ℕ
+
+-- the span between two ends that are held as numbers, with the gaps that are dropped
+abbrev pub spanIn : Gap → Padding → HeldSpan → List ℕ → Span
+spanIn gap p h ss = record { first = h .first; gaps = gapsOf gap p ss; last = h .last }
+
+-- document 01's "span" of a recording: its ends follow from the silences
+abbrev pub spanOf : Gap → Padding → List ℕ → Span
+spanOf gap p ss = spanIn gap p record { silences = count ss; first = firstOf gap p ss; last = lastOf gap p ss } ss

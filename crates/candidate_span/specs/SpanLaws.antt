@@ -10,10 +10,11 @@ use borrow.Author.Tests.{ltb-true, eqb-true, eqb-false, lt-ltb, eq-eqb}
 use native.Mathlib.Nat.{pos-of-ne-zero}
 use native.Mathlib.Numerals.{lt-of-le-of-ne}
 use Rattle.base_laws.specs.Tests.{both, holds, lt-or-le, tested}
-use Rattle.candidate_settings.specs.declared.config.Gap.{Gap}
-use Rattle.candidate_settings.specs.declared.config.Gap.the-variants.{Keep, Drop}
+use Rattle.plan_settings.specs.declared.config.Gap.{Gap}
+use Rattle.plan_settings.specs.declared.config.Gap.the-variants.{Keep, Drop}
 use Rattle.candidate_span.specs.declared.ends.SpanEnds.{SpanEnds}
 use Rattle.candidate_span.specs.declared.ends.SpanEnds.the-variants.{Empty, Between}
+use Rattle.candidate_span.specs.declared.padding.Padding.{Padding}
 use Rattle.candidate_span.specs.Listed.{count, startAt, endAt}
 use Rattle.candidate_span.specs.ListedLaws.{Listed, listed-own, listed-apart, listed-within}
 use Rattle.candidate_span.specs.Span.{isLeading, isTrailing, allSilent, emptySpan, firstOf, lastOf, endsOf}
@@ -37,23 +38,25 @@ by-end count at end P there elsewhere = elim (tested (ltb 0 count && eqb at end)
 ]
 
 -- the first silence starts with the recording, or the first frame sounds
-pub data Leading (ss : List ℕ) (pre first : ℕ) : Type 0 where
-  led : 0 < count ss → startAt ss 0 ≡ 0 → first ≡ endAt ss 0 - pre → Leading ss pre first
-  unled : (0 < count ss → startAt ss 0 ≡ 0 → ⊥) → first ≡ 0 → Leading ss pre first
+pub data Leading (p : Padding) (ss : List ℕ) (first : ℕ) : Type 0 where
+  led : 0 < count ss → startAt ss 0 ≡ 0 → first ≡ endAt ss 0 - p .pre → Leading p ss first
+  unled : (0 < count ss → startAt ss 0 ≡ 0 → ⊥) → first ≡ 0 → Leading p ss first
 
-pub leading : (pre : ℕ) (ss : List ℕ) → Leading ss pre (firstOf Drop pre ss)
+-- with gaps dropped, one of the two holds of the span's first boundary
+pub leading : (p : Padding) (ss : List ℕ) → Leading p ss (firstOf Drop p ss)
 unfolding firstOf isLeading
-leading pre ss = by-end (count ss) (startAt ss 0) 0 (λ t. Leading ss pre (cond t (endAt ss 0 - pre) 0)) (λ h e. led h e refl) (λ n. unled n refl)
+leading p ss = by-end (count ss) (startAt ss 0) 0 (λ t. Leading p ss (cond t (endAt ss 0 - p .pre) 0)) (λ h e. led h e refl) (λ n. unled n refl)
 
 -- the last silence ends with the recording, or the last frame sounds
-pub data Trailing (ss : List ℕ) (n tail last : ℕ) : Type 0 where
-  trailed : 0 < count ss → endAt ss (count ss - 1) ≡ n → last ≡ min (startAt ss (count ss - 1) + tail) n → Trailing ss n tail last
-  untrailed : (0 < count ss → endAt ss (count ss - 1) ≡ n → ⊥) → last ≡ n → Trailing ss n tail last
+pub data Trailing (p : Padding) (ss : List ℕ) (last : ℕ) : Type 0 where
+  trailed : 0 < count ss → endAt ss (count ss - 1) ≡ p .frames → last ≡ min (startAt ss (count ss - 1) + p .tail) (p .frames) → Trailing p ss last
+  untrailed : (0 < count ss → endAt ss (count ss - 1) ≡ p .frames → ⊥) → last ≡ p .frames → Trailing p ss last
 
-pub trailing : (n tail : ℕ) (ss : List ℕ) → Trailing ss n tail (lastOf Drop n tail ss)
+-- with gaps dropped, one of the two holds of the span's last boundary
+pub trailing : (p : Padding) (ss : List ℕ) → Trailing p ss (lastOf Drop p ss)
 unfolding lastOf isTrailing
-trailing n tail ss =
-    by-end (count ss) (endAt ss (count ss - 1)) n (λ t. Trailing ss n tail (cond t (min (startAt ss (count ss - 1) + tail) n) n))
+trailing p ss =
+    by-end (count ss) (endAt ss (count ss - 1)) (p .frames) (λ t. Trailing p ss (cond t (min (startAt ss (count ss - 1) + p .tail) (p .frames)) (p .frames)))
     (λ h e. trailed h e refl) (λ s. untrailed s refl)
 
 -- ---- what a span that is not empty has
@@ -75,60 +78,61 @@ span-sounds n ss e h s t =
 zero-is : (i : ℕ) → i ≤ 0 → i ≡ 0
 zero-is i l = omega arith
 
-module _ (n : ℕ) (ss : List ℕ) (p : Spanned Drop n ss) where
+module _ (p : Padding) (ss : List ℕ) (w : Spanned Drop (p .frames) ss) where
   -- the last silence starts after a leading one
-  after-leading : 0 < count ss → startAt ss 0 ≡ 0 → endAt ss (count ss - 1) ≡ n → endAt ss 0 < startAt ss (count ss - 1)
+  after-leading : 0 < count ss → startAt ss 0 ≡ 0 → endAt ss (count ss - 1) ≡ p .frames → endAt ss 0 < startAt ss (count ss - 1)
   after-leading h s t = elim (lt-or-le 0 (count ss - 1)) [
-    | inl q ↦ listed-apart (p .listed) 0 (count ss - 1) q (omega arith)
-    | inr q ↦ absurd (span-sounds n ss (p .some) h s (subst (λ (i : ℕ). endAt ss i ≡ n) (zero-is (count ss - 1) q) t))
+    | inl q ↦ listed-apart (w .listed) 0 (count ss - 1) q (omega arith)
+    | inr q ↦ absurd (span-sounds (p .frames) ss (w .some) h s (subst (λ (i : ℕ). endAt ss i ≡ p .frames) (zero-is (count ss - 1) q) t))
   ]
 
   -- and after the first frame where that one sounds
   after-sound : 0 < count ss → (startAt ss 0 ≡ 0 → ⊥) → 0 < startAt ss (count ss - 1)
   after-sound h s = elim (lt-or-le 0 (count ss - 1)) [
-    | inl q ↦ omega (arith, listed-apart (p .listed) 0 (count ss - 1) q (omega arith))
+    | inl q ↦ omega (arith, listed-apart (w .listed) 0 (count ss - 1) q (omega arith))
     | inr q ↦ pos-of-ne-zero {n = startAt ss (count ss - 1)} (λ e. s (subst (λ (i : ℕ). startAt ss i ≡ 0) (zero-is (count ss - 1) q) e))
   ]
 
   last-own : 0 < count ss → startAt ss (count ss - 1) < endAt ss (count ss - 1)
-  last-own h = listed-own (p .listed) (count ss - 1) (omega arith)
+  last-own h = listed-own (w .listed) (count ss - 1) (omega arith)
 
-  order : (pre tail first last : ℕ) → Leading ss pre first → Trailing ss n tail last → (first < last) × (last ≤ n)
-  order pre tail first last (led h s e) (trailed k t f) = (omega (arith, after-leading h s t, last-own h), omega arith)
-  order pre tail first last (led h s e) (untrailed t f) = (omega (arith, lt-of-le-of-ne (listed-within (p .listed) 0 h) (span-sounds n ss (p .some) h s)), omega arith)
-  order pre tail first last (unled h e) (trailed k t f) = (omega (arith, after-sound k (h k), last-own k), omega arith)
-  order pre tail first last (unled h e) (untrailed t f) = (omega (arith, span-frames Drop n ss (p .some)), omega arith)
+  order : (first last : ℕ) → Leading p ss first → Trailing p ss last → (first < last) × (last ≤ p .frames)
+  order first last (led h s e) (trailed k t f) = (omega (arith, after-leading h s t, last-own h), omega arith)
+  order first last (led h s e) (untrailed t f) = (omega (arith, lt-of-le-of-ne (listed-within (w .listed) 0 h) (span-sounds (p .frames) ss (w .some) h s)), omega arith)
+  order first last (unled h e) (trailed k t f) = (omega (arith, after-sound k (h k), last-own k), omega arith)
+  order first last (unled h e) (untrailed t f) = (omega (arith, span-frames Drop (p .frames) ss (w .some)), omega arith)
 
   -- an inner silence starts after the span's first boundary
-  starts-inside : (pre first i : ℕ) → Leading ss pre first → i < count ss → (startAt ss i ≡ 0 → ⊥) → first < startAt ss i
-  starts-inside pre first i (unled h e) l s = omega (arith, pos-of-ne-zero s)
-  starts-inside pre first zero (led h t e) l s = absurd (s t)
-  starts-inside pre first (suc i) (led h t e) l s = omega (arith, listed-apart (p .listed) 0 (suc i) (omega arith) l)
+  starts-inside : (first i : ℕ) → Leading p ss first → i < count ss → (startAt ss i ≡ 0 → ⊥) → first < startAt ss i
+  starts-inside first i (unled h e) l s = omega (arith, pos-of-ne-zero s)
+  starts-inside first zero (led h t e) l s = absurd (s t)
+  starts-inside first (suc i) (led h t e) l s = omega (arith, listed-apart (w .listed) 0 (suc i) (omega arith) l)
 
   -- and ends before its last
-  ends-inside : (tail last i : ℕ) → Trailing ss n tail last → i < count ss → (endAt ss i ≡ n → ⊥) → endAt ss i < last
-  ends-inside tail last i (untrailed h e) l s = omega (arith, lt-of-le-of-ne (listed-within (p .listed) i l) s)
-  ends-inside tail last i (trailed h t e) l s = elim (lt-or-le i (count ss - 1)) [
-    | inl q ↦ omega (arith, listed-apart (p .listed) i (count ss - 1) q (omega arith), last-own h)
-    | inr q ↦ absurd (s (subst (λ (j : ℕ). endAt ss j ≡ n) (omega arith) t))
+  ends-inside : (last i : ℕ) → Trailing p ss last → i < count ss → (endAt ss i ≡ p .frames → ⊥) → endAt ss i < last
+  ends-inside last i (untrailed h e) l s = omega (arith, lt-of-le-of-ne (listed-within (w .listed) i l) s)
+  ends-inside last i (trailed h t e) l s = elim (lt-or-le i (count ss - 1)) [
+    | inl q ↦ omega (arith, listed-apart (w .listed) i (count ss - 1) q (omega arith), last-own h)
+    | inr q ↦ absurd (s (subst (λ (j : ℕ). endAt ss j ≡ p .frames) (omega arith) t))
   ]
 
 -- the ends of a span are in order, and within the frame count
-pub ends-order : (gap : Gap) (n pre tail : ℕ) (ss : List ℕ) → Spanned gap n ss → (firstOf gap pre ss < lastOf gap n tail ss) × (lastOf gap n tail ss ≤ n)
+pub ends-order : (gap : Gap) (p : Padding) (ss : List ℕ) → Spanned gap (p .frames) ss → (firstOf gap p ss < lastOf gap p ss) × (lastOf gap p ss ≤ p .frames)
 unfolding firstOf lastOf
-ends-order Keep n pre tail ss p = (span-frames Keep n ss (p .some), omega arith)
-ends-order Drop n pre tail ss p = order n ss p pre tail (firstOf Drop pre ss) (lastOf Drop n tail ss) (leading pre ss) (trailing n tail ss)
+ends-order Keep p ss w = (span-frames Keep (p .frames) ss (w .some), omega arith)
+ends-order Drop p ss w = order p ss w (firstOf Drop p ss) (lastOf Drop p ss) (leading p ss) (trailing p ss)
 
--- an inner silence lies strictly inside the span
-pub inner-first : (gap : Gap) (n pre : ℕ) (ss : List ℕ) → Spanned gap n ss → (i : ℕ) → i < count ss → (startAt ss i ≡ 0 → ⊥) → firstOf gap pre ss < startAt ss i
+-- an inner silence starts after the span's first boundary
+pub inner-first : (gap : Gap) (p : Padding) (ss : List ℕ) → Spanned gap (p .frames) ss → (i : ℕ) → i < count ss → (startAt ss i ≡ 0 → ⊥) → firstOf gap p ss < startAt ss i
 unfolding firstOf
-inner-first Keep n pre ss p i h s = pos-of-ne-zero s
-inner-first Drop n pre ss p i h s = starts-inside n ss p pre (firstOf Drop pre ss) i (leading pre ss) h s
+inner-first Keep p ss w i h s = pos-of-ne-zero s
+inner-first Drop p ss w i h s = starts-inside p ss w (firstOf Drop p ss) i (leading p ss) h s
 
-pub inner-last : (gap : Gap) (n tail : ℕ) (ss : List ℕ) → Spanned gap n ss → (i : ℕ) → i < count ss → (endAt ss i ≡ n → ⊥) → endAt ss i < lastOf gap n tail ss
+-- and ends before its last
+pub inner-last : (gap : Gap) (p : Padding) (ss : List ℕ) → Spanned gap (p .frames) ss → (i : ℕ) → i < count ss → (endAt ss i ≡ p .frames → ⊥) → endAt ss i < lastOf gap p ss
 unfolding lastOf
-inner-last Keep n tail ss p i h s = lt-of-le-of-ne (listed-within (p .listed) i h) s
-inner-last Drop n tail ss p i h s = ends-inside n ss p tail (lastOf Drop n tail ss) i (trailing n tail ss) h s
+inner-last Keep p ss w i h s = lt-of-le-of-ne (listed-within (w .listed) i h) s
+inner-last Drop p ss w i h s = ends-inside p ss w (lastOf Drop p ss) i (trailing p ss) h s
 
 -- ---- the answer
 
@@ -144,25 +148,28 @@ abbrev isEmpty : SpanEnds → Bool
 isEmpty Empty = true
 isEmpty (Between f l) = false
 
-module _ (gap : Gap) (n pre tail : ℕ) (ss : List ℕ) where
-  pub ends-empty : emptySpan gap n ss ≡ true → endsOf gap n pre tail ss ≡ Empty
+module _ (gap : Gap) (p : Padding) (ss : List ℕ) where
+  -- an empty span has no ends
+  pub ends-empty : emptySpan gap (p .frames) ss ≡ true → endsOf gap p ss ≡ Empty
   unfolding endsOf
   ends-empty e = rw e
 
-  pub ends-between : emptySpan gap n ss ≡ false → endsOf gap n pre tail ss ≡ Between (firstOf gap pre ss) (lastOf gap n tail ss)
+  -- any other has its first and its last boundary
+  pub ends-between : emptySpan gap (p .frames) ss ≡ false → endsOf gap p ss ≡ Between (firstOf gap p ss) (lastOf gap p ss)
   unfolding endsOf
   ends-between e = rw e
 
-  empty-is : isEmpty (endsOf gap n pre tail ss) ≡ emptySpan gap n ss
+  empty-is : isEmpty (endsOf gap p ss) ≡ emptySpan gap (p .frames) ss
   unfolding endsOf
-  empty-is = elim (tested (emptySpan gap n ss)) [ inl e ↦ rw e | inr e ↦ rw e ]
+  empty-is = elim (tested (emptySpan gap (p .frames) ss)) [ inl e ↦ rw e | inr e ↦ rw e ]
 
-  -- what an answer says
-  pub ends-none : Empty ≡ endsOf gap n pre tail ss → emptySpan gap n ss ≡ true
+  -- an answer without ends: the span is empty
+  pub ends-none : Empty ≡ endsOf gap p ss → emptySpan gap (p .frames) ss ≡ true
   ends-none e = sym empty-is ∙ sym (ap isEmpty e)
 
-  pub ends-found : (f l : ℕ) → Between f l ≡ endsOf gap n pre tail ss → (emptySpan gap n ss ≡ false) × (f ≡ firstOf gap pre ss) × (l ≡ lastOf gap n tail ss)
+  -- an answer with ends: it is not, and these are its own
+  pub ends-found : (f l : ℕ) → Between f l ≡ endsOf gap p ss → (emptySpan gap (p .frames) ss ≡ false) × (f ≡ firstOf gap p ss) × (l ≡ lastOf gap p ss)
   ends-found f l e =
-      let s : emptySpan gap n ss ≡ false = sym empty-is ∙ sym (ap isEmpty e) in
-      let d : Between f l ≡ Between (firstOf gap pre ss) (lastOf gap n tail ss) = e ∙ ends-between s in
+      let s : emptySpan gap (p .frames) ss ≡ false = sym empty-is ∙ sym (ap isEmpty e) in
+      let d : Between f l ≡ Between (firstOf gap p ss) (lastOf gap p ss) = e ∙ ends-between s in
       (s, ap firstIn d, ap lastIn d)

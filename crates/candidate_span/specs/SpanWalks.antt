@@ -7,9 +7,10 @@ use native.Mathlib.Omega.{arith}
 use lib.Dec.{eqb}
 use borrow.Author.Tests.{lt-ltb, le-ltb, eq-eqb, ne-eqb}
 use native.Mathlib.Nat.{pos-of-ne-zero}
-use Rattle.candidate_settings.specs.declared.config.Gap.{Gap}
-use Rattle.candidate_settings.specs.declared.config.Gap.the-variants.{Keep, Drop}
+use Rattle.plan_settings.specs.declared.config.Gap.{Gap}
+use Rattle.plan_settings.specs.declared.config.Gap.the-variants.{Keep, Drop}
 use Rattle.candidate_span.specs.declared.ends.SpanEnds.the-variants.{Empty, Between}
+use Rattle.candidate_span.specs.declared.padding.Padding.{Padding}
 use Rattle.candidate_span.specs.Listed.{count, startAt, endAt}
 use Rattle.candidate_span.specs.Span.{isLeading, isTrailing, allSilent, emptySpan, firstOf, lastOf, endsOf}
 
@@ -24,17 +25,20 @@ module _ (ss : List ℕ) (none : count ss ≡ 0) where
   unfolding isTrailing
   trailing-none n = rw (le-ltb 0 (count ss) (omega arith))
 
+  -- then the recording is not silent all through
   pub silent-none : (n : ℕ) → false ≡ allSilent n ss
   unfolding allSilent
   silent-none n = rw leading-none
 
-  pub first-none : (pre : ℕ) → 0 ≡ firstOf Drop pre ss
+  -- the span starts with the recording
+  pub first-none : (p : Padding) → 0 ≡ firstOf Drop p ss
   unfolding firstOf
-  first-none pre = rw leading-none
+  first-none p = rw leading-none
 
-  pub last-none : (n tail : ℕ) → n ≡ lastOf Drop n tail ss
+  -- and ends with it
+  pub last-none : (p : Padding) → p .frames ≡ lastOf Drop p ss
   unfolding lastOf
-  last-none n tail = rw (trailing-none n)
+  last-none p = rw (trailing-none (p .frames))
 
 -- ---- some silence is listed: s is the start of the first, or of the last, and e its end
 
@@ -58,48 +62,53 @@ module _ (ss : List ℕ) (some : count ss ≡ 0 → ⊥) where
   unfolding allSilent
   silent-unled n s p d = rw (unled s p d)
 
-  pub first-unled : (pre s : ℕ) → s ≡ startAt ss 0 → (s ≡ 0 → ⊥) → 0 ≡ firstOf Drop pre ss
+  -- then the span starts with the recording
+  pub first-unled : (p : Padding) (s : ℕ) → s ≡ startAt ss 0 → (s ≡ 0 → ⊥) → 0 ≡ firstOf Drop p ss
   unfolding firstOf
-  first-unled pre s p d = rw (unled s p d)
+  first-unled p s e d = rw (unled s e d)
 
   -- it does
   pub silent-led : (n s e : ℕ) → s ≡ startAt ss 0 → s ≡ 0 → e ≡ endAt ss 0 → eqb e n ≡ allSilent n ss
   unfolding allSilent
   silent-led n s e p d q = rw (led s p d, q)
 
-  pub first-led : (pre s e r : ℕ) → s ≡ startAt ss 0 → s ≡ 0 → e ≡ endAt ss 0 → r ≡ e - pre → r ≡ firstOf Drop pre ss
+  -- then it starts at the padding before the first sound
+  pub first-led : (p : Padding) (s e r : ℕ) → s ≡ startAt ss 0 → s ≡ 0 → e ≡ endAt ss 0 → r ≡ e - p .pre → r ≡ firstOf Drop p ss
   unfolding firstOf
-  first-led pre s e r p d q h = rw (led s p d) (h ∙ ap (λ (x : ℕ). x - pre) q)
+  first-led p s e r a d q h = rw (led s a d) (h ∙ ap (λ (x : ℕ). x - p .pre) q)
 
   -- the last silence does not end with the recording, or it does
-  pub last-untrailed : (n tail e : ℕ) → e ≡ endAt ss (count ss - 1) → (e ≡ n → ⊥) → n ≡ lastOf Drop n tail ss
+  pub last-untrailed : (p : Padding) (e : ℕ) → e ≡ endAt ss (count ss - 1) → (e ≡ p .frames → ⊥) → p .frames ≡ lastOf Drop p ss
   unfolding lastOf
-  last-untrailed n tail e p d = rw (trailing-is n, ne-eqb (endAt ss (count ss - 1)) n (λ h. d (p ∙ h)))
+  last-untrailed p e a d = rw (trailing-is (p .frames), ne-eqb (endAt ss (count ss - 1)) (p .frames) (λ h. d (a ∙ h)))
 
-  pub last-trailed : (n tail e s r : ℕ) → e ≡ endAt ss (count ss - 1) → e ≡ n → s ≡ startAt ss (count ss - 1) → r ≡ min (s + tail) n → r ≡ lastOf Drop n tail ss
+  -- then the span ends at the padding after the last sound
+  pub last-trailed : (p : Padding) (e s r : ℕ) → e ≡ endAt ss (count ss - 1) → e ≡ p .frames → s ≡ startAt ss (count ss - 1) → r ≡ min (s + p .tail) (p .frames)
+      → r ≡ lastOf Drop p ss
   unfolding lastOf
-  last-trailed n tail e s r p d q h = rw (trailing-is n, eq-eqb (endAt ss (count ss - 1)) n (sym p ∙ d)) (h ∙ ap (λ (x : ℕ). min (x + tail) n) q)
+  last-trailed p e s r a d q h = rw (trailing-is (p .frames), eq-eqb (endAt ss (count ss - 1)) (p .frames) (sym a ∙ d)) (h ∙ ap (λ (x : ℕ). min (x + p .tail) (p .frames)) q)
 
 -- ---- the ends
 
-module _ (n pre tail : ℕ) (ss : List ℕ) where
+module _ (p : Padding) (ss : List ℕ) where
   -- no frames
-  pub ends-no-frames : (gap : Gap) → n ≡ 0 → Empty ≡ endsOf gap n pre tail ss
+  pub ends-no-frames : (gap : Gap) → p .frames ≡ 0 → Empty ≡ endsOf gap p ss
   unfolding endsOf emptySpan
-  ends-no-frames Keep h = rw (eq-eqb n 0 h)
-  ends-no-frames Drop h = rw (eq-eqb n 0 h)
+  ends-no-frames Keep h = rw (eq-eqb (p .frames) 0 h)
+  ends-no-frames Drop h = rw (eq-eqb (p .frames) 0 h)
 
   -- silence is kept
-  pub ends-keep : (gap : Gap) → gap ≡ Keep → (n ≡ 0 → ⊥) → Between 0 n ≡ endsOf gap n pre tail ss
+  pub ends-keep : (gap : Gap) → gap ≡ Keep → (p .frames ≡ 0 → ⊥) → Between 0 (p .frames) ≡ endsOf gap p ss
   unfolding endsOf emptySpan firstOf lastOf
-  ends-keep gap g h = rw (g, ne-eqb n 0 h)
+  ends-keep gap g h = rw (g, ne-eqb (p .frames) 0 h)
 
   -- gaps are dropped, with silence all through or not
-  pub ends-silent : (gap : Gap) → gap ≡ Drop → (n ≡ 0 → ⊥) → allSilent n ss ≡ true → Empty ≡ endsOf gap n pre tail ss
+  pub ends-silent : (gap : Gap) → gap ≡ Drop → (p .frames ≡ 0 → ⊥) → allSilent (p .frames) ss ≡ true → Empty ≡ endsOf gap p ss
   unfolding endsOf emptySpan
-  ends-silent gap g h s = rw (g, ne-eqb n 0 h, s)
+  ends-silent gap g h s = rw (g, ne-eqb (p .frames) 0 h, s)
 
-  pub ends-sound : (gap : Gap) (f l : ℕ) → gap ≡ Drop → (n ≡ 0 → ⊥) → allSilent n ss ≡ false → f ≡ firstOf Drop pre ss → l ≡ lastOf Drop n tail ss
-      → Between f l ≡ endsOf gap n pre tail ss
+  -- not silent all through: both ends, as they were found
+  pub ends-sound : (gap : Gap) (f l : ℕ) → gap ≡ Drop → (p .frames ≡ 0 → ⊥) → allSilent (p .frames) ss ≡ false → f ≡ firstOf Drop p ss → l ≡ lastOf Drop p ss
+      → Between f l ≡ endsOf gap p ss
   unfolding endsOf emptySpan
-  ends-sound gap f l g h s p q = rw (g, ne-eqb n 0 h, s, p, q)
+  ends-sound gap f l g h s a b = rw (g, ne-eqb (p .frames) 0 h, s, a, b)

@@ -1,4 +1,5 @@
 // A silence less its padding.
+use crate::padding::Padding;
 use base_code::sizes;
 ghost use mathlib.Core.Path.{_≡_};
 ghost use Prim.Native.Nat.{_+_, min};
@@ -23,30 +24,32 @@ pub fn after(n: usize, k: usize, by: usize) -> usize
     k + by
 }
 
-fn low(n: usize, tail: usize, start: usize) -> usize
-    ensures { λ r. ⌜ r ≡ lowOf n tail start ⌝ }
+// Where it starts, less the padding after the sound before it.
+fn low(p: Padding, start: usize) -> usize
+    ensures { λ r. ⌜ r ≡ lowOf p start ⌝ }
 {
     if start == 0 {
         return 0;
     }
-    after(n, start, tail)
+    after(p.frames, start, p.tail)
 }
 
-fn high(n: usize, pre: usize, end: usize) -> usize
-    ensures { λ r. ⌜ r ≡ highOf n pre end ⌝ }
+// Where it ends, less the padding before the sound after it.
+fn high(p: Padding, end: usize) -> usize
+    ensures { λ r. ⌜ r ≡ highOf p end ⌝ }
 {
-    if end == n {
-        return n;
+    if end == p.frames {
+        return p.frames;
     }
-    sizes::less(end, pre)
+    sizes::less(end, p.pre)
 }
 
-// The bounds of a silence of n frames, with `pre` frames kept before sound and `tail` after it.
-pub fn silence_bounds(n: usize, pre: usize, tail: usize, start: usize, end: usize) -> Bounds
-    ensures { λ r. ⌜ r ≡ boundsOf n pre tail start end ⌝ }
+// The bounds of a silence.
+pub fn silence_bounds(p: Padding, start: usize, end: usize) -> Bounds
+    ensures { λ r. ⌜ r ≡ boundsOf p start end ⌝ }
 {
     Bounds {
-        lo: low(n, tail, start),
-        hi: high(n, pre, end),
+        lo: low(p, start),
+        hi: high(p, end),
     }
 }

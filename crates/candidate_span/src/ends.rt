@@ -1,10 +1,11 @@
 // The two ends of the span.
 use crate::bounds;
 use crate::listed;
+use crate::padding::Padding;
 use base_code::sizes;
-use candidate_settings::config::Gap;
+use plan_settings::config::Gap;
 ghost use mathlib.Core.Path.{_≡_};
-ghost use Rattle.candidate_settings.specs.declared.config.Gap.the-variants.{Drop};
+ghost use Rattle.plan_settings.specs.declared.config.Gap.the-variants.{Drop};
 ghost use Rattle.candidate_span.specs.Span.{allSilent, firstOf, lastOf, endsOf};
 
 // First and last frame boundary of the plan, or that there is nothing to keep.
@@ -27,8 +28,8 @@ fn all_silent(n: usize, silences: &[u32]) -> bool
 }
 
 // With gaps dropped: where the padding of the first sound starts.
-fn first(pre: usize, silences: &[u32]) -> usize
-    ensures { λ r. ⌜ r ≡ firstOf Drop pre (now (silences .entry)) ⌝ }
+fn first(p: Padding, silences: &[u32]) -> usize
+    ensures { λ r. ⌜ r ≡ firstOf Drop p (now (silences .entry)) ⌝ }
 {
     if silences.len() / 2 == 0 {
         return 0;
@@ -36,37 +37,38 @@ fn first(pre: usize, silences: &[u32]) -> usize
     if listed::start_at(silences, 0) != 0 {
         return 0;
     }
-    sizes::less(listed::end_at(silences, 0), pre)
+    sizes::less(listed::end_at(silences, 0), p.pre)
 }
 
 // With gaps dropped: where the padding of the last sound ends.
-fn last(n: usize, tail: usize, silences: &[u32]) -> usize
-    ensures { λ r. ⌜ r ≡ lastOf Drop n tail (now (silences .entry)) ⌝ }
+fn last(p: Padding, silences: &[u32]) -> usize
+    ensures { λ r. ⌜ r ≡ lastOf Drop p (now (silences .entry)) ⌝ }
 {
     let count = silences.len() / 2;
     if count == 0 {
-        return n;
+        return p.frames;
     }
-    if listed::end_at(silences, count - 1) != n {
-        return n;
+    if listed::end_at(silences, count - 1) != p.frames {
+        return p.frames;
     }
-    bounds::after(n, listed::start_at(silences, count - 1), tail)
+    bounds::after(p.frames, listed::start_at(silences, count - 1), p.tail)
 }
 
-// The span of n frames with these silences. Dropping gaps moves its ends inward to the padding of the first and last sound.
-pub fn ends(gap: Gap, n: usize, pre: usize, tail: usize, silences: &[u32]) -> SpanEnds
-    ensures { λ r. ⌜ r ≡ endsOf gap n pre tail (now (silences .entry)) ⌝ }
+// The ends of the span of a recording with these silences. Dropping gaps moves its ends inward to the padding of the
+// first and last sound.
+pub fn ends(gap: Gap, p: Padding, silences: &[u32]) -> SpanEnds
+    ensures { λ r. ⌜ r ≡ endsOf gap p (now (silences .entry)) ⌝ }
 {
-    if n == 0 {
+    if p.frames == 0 {
         return SpanEnds::Empty;
     }
     match gap {
-        Gap::Keep => SpanEnds::Between(0, n),
+        Gap::Keep => SpanEnds::Between(0, p.frames),
         Gap::Drop => {
-            if all_silent(n, silences) {
+            if all_silent(p.frames, silences) {
                 return SpanEnds::Empty;
             }
-            SpanEnds::Between(first(pre, silences), last(n, tail, silences))
+            SpanEnds::Between(first(p, silences), last(p, silences))
         }
     }
 }

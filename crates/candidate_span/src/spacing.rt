@@ -1,4 +1,6 @@
-// How far apart candidates stand, and how much silence is kept beside sound. All of it follows from the settings and the grid.
+// How far apart candidates stand, and how much silence is kept beside sound. All of it follows from the settings and
+// the grid.
+use crate::padding::Padding;
 use base_code::numbers;
 use grid::FrameGrid;
 use grid::durations;
@@ -6,17 +8,18 @@ ghost use mathlib.Core.Path.{_≡_};
 ghost use Rattle.candidate_span.specs.Spacing.{blockTime, blockOf, paddingCap, edgeLimit, spacingOf};
 ghost use Rattle.candidate_span.specs.SpacingLaws.{Spaced};
 
+// All of it, in frames but for the edge limit.
 pub struct Spacing {
     // Block size in frames, at least one.
     pub block: usize,
     // With silence kept, a silence longer than this many samples also gets grid candidates outside its padding.
     pub edge_limit: u64,
-    // Frames of silence kept before sound, and after it.
-    pub pre: usize,
-    pub tail: usize,
+    // How much silence is kept beside sound.
+    pub padding: Padding,
 }
 
-// The block's duration. It follows max - min, but not below max / 8: a tight soft minimum must not shrink the grid to every frame.
+// The block's duration. It follows max - min, but not below max / 8: a tight soft minimum must not shrink the grid to
+// every frame.
 fn block_time(min: u64, max: u64) -> u64
     ensures { λ r. ⌜ r ≡ blockTime min max ⌝ }
 {
@@ -26,6 +29,7 @@ fn block_time(min: u64, max: u64) -> u64
     )
 }
 
+// The block in frames, at least one.
 fn block_of(g: FrameGrid, min: u64, max: u64) -> u64
     requires { ⌜ Spaced g max ⌝ }
     ensures { λ r. ⌜ r ≡ blockOf g min max ⌝ }
@@ -43,7 +47,8 @@ fn padding_cap(g: FrameGrid, block: u64, max: u64) -> u64
     numbers::less(numbers::less(most, block), block)
 }
 
-// The nearest grid candidates outside a silence may be a block or two from it, so a silence longer than the maximum less two blocks gets grid candidates of its own.
+// The nearest grid candidates outside a silence may be a block or two from it, so a silence longer than the maximum
+// less two blocks gets grid candidates of its own.
 fn edge_limit(g: FrameGrid, block: u64, max: u64) -> u64
     requires { ⌜ Spaced g max ⌝ }
     ensures { λ r. ⌜ r ≡ edgeLimit g block max ⌝ }
@@ -53,6 +58,7 @@ fn edge_limit(g: FrameGrid, block: u64, max: u64) -> u64
     numbers::less(numbers::less(most, samples), samples)
 }
 
+// The spacing of a plan with these settings, in nanoseconds: padding before and after sound, minimum and maximum.
 pub fn spacing_of(g: FrameGrid, pre: u64, tail: u64, min: u64, max: u64) -> Spacing
     requires { ⌜ Spaced g max ⌝ }
     requires { ⌜ Spaced g pre ⌝ }
@@ -66,7 +72,10 @@ pub fn spacing_of(g: FrameGrid, pre: u64, tail: u64, min: u64, max: u64) -> Spac
     Spacing {
         block: block as usize,
         edge_limit: edge_limit(g, block, max),
-        pre: before as usize,
-        tail: after as usize,
+        padding: Padding {
+            frames: g.frames,
+            pre: before as usize,
+            tail: after as usize,
+        },
     }
 }

@@ -5,15 +5,19 @@ use mathlib.Core.Bool.{Bool, _&&_, cond}
 use mathlib.Core.List.{List, [], _∷_}
 use lib.Dec.{ltb, eqb}
 use lib.Ieee.{Float}
+use Rattle.base_terms.specs.Layout.{entriesAt, costsAt}
+use Rattle.candidate_span.specs.declared.held.HeldSpan.{HeldSpan}
 use Rattle.candidate_span.specs.Kept.{boundaries, passing}
 use Rattle.candidate_span.specs.Listed.{startAt, endAt}
 use Rattle.candidate_points.specs.Placed.{placed}
 use Rattle.candidates.specs.declared.candidate.Candidate.{Candidate}
 use Rattle.candidates.specs.declared.context.Context.{Context}
-use Rattle.candidate_walk.specs.declared.collect.Walk.{Walk}
-use Rattle.candidates.specs.Candidates.{node, pointAt, ownAt, cheaper, candidatesOf}
+use Rattle.candidates.specs.Candidates.{node, pointAt, ownAt, cheaper, allListed, survivors, candidatesOf}
 use Rattle.candidates.specs.Entries.{entriesOf, costsOf}
-use Rattle.candidate_walk.specs.Held.{silencesHeld, runsHeld, levelsHeld, marked, heldAt, costsAt}
+use Rattle.candidate_walk.specs.declared.collect.Walk.{Walk}
+use Rattle.candidate_walk.specs.Held.{silencesHeld, runsHeld, levelsHeld, marked}
+
+-- ---- at one boundary
 
 -- the next silence's own candidate has its left end at boundary k
 unfoldable pub ownHere : Walk → ℕ → ℕ → Bool
@@ -25,48 +29,72 @@ withPoint mark own point = cond mark (cheaper own point) own
 
 -- the point at boundary k
 abbrev pub pointHeld : Context → ℕ → List ℕ → List Float → ℕ → Candidate
-pointHeld x count work workf k = pointAt x (silencesHeld count work) (runsHeld (x .frames) work) (levelsHeld (x .frames) workf) k
+pointHeld x silences work workf k =
+    pointAt x (silencesHeld silences work) (runsHeld (x .padding .frames) work) (levelsHeld (x .padding .frames) workf) k
 
 -- the own candidate of silence i, one of those before `stop`
 unfoldable pub nextOwn : Context → ℕ → ℕ → List ℕ → List Float → ℕ → Candidate
-nextOwn x count stop work workf i = cond (ltb i stop) (ownAt x (silencesHeld count work) (levelsHeld (x .frames) workf) i) (node 0)
+nextOwn x silences stop work workf i =
+    cond (ltb i stop) (ownAt x (silencesHeld silences work) (levelsHeld (x .padding .frames) workf) i) (node 0)
 
--- what is written at boundary k: one candidate, or none
-unfoldable pub hereOf : Context → ℕ → ℕ → ℕ → Walk → List ℕ → List Float → List Candidate
-hereOf x count stop k w work workf =
+-- what is written at boundary k, with or without a mark there: one candidate, or none
+unfoldable pub hereOf : Context → ℕ → ℕ → ℕ → Bool → Walk → List ℕ → List Float → List Candidate
+hereOf x silences stop k mark w work workf =
     cond (ownHere w stop k)
-    (withPoint (marked (x .frames) work k) (w .own) (pointHeld x count work workf k) ∷ [])
-    (cond (marked (x .frames) work k) (pointHeld x count work workf k ∷ []) [])
+    (withPoint mark (w .own) (pointHeld x silences work workf k) ∷ [])
+    (cond mark (pointHeld x silences work workf k ∷ []) [])
 
--- work memory after it: what is written at boundary k stands behind what was written before
-abbrev pub entriesHere : Context → ℕ → ℕ → ℕ → Walk → List ℕ → List Float → List ℕ
-entriesHere x count stop k w work workf = placed (heldAt (x .frames) + 3 * w .written) (entriesOf (hereOf x count stop k w work workf)) work
+-- the u32 list after it: what is written at boundary k stands behind what was written before
+abbrev pub entriesHere : Context → ℕ → ℕ → ℕ → Bool → Walk → List ℕ → List Float → List ℕ
+entriesHere x silences stop k mark w work workf =
+    placed (entriesAt (x .padding .frames) + 3 * w .written) (entriesOf (hereOf x silences stop k mark w work workf)) work
 
-abbrev pub costsHere : Context → ℕ → ℕ → ℕ → Walk → List ℕ → List Float → List Float
-costsHere x count stop k w work workf = placed (costsAt (x .frames) + w .written) (costsOf (hereOf x count stop k w work workf)) workf
+-- the f64 list after it
+abbrev pub costsHere : Context → ℕ → ℕ → ℕ → Bool → Walk → List ℕ → List Float → List Float
+costsHere x silences stop k mark w work workf =
+    placed (costsAt (x .padding .frames) + w .written) (costsOf (hereOf x silences stop k mark w work workf)) workf
 
 -- what the walk holds after it
-unfoldable pub walkOf : Context → ℕ → ℕ → ℕ → Walk → List ℕ → List Float → Walk
-walkOf x count stop k w work workf =
+unfoldable pub walkOf : Context → ℕ → ℕ → ℕ → Bool → Walk → List ℕ → List Float → Walk
+walkOf x silences stop k mark w work workf =
     cond (ownHere w stop k)
-    (record { silence = w .silence + 1; own = nextOwn x count stop work workf (w .silence + 1); written = w .written + 1 })
-    (cond (marked (x .frames) work k) (record { silence = w .silence; own = w .own; written = w .written + 1 }) w)
+    (record { silence = w .silence + 1; own = nextOwn x silences stop work workf (w .silence + 1); written = w .written + 1 })
+    (cond mark (record { silence = w .silence; own = w .own; written = w .written + 1 }) w)
 
--- the first silence with sound on both sides, and the one after the last: only the recording's first and last silence can lack it
+-- ---- over the whole span
+
+-- the first silence with sound on both sides: only the recording's first silence can lack sound before it
 unfoldable pub innerFrom : ℕ → List ℕ → ℕ
-innerFrom count ss = cond (ltb 0 count && eqb (startAt ss 0) 0) 1 0
+innerFrom silences work = cond (ltb 0 silences && eqb (startAt work 0) 0) 1 0
 
+-- the silence after the last such one: only the recording's last silence can lack sound after it
 unfoldable pub innerTo : ℕ → ℕ → List ℕ → ℕ
-innerTo n count ss = cond (ltb 0 count && eqb (endAt ss (count - 1)) n) (count - 1) count
+innerTo n silences work = cond (ltb 0 silences && eqb (endAt work (silences - 1)) n) (silences - 1) silences
 
--- all that is collected: the candidates of the span, with a point at each marked boundary
-unfoldable pub collected : Context → ℕ → ℕ → ℕ → List ℕ → List Float → List Candidate
-collected x count first last work workf =
-    candidatesOf x (silencesHeld count work) (runsHeld (x .frames) work) (levelsHeld (x .frames) workf) (passing (marked (x .frames) work) (boundaries first (last - suc first))) first last
+-- the marked boundaries strictly inside the span
+abbrev pub marksHeld : Context → HeldSpan → List ℕ → List ℕ
+marksHeld x span work = passing (marked (x .padding .frames) work) (boundaries (span .first) (span .last - suc (span .first)))
 
--- work memory with all of it
-abbrev pub entriesAll : Context → ℕ → ℕ → ℕ → List ℕ → List Float → List ℕ
-entriesAll x count first last work workf = placed (heldAt (x .frames)) (entriesOf (collected x count first last work workf)) work
+-- all that is listed, with a point at each of them
+abbrev pub listedHeld : Context → HeldSpan → List ℕ → List Float → List Candidate
+listedHeld x span work workf =
+    allListed x (silencesHeld (span .silences) work) (runsHeld (x .padding .frames) work) (levelsHeld (x .padding .frames) workf)
+    (marksHeld x span work)
 
-abbrev pub costsAll : Context → ℕ → ℕ → ℕ → List ℕ → List Float → List Float
-costsAll x count first last work workf = placed (costsAt (x .frames)) (costsOf (collected x count first last work workf)) workf
+-- its survivors strictly inside the span
+abbrev pub insideHeld : Context → HeldSpan → List ℕ → List Float → List Candidate
+insideHeld x span work workf = survivors (listedHeld x span work workf) (boundaries (span .first) (span .last - suc (span .first)))
+
+-- all that is collected: these, and the two ends of the span
+unfoldable pub collected : Context → HeldSpan → List ℕ → List Float → List Candidate
+collected x span work workf =
+    candidatesOf x (silencesHeld (span .silences) work) (runsHeld (x .padding .frames) work) (levelsHeld (x .padding .frames) workf)
+    (marksHeld x span work) (span .first) (span .last)
+
+-- the u32 list with all of it
+abbrev pub entriesAll : Context → HeldSpan → List ℕ → List Float → List ℕ
+entriesAll x span work workf = placed (entriesAt (x .padding .frames)) (entriesOf (collected x span work workf)) work
+
+-- the f64 list with all of it
+abbrev pub costsAll : Context → HeldSpan → List ℕ → List Float → List Float
+costsAll x span work workf = placed (costsAt (x .padding .frames)) (costsOf (collected x span work workf)) workf

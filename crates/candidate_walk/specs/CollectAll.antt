@@ -7,20 +7,22 @@ use native.Mathlib.Omega.{arith}
 use lib.Ieee.{Float}
 use lib.ListN.{length, take, drop, length-append}
 use lib.Seq.{length-take-le, drop-at}
+use Rattle.base_terms.specs.Layout.{side, entriesAt, searchAt, costsAt, scoresAt}
+use Rattle.candidate_span.specs.declared.held.HeldSpan.{HeldSpan}
 use Rattle.candidate_points.specs.Placed.{placed}
 use Rattle.candidate_points.specs.PlacedLaws.{placed-take, placed-length}
 use Rattle.candidates.specs.declared.candidate.Candidate.{Candidate}
 use Rattle.candidates.specs.Entries.{entriesOf, costsOf}
-use Rattle.candidate_walk.specs.Held.{heldAt, costsAt, silencesHeld, levelsHeld}
+use Rattle.candidate_walk.specs.Held.{silencesHeld, levelsHeld}
 use Rattle.candidates.specs.EntriesLaws.{entries-length, costs-length, entries-append, costs-append}
 use Rattle.candidate_walk.specs.HeldLaws.{placed-more, Puttable}
 use Rattle.candidate_cuts.specs.CutsLaws.{inner-cut}
 use Rattle.candidates.specs.declared.context.Context.{Context}
 use Rattle.candidates.specs.Candidates.{node, candidatesOf}
 use Rattle.candidates.specs.Row.{survivors-few}
-use Rattle.candidate_walk.specs.Collect.{innerFrom, innerTo, collected}
+use Rattle.candidate_walk.specs.Collect.{innerFrom, innerTo, listedHeld, insideHeld, collected}
 use Rattle.candidate_walk.specs.CollectLaws.{AtSilence, Collectable}
-use Rattle.candidate_walk.specs.CollectStep.{Ranged, between, listed, last-in, first-below}
+use Rattle.candidate_walk.specs.CollectStep.{Ranged, last-in, first-below}
 use Rattle.candidate_walk.specs.CollectDone.{held-ranged}
 
 -- what is placed right before what was placed
@@ -43,22 +45,29 @@ beside base p q r xs one two three a b c h =
     ∙ placed-more base (p ++ q) r xs three (simp length-append (omega (arith, c))) (omega arith) ∙ ap (λ (l : List _). placed base l xs) (append-assoc p q r))
 
 -- the candidates of the span: its first end, the survivors, its last end
-module _ (n : ℕ) (first last : Candidate) (cs : List Candidate) (few : length cs + 2 ≤ n + 1) where
+module _ (n : ℕ) (first last : Candidate) (cs : List Candidate) (few : length cs + 2 ≤ side n) where
   abbrev all : List Candidate
   all = first ∷ (cs ++ (last ∷ []))
 
+  -- two more than the survivors
   pub ends-number : length cs + 1 + 1 ≡ length all
   ends-number = simp length-append (omega arith)
 
-  pub ends-entries : (work work₁ work₂ work₃ : List ℕ) → 6 * (n + 1) ≤ length work → work₁ ≡ placed (heldAt n + 3) (entriesOf cs) work → work₂ ≡ placed (heldAt n + 3 * 0) (entriesOf (first ∷ [])) work₁
-      → work₃ ≡ placed (heldAt n + 3 * (length cs + 1)) (entriesOf (last ∷ [])) work₂ → work₃ ≡ placed (heldAt n) (entriesOf all) work
+  -- their entries stand one behind another once the survivors, then the first and then the last end are written
+  pub ends-entries : (work work₁ work₂ work₃ : List ℕ) → searchAt n ≤ length work
+      → work₁ ≡ placed (entriesAt n + 3) (entriesOf cs) work
+      → work₂ ≡ placed (entriesAt n + 3 * 0) (entriesOf (first ∷ [])) work₁
+      → work₃ ≡ placed (entriesAt n + 3 * (length cs + 1)) (entriesOf (last ∷ [])) work₂ → work₃ ≡ placed (entriesAt n) (entriesOf all) work
   ends-entries work work₁ work₂ work₃ room e f g =
       rw (g, f, e)
-      (beside (heldAt n) (entriesOf (first ∷ [])) (entriesOf cs) (entriesOf (last ∷ [])) work (heldAt n + 3) (heldAt n + 3 * 0) (heldAt n + 3 * (length cs + 1))
+      (beside (entriesAt n) (entriesOf (first ∷ [])) (entriesOf cs) (entriesOf (last ∷ [])) work (entriesAt n + 3) (entriesAt n + 3 * 0) (entriesAt n + 3 * (length cs + 1))
       (omega (arith, entries-length (first ∷ []))) (omega arith) (omega (arith, entries-length (first ∷ []), entries-length cs)) (omega (arith, entries-length (last ∷ [])))
-      ∙ ap (λ (l : List ℕ). placed (heldAt n) l work) (ap (λ (l : List ℕ). entriesOf (first ∷ []) ++ l) (sym (entries-append cs (last ∷ []))) ∙ sym (entries-append (first ∷ []) (cs ++ (last ∷ [])))))
+      ∙ ap (λ (l : List ℕ). placed (entriesAt n) l work) (ap (λ (l : List ℕ). entriesOf (first ∷ []) ++ l) (sym (entries-append cs (last ∷ []))) ∙ sym (entries-append (first ∷ []) (cs ++ (last ∷ [])))))
 
-  pub ends-costs : (work work₁ work₂ work₃ : List Float) → 2 * (n + 1) ≤ length work → work₁ ≡ placed (costsAt n + 1) (costsOf cs) work → work₂ ≡ placed (costsAt n + 0) (costsOf (first ∷ [])) work₁
+  -- so do their costs
+  pub ends-costs : (work work₁ work₂ work₃ : List Float) → scoresAt n ≤ length work
+      → work₁ ≡ placed (costsAt n + 1) (costsOf cs) work
+      → work₂ ≡ placed (costsAt n + 0) (costsOf (first ∷ [])) work₁
       → work₃ ≡ placed (costsAt n + (length cs + 1)) (costsOf (last ∷ [])) work₂ → work₃ ≡ placed (costsAt n) (costsOf all) work
   ends-costs work work₁ work₂ work₃ room e f g =
       rw (g, f, e)
@@ -66,39 +75,44 @@ module _ (n : ℕ) (first last : Candidate) (cs : List Candidate) (few : length 
       (omega (arith, costs-length (first ∷ []))) (omega arith) (omega (arith, costs-length (first ∷ []), costs-length cs)) (omega (arith, costs-length (last ∷ [])))
       ∙ ap (λ (l : List Float). placed (costsAt n) l work) (ap (λ (l : List Float). costsOf (first ∷ []) ++ l) (sym (costs-append cs (last ∷ []))) ∙ sym (costs-append (first ∷ []) (cs ++ (last ∷ [])))))
 
-module _ {x : Context} {count first last from stop : ℕ} {work : List ℕ} {workf : List Float} (c : Collectable x count first last work workf) (begins : from ≡ innerFrom count work)
-    (ends : stop ≡ innerTo (x .frames) count work) where
-  pub all-ranged : Ranged x (silencesHeld count work) from stop
-  all-ranged = rw (begins, ends) (held-ranged x count work workf (c .holding))
+module _ {x : Context} {span : HeldSpan} {from stop : ℕ} {work : List ℕ} {workf : List Float} (c : Collectable x span work workf)
+    (begins : from ≡ innerFrom (span .silences) work) (ends : stop ≡ innerTo (x .padding .frames) (span .silences) work) where
+  abbrev frames : ℕ
+  frames = x .padding .frames
+
+  -- the walk looks at the silences with sound on both sides
+  pub all-ranged : Ranged x (silencesHeld (span .silences) work) from stop
+  all-ranged = rw (begins, ends) (held-ranged x (span .silences) work workf (c .holding))
 
   -- the first silence of the range can be cut
-  pub all-silent : from < stop → AtSilence x count work workf from
+  pub all-silent : from < stop → AtSilence x (span .silences) work workf from
   all-silent h =
       let i = all-ranged .inner from (omega arith) h in
-      record { cuttable = record { listed = i .listed; inner = inner-cut (x .gap) (x .placement) (x .frames) (x .pre) (x .tail) (levelsHeld (x .frames) workf) (silencesHeld count work) (c .prepared) from i } }
+      record { cuttable = record { listed = i .listed; inner = inner-cut (x .gap) (x .placement) (x .padding) (levelsHeld frames workf) (silencesHeld (span .silences) work) (c .prepared) from i } }
 
   abbrev middle : List Candidate
-  middle = between x count stop first last from work workf
+  middle = insideHeld x span work workf
 
-  within : last ≤ x .frames
-  within = last-in x count stop first last from work workf c all-ranged
+  within : span .last ≤ frames
+  within = last-in c all-ranged
 
-  order : first < last
-  order = first-below x count stop first last from work workf c all-ranged
+  order : span .first < span .last
+  order = first-below c all-ranged
 
-  few : length middle + 2 ≤ x .frames + 1
-  few = omega (arith, within, order, survivors-few (listed x count stop first last from work workf) (last - suc first) first)
+  few : length middle + 2 ≤ side frames
+  few = omega (arith, within, order, survivors-few (listedHeld x span work workf) (span .last - suc (span .first)) (span .first))
 
   -- ---- both ends of the span may be written
 
-  module _ {work₁ : List ℕ} {workf₁ : List Float} (held : work₁ ≡ placed (heldAt (x .frames) + 3) (entriesOf middle) work) (costs : workf₁ ≡ placed (costsAt (x .frames) + 1) (costsOf middle) workf) where
+  module _ {work₁ : List ℕ} {workf₁ : List Float} (held : work₁ ≡ placed (entriesAt frames + 3) (entriesOf middle) work) (costs : workf₁ ≡ placed (costsAt frames + 1) (costsOf middle) workf) where
     size : length work₁ ≡ length work
-    size = rw held (placed-length (heldAt (x .frames) + 3) (entriesOf middle) work (omega (arith, few, entries-length middle, c .holding .room)))
+    size = rw held (placed-length (entriesAt frames + 3) (entriesOf middle) work (omega (arith, few, entries-length middle, c .holding .room)))
 
     sizef : length workf₁ ≡ length workf
-    sizef = rw costs (placed-length (costsAt (x .frames) + 1) (costsOf middle) workf (omega (arith, few, costs-length middle, c .holding .roomf)))
+    sizef = rw costs (placed-length (costsAt frames + 1) (costsOf middle) workf (omega (arith, few, costs-length middle, c .holding .roomf)))
 
-    pub first-puttable : {d : Candidate} → d ≡ node first → Puttable d 0 (x .frames) work₁ workf₁
+    -- the first end, before the survivors
+    pub first-puttable : {d : Candidate} → d ≡ node (span .first) → Puttable d 0 frames work₁ workf₁
     first-puttable e = record {
       few = c .holding .few;
       inside = omega arith;
@@ -108,32 +122,37 @@ module _ {x : Context} {count first last from stop : ℕ} {work : List ℕ} {wor
       roomf = omega (arith, sizef, c .holding .roomf);
     }
 
-    module _ {d : Candidate} {work₂ : List ℕ} {workf₂ : List Float} (is : d ≡ node first) (held₂ : work₂ ≡ placed (heldAt (x .frames) + 3 * 0) (entriesOf (d ∷ [])) work₁)
-        (costs₂ : workf₂ ≡ placed (costsAt (x .frames) + 0) (costsOf (d ∷ [])) workf₁) {written : ℕ} (number : written ≡ length middle + 1) where
+    module _ {d : Candidate} {work₂ : List ℕ} {workf₂ : List Float} (is : d ≡ node (span .first)) (held₂ : work₂ ≡ placed (entriesAt frames + 3 * 0) (entriesOf (d ∷ [])) work₁)
+        (costs₂ : workf₂ ≡ placed (costsAt frames + 0) (costsOf (d ∷ [])) workf₁) {written : ℕ} (number : written ≡ length middle + 1) where
       size₂ : length work₂ ≡ length work
-      size₂ = rw held₂ (placed-length (heldAt (x .frames) + 3 * 0) (entriesOf (d ∷ [])) work₁ (omega (arith, size, entries-length (d ∷ []), c .holding .room))) ∙ size
+      size₂ = rw held₂ (placed-length (entriesAt frames + 3 * 0) (entriesOf (d ∷ [])) work₁ (omega (arith, size, entries-length (d ∷ []), c .holding .room))) ∙ size
 
       size₂f : length workf₂ ≡ length workf
-      size₂f = rw costs₂ (placed-length (costsAt (x .frames) + 0) (costsOf (d ∷ [])) workf₁ (omega (arith, sizef, costs-length (d ∷ []), c .holding .roomf))) ∙ sizef
+      size₂f = rw costs₂ (placed-length (costsAt frames + 0) (costsOf (d ∷ [])) workf₁ (omega (arith, sizef, costs-length (d ∷ []), c .holding .roomf))) ∙ sizef
 
-      pub last-puttable : {e : Candidate} → e ≡ node last → Puttable e written (x .frames) work₂ workf₂
+      -- the last end, behind them
+      pub last-puttable : {e : Candidate} → e ≡ node (span .last) → Puttable e written frames work₂ workf₂
       last-puttable q = search (arith, c .holding .few, number, few, q, within, size₂, c .holding .room, size₂f, c .holding .roomf)
 
-      pub all-fits : written + 1 ≤ x .frames + 1
+      -- all of them find room
+      pub all-fits : written + 1 ≤ side frames
       all-fits = omega (arith, number, few)
 
       -- ---- and all is written then
 
-      pub all-number : written + 1 ≡ length (collected x count first last work workf)
+      -- as many as are collected
+      pub all-number : written + 1 ≡ length (collected x span work workf)
       unfolding collected candidatesOf
-      all-number = rw number (ends-number (x .frames) (node first) (node last) middle few)
+      all-number = rw number (ends-number frames (node (span .first)) (node (span .last)) middle few)
 
-      module _ {e : Candidate} {work₃ : List ℕ} {workf₃ : List Float} (q : e ≡ node last) (held₃ : work₃ ≡ placed (heldAt (x .frames) + 3 * written) (entriesOf (e ∷ [])) work₂)
-          (costs₃ : workf₃ ≡ placed (costsAt (x .frames) + written) (costsOf (e ∷ [])) workf₂) where
-        pub all-entries : work₃ ≡ placed (heldAt (x .frames)) (entriesOf (collected x count first last work workf)) work
+      module _ {e : Candidate} {work₃ : List ℕ} {workf₃ : List Float} (q : e ≡ node (span .last)) (held₃ : work₃ ≡ placed (entriesAt frames + 3 * written) (entriesOf (e ∷ [])) work₂)
+          (costs₃ : workf₃ ≡ placed (costsAt frames + written) (costsOf (e ∷ [])) workf₂) where
+        -- with their entries in the u32 list
+        pub all-entries : work₃ ≡ placed (entriesAt frames) (entriesOf (collected x span work workf)) work
         unfolding collected candidatesOf
-        all-entries = ends-entries (x .frames) (node first) (node last) middle few work work₁ work₂ work₃ (c .holding .room) held (held₂ ∙ rw is) (held₃ ∙ rw (q, number))
+        all-entries = ends-entries frames (node (span .first)) (node (span .last)) middle few work work₁ work₂ work₃ (c .holding .room) held (held₂ ∙ rw is) (held₃ ∙ rw (q, number))
 
-        pub all-costs : workf₃ ≡ placed (costsAt (x .frames)) (costsOf (collected x count first last work workf)) workf
+        -- and their costs in the f64 list
+        pub all-costs : workf₃ ≡ placed (costsAt frames) (costsOf (collected x span work workf)) workf
         unfolding collected candidatesOf
-        all-costs = ends-costs (x .frames) (node first) (node last) middle few workf workf₁ workf₂ workf₃ (c .holding .roomf) costs (costs₂ ∙ rw is) (costs₃ ∙ rw (q, number))
+        all-costs = ends-costs frames (node (span .first)) (node (span .last)) middle few workf workf₁ workf₂ workf₃ (c .holding .roomf) costs (costs₂ ∙ rw is) (costs₃ ∙ rw (q, number))

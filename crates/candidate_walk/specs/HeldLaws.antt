@@ -9,9 +9,10 @@ use lib.Ieee.{Float}
 use lib.ListN.{length, take, drop, length-append, take-append-drop, set}
 use lib.Seq.{take-at, length-take-le, drop-drop, drop-append-add, drop-at, take-add, sets, sets-eq}
 use native.Mathlib.Numerals.{add-one, add-two}
+use Rattle.base_terms.specs.Layout.{runsAt, marksAt, entriesAt, searchAt, costsAt, scoresAt}
 use Rattle.candidate_points.specs.Placed.{placed}
 use Rattle.candidate_points.specs.PlacedLaws.{placed-length, placed-take, placed-before}
-use Rattle.candidate_walk.specs.Held.{silencesHeld, runsHeld, levelsHeld, marked, heldAt, costsAt}
+use Rattle.candidate_walk.specs.Held.{silencesHeld, runsHeld, levelsHeld, marked}
 use Rattle.grid.specs.Limits.{maxFrames}
 use Rattle.candidates.specs.declared.candidate.Candidate.{Candidate}
 use Rattle.candidates.specs.Candidates.{reasonNumber}
@@ -39,22 +40,27 @@ placed-none base xs = ap (λ (k : ℕ). take base xs ++ drop k xs) (add-zero bas
 
 -- ---- what stands before stays
 
-module _ (n : ℕ) (work : List ℕ) (p : List ℕ) (at : ℕ) (after : heldAt n ≤ at) (fits : at + length p ≤ length work) where
-  pub silences-stay : (count : ℕ) → 2 * count ≤ n + 1 → silencesHeld count (placed at p work) ≡ silencesHeld count work
-  silences-stay count h = placed-take at p work fits (2 * count) (omega arith)
+module _ (n : ℕ) (work : List ℕ) (p : List ℕ) (at : ℕ) (after : entriesAt n ≤ at) (fits : at + length p ≤ length work) where
+  -- the silences
+  pub silences-stay : (silences : ℕ) → 2 * silences ≤ runsAt n → silencesHeld silences (placed at p work) ≡ silencesHeld silences work
+  silences-stay silences h = placed-take at p work fits (2 * silences) (omega arith)
 
+  -- the marks
   pub marks-stay : (k : ℕ) → k ≤ n → marked n (placed at p work) k ≡ marked n work k
-  marks-stay k h = rw (placed-before at p work fits (2 * (n + 1) + k) 0 (omega arith))
+  marks-stay k h = rw (placed-before at p work fits (marksAt n + k) 0 (omega arith))
 
+  -- the quiet stretches
   pub runs-stay : runsHeld n (placed at p work) ≡ runsHeld n work
   runs-stay =
-      let parts : (xs : List ℕ) → n + 1 ≤ length xs → take n (drop (n + 1) xs) ≡ drop (n + 1) (take (n + 1 + n) xs) =
-      λ xs h. sym (ap (drop (n + 1)) (take-add (n + 1) n xs) ∙ drop-at (take (n + 1) xs) (take n (drop (n + 1) xs)) (n + 1) (length-take-le (n + 1) xs h)) in
-      parts (placed at p work) (omega (arith, placed-length at p work fits)) ∙ ap (drop (n + 1)) (placed-take at p work fits (n + 1 + n) (omega arith)) ∙ sym (parts work (omega arith))
+      let base = runsAt n in
+      let parts : (xs : List ℕ) → base ≤ length xs → take n (drop base xs) ≡ drop base (take (base + n) xs) =
+      λ xs h. sym (ap (drop base) (take-add base n xs) ∙ drop-at (take base xs) (take n (drop base xs)) base (length-take-le base xs h)) in
+      parts (placed at p work) (omega (arith, placed-length at p work fits)) ∙ ap (drop base) (placed-take at p work fits (base + n) (omega arith)) ∙ sym (parts work (omega arith))
 
 module _ (n : ℕ) (workf p : List Float) (at : ℕ) (after : costsAt n ≤ at) (fits : at + length p ≤ length workf) where
+  -- the levels
   pub levels-stay : levelsHeld n (placed at p workf) ≡ levelsHeld n workf
-  levels-stay = placed-take at p workf fits (n + 1) after
+  levels-stay = placed-take at p workf fits (costsAt n) after
 
 -- boundaries of the recording, and room for candidate number `at`
 pub record Puttable (c : Candidate) (at frames : ℕ) (work : List ℕ) (workf : List Float) : Type 0 where
@@ -62,8 +68,8 @@ pub record Puttable (c : Candidate) (at frames : ℕ) (work : List ℕ) (workf :
   pub inside : at ≤ frames
   pub left-in : c .left ≤ frames
   pub right-in : c .right ≤ frames
-  pub room : 6 * (frames + 1) ≤ length work
-  pub roomf : 2 * (frames + 1) ≤ length workf
+  pub room : searchAt frames ≤ length work
+  pub roomf : scoresAt frames ≤ length workf
 
 -- neighbouring stores are what is placed
 stores : {A : Type 0} (vs xs : List A) (i : ℕ) → i + length vs ≤ length xs → sets xs i vs ≡ placed i vs xs
@@ -71,12 +77,14 @@ unfolding placed
 stores vs xs i h = sets-eq vs xs i h ∙ append-assoc (take i xs) vs (drop (i + length vs) xs)
 
 module _ (c : Candidate) (at frames : ℕ) (work : List ℕ) (workf : List Float) (p : Puttable c at frames work workf) where
-  pub put-entries : set (set (set work (heldAt frames + 3 * at) (c .left)) (heldAt frames + 3 * at + 1) (c .right)) (heldAt frames + 3 * at + 2) (reasonNumber (c .reason))
-      ≡ placed (heldAt frames + 3 * at) (entriesOf (c ∷ [])) work
+  -- three stores from its place on are its entry
+  pub put-entries : (here : ℕ) → here ≡ entriesAt frames + 3 * at
+      → set (set (set work here (c .left)) (here + 1) (c .right)) (here + 2) (reasonNumber (c .reason)) ≡ placed (entriesAt frames + 3 * at) (entriesOf (c ∷ [])) work
   unfolding entriesOf
-  put-entries =
-      rw (add-one (heldAt frames + 3 * at), add-two (heldAt frames + 3 * at)) (stores (c .left ∷ (c .right ∷ (reasonNumber (c .reason) ∷ []))) work (heldAt frames + 3 * at) (omega (arith, p .room, p .inside)))
+  put-entries here e =
+      rw (← e, add-one here, add-two here) (stores (c .left ∷ (c .right ∷ (reasonNumber (c .reason) ∷ []))) work here (omega (arith, e, p .room, p .inside)))
 
-  pub put-cost : set workf (frames + 1 + at) (c .cost) ≡ placed (costsAt frames + at) (costsOf (c ∷ [])) workf
+  -- and one is its cost
+  pub put-cost : (here : ℕ) → here ≡ costsAt frames + at → set workf here (c .cost) ≡ placed (costsAt frames + at) (costsOf (c ∷ [])) workf
   unfolding costsOf
-  put-cost = stores (c .cost ∷ []) workf (frames + 1 + at) (omega (arith, p .roomf, p .inside))
+  put-cost here e = rw (← e) (stores (c .cost ∷ []) workf here (omega (arith, e, p .roomf, p .inside)))

@@ -1,9 +1,11 @@
--- Held: where candidates and what they are made from stand in work memory (`silencesHeld`, `runsHeld`, `levelsHeld`, `marked`, `heldAt`, `costsAt`)
+-- The walk over the boundaries that collects a plan's candidates in work memory.
+
+-- Held: what candidates are made from, as work memory holds it (`silencesHeld`, `runsHeld`, `levelsHeld`, `marked`)
 pub mod Held
 -- HeldLaws: candidates are written one behind another (`placed-more`); what they are made from stays
 --   what writing a candidate down needs (`Puttable`), and what it leaves (`put-entries`, `put-cost`)
 pub mod HeldLaws
--- Collect: the walk over the boundaries: what is written at each (`hereOf`), what the walk holds after it (`walkOf`), all that is collected (`collected`), and work memory then (`entriesAll`, `costsAll`)
+-- Collect: the walk over the boundaries: what is written at each (`hereOf`), what the walk holds after it (`walkOf`), all that is collected (`insideHeld`, `collected`), and work memory then (`entriesAll`, `costsAll`)
 pub mod Collect
 -- CollectLaws: what the walk needs of work memory (`Holding`, `Passing`, `Collectable`)
 --   one law for each end of the step at a boundary

@@ -14,11 +14,10 @@ use Rattle.candidate_span.specs.KeptIn.{Outside, of-boundaries}
 use Rattle.candidate_points.specs.Points.{isIn}
 use Rattle.candidates.specs.declared.candidate.Candidate.{Candidate}
 use Rattle.candidates.specs.declared.context.Context.{Context}
-use Rattle.candidates.specs.Candidates.{node, pointAt, ownFrom, allListed, withLeft, cheapest, survivors, candidatesOf}
+use Rattle.candidates.specs.Candidates.{node, pointAt, ownFrom, allListed, withLeft, cheapest, survivors, candidatesInside, candidatesOf}
 use Rattle.candidates.specs.SurvivorsLaws.{left-append}
 use Rattle.candidates.specs.Members.{is-in, in-is, Survivor, none, one, survivor-at, survivor-of}
 use Rattle.candidates.specs.Sources.{droppedOf, Planned}
-use Rattle.candidates.specs.Order.{between}
 use Rattle.candidates.specs.Same.{cheapest-append}
 
 -- ---- still a plan's
@@ -99,7 +98,7 @@ module _ (x : Context) (ss runs : List ℕ) (levels : List Float) (ks js : List 
 
   -- the candidates with added points are the survivors of the candidates and the added points
   pub candidates-added : candidatesOf x ss runs levels (ks ++ js) first last
-      ≡ node first ∷ (survivors (between x ss runs levels ks first last ++ map (pointAt x ss runs levels) js) (boundaries first (last - suc first)) ++ (node last ∷ []))
+      ≡ node first ∷ (survivors (candidatesInside x ss runs levels ks first last ++ map (pointAt x ss runs levels) js) (boundaries first (last - suc first)) ++ (node last ∷ []))
   unfolding candidatesOf
   candidates-added =
       rw (listed-added, survive-again (allListed x ss runs levels ks) (map (pointAt x ss runs levels) js) first (last - suc first) (last - suc first) first (omega arith) (omega arith))

@@ -47,7 +47,7 @@ module _ (x : Context) (ss runs : List ℕ) (levels : List Float) (ks : List ℕ
       pub is : cutOf (candidateAt cs number) ≡ g
 
     -- whatever has its left end where a silence's candidate is a dropped gap is that candidate
-    own-alone : (j : ℕ) → InnerAt (x .frames) ss j → ownAt x ss levels j .left < ownAt x ss levels j .right
+    own-alone : (j : ℕ) → InnerAt (x .padding .frames) ss j → ownAt x ss levels j .left < ownAt x ss levels j .right
         → (c : Candidate) → List·Memᴰ c cs → c .left ≡ ownAt x ss levels j .left → c ≡ ownAt x ss levels j
     own-alone j a h =
         let w = own-inside x ss runs levels ks first last p j a in
@@ -58,9 +58,9 @@ module _ (x : Context) (ss runs : List ℕ) (levels : List Float) (ks : List ℕ
     -- each dropped gap is a candidate
     pub dropped-found : (g : Cut) → List·Memᴰ g (droppedOf x ss) → GapFound g
     dropped-found g m =
-        let d = dropped-cut (x .gap) (x .placement) (x .frames) (x .pre) (x .tail) levels ss (p .prepared) g m in
+        let d = dropped-cut (x .gap) (x .placement) (x .padding) levels ss (p .prepared) g m in
         let e : g ≡ cutOf (ownAt x ss levels (d .number)) = unfold ownAt in d .is in
-        let i = gaps-inside (x .gap) (x .frames) (x .pre) (x .tail) ss (p .prepared .spanned) g m in
+        let i = gaps-inside (x .gap) (x .padding) ss (p .prepared .spanned) g m in
         let w = own-inside x ss runs levels ks first last p (d .number) (d .at) in
         let r = listed-found x ss runs levels ks first last (ownAt x ss levels (d .number)) (own (d .number) (d .at) refl) (w .0) (omega (arith, w .1, w .2)) in
         let c = candidateAt cs (r .number) in

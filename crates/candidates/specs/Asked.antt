@@ -37,7 +37,7 @@ cost-at (c ∷ cs) (suc i) h = cost-at cs i (omega arith)
 -- a grid for a plan's frames, of a length that refusal 6 passes
 pub record Sampled (x : Context) (g : FrameGrid) : Type 0 where
   pub accepted : Accepted g
-  pub same : g .frames ≡ x .frames
+  pub same : g .frames ≡ x .padding .frames
   pub held : g .len ≤ maxLen
 
 module _ (x : Context) (ss runs : List ℕ) (levels : List Float) (ks : List ℕ) (first last : ℕ) (p : Planned x ss levels ks first last) (g : FrameGrid) where

@@ -39,7 +39,7 @@ quietLevel = fin false 1 (negsuc 1)
 -- boundary k lies within the padded bounds of one of the first i silences
 unfoldable pub pausesBy : Context → List ℕ → ℕ → ℕ → Bool
 pausesBy x ss zero k = false
-pausesBy x ss (suc i) k = pausesBy x ss i k || touches (lowOf (x .frames) (x .tail) (startAt ss i)) (highOf (x .frames) (x .pre) (endAt ss i)) k
+pausesBy x ss (suc i) k = pausesBy x ss i k || touches (lowOf (x .padding) (startAt ss i)) (highOf (x .padding) (endAt ss i)) k
 
 -- of one of all silences
 unfoldable pub inPause : Context → List ℕ → ℕ → Bool
@@ -61,7 +61,7 @@ pointAt x ss runs levels k = record {
 -- the own candidate of silence i
 unfoldable pub ownAt : Context → List ℕ → List Float → ℕ → Candidate
 ownAt x ss levels i =
-    let c = cutAt (x .gap) (x .placement) (x .frames) (x .pre) (x .tail) levels ss i in
+    let c = cutAt (x .gap) (x .placement) (x .padding) levels ss i in
     record { left = c .left; right = c .right; cost = cutCost (x .weights) (c .level) (secsOf (x .«frame_secs») (endAt ss i - startAt ss i)); reason = Silence }
 
 -- ---- the list of all
@@ -70,7 +70,7 @@ ownAt x ss levels i =
 unfoldable pub ownFrom : Context → List ℕ → List Float → ℕ → ℕ → List Candidate
 ownFrom x ss levels zero i = []
 ownFrom x ss levels (suc n) i =
-    cond (isInner (x .frames) (startAt ss i) (endAt ss i))
+    cond (isInner (x .padding .frames) (startAt ss i) (endAt ss i))
     (ownAt x ss levels i ∷ ownFrom x ss levels n (suc i))
     (ownFrom x ss levels n (suc i))
 
@@ -89,6 +89,7 @@ withLeft k (c ∷ cs) = cond (eqb (c .left) k) (c ∷ withLeft k cs) (withLeft k
 unfoldable pub cheaper : Candidate → Candidate → Candidate
 cheaper earlier later = cond (lt (later .cost) (earlier .cost)) later earlier
 
+-- the cheapest of c and some listed after it, the earliest of equals
 unfoldable pub cheapestOf : Candidate → List Candidate → Candidate
 cheapestOf c [] = c
 cheapestOf c (d ∷ ds) = cheapestOf (cheaper c d) ds
@@ -103,7 +104,10 @@ unfoldable pub survivors : List Candidate → List ℕ → List Candidate
 survivors cs [] = []
 survivors cs (k ∷ ks) = cheapest (withLeft k cs) ++ survivors cs ks
 
--- the candidates of the span from boundary `first` to boundary `last`, with points at boundaries ks: its two ends, and between them the survivors
+-- those strictly inside the span from boundary `first` to boundary `last`, with points at boundaries ks
+abbrev pub candidatesInside : Context → List ℕ → List ℕ → List Float → List ℕ → ℕ → ℕ → List Candidate
+candidatesInside x ss runs levels ks first last = survivors (allListed x ss runs levels ks) (boundaries first (last - suc first))
+
+-- the candidates of the span: its two ends, and between them the survivors
 unfoldable pub candidatesOf : Context → List ℕ → List ℕ → List Float → List ℕ → ℕ → ℕ → List Candidate
-candidatesOf x ss runs levels ks first last =
-    node first ∷ (survivors (allListed x ss runs levels ks) (boundaries first (last - suc first)) ++ (node last ∷ []))
+candidatesOf x ss runs levels ks first last = node first ∷ (candidatesInside x ss runs levels ks first last ++ (node last ∷ []))

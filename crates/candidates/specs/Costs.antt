@@ -15,7 +15,7 @@ use Rattle.grid.specs.Limits.{maxFrameRate}
 use Rattle.grid.specs.Durations.{frameSecs}
 use Rattle.grid.specs.Boundary.{Bounded}
 use Rattle.grid.specs.declared.boundary.FrameGrid.{FrameGrid}
-use Rattle.candidate_settings.specs.Tests.{weightsOk}
+use Rattle.plan_settings.specs.Tests.{weightsOk}
 use Rattle.candidate_span.specs.Kept.{boundaries}
 use Rattle.candidate_span.specs.Listed.{startAt, endAt}
 use Rattle.candidate_span.specs.ListedLaws.{listed-within}
@@ -38,11 +38,11 @@ use Rattle.candidates.specs.Found.{every, inside-span, inner-survives, c
 -- what costs are made with: weights that refusal 10 passes, levels from 0 to 1, the grid's frame, and a stretch for each frame
 pub record Costed (x : Context) (g : FrameGrid) (runs : List ℕ) (levels : List Float) : Type 0 where
   pub weighed : weightsOk (x .weights) ≡ true
-  pub scale : (k : ℕ) → k ≤ x .frames → OnScale (getD levels k nan)
+  pub scale : (k : ℕ) → k ≤ x .padding .frames → OnScale (getD levels k nan)
   pub bounded : Bounded g
   pub rate : g .«frame_rate» ≤ maxFrameRate
   pub lasts : x .«frame_secs» ≡ frameSecs (g .«frame_rate») (g .hop)
-  pub stretches : length runs ≡ x .frames
+  pub stretches : length runs ≡ x .padding .frames
   pub counted : (i : ℕ) → getD runs i 0 < 4294967296
 
 module _ (x : Context) (g : FrameGrid) (runs : List ℕ) (levels : List Float) (q : Costed x g runs levels) where
@@ -51,7 +51,7 @@ module _ (x : Context) (g : FrameGrid) (runs : List ℕ) (levels : List Float) (
   secs frames h = rw (q .lasts) (secs-fine (g .«frame_rate») (g .hop) (q .bounded .divisor) (q .rate) (q .bounded .hop) frames h .0)
 
   -- the stretch at a boundary is one of the frames'
-  stretch-counted : (k : ℕ) → k ≤ x .frames → 0 < x .frames → stretchAt runs k < 4294967296
+  stretch-counted : (k : ℕ) → k ≤ x .padding .frames → 0 < x .padding .frames → stretchAt runs k < 4294967296
   stretch-counted zero h s = subst (λ (n : ℕ). n < 4294967296) (stretch-first runs (omega (arith, q .stretches))) (q .counted 0)
   stretch-counted (suc k) h s = elim (eq-or-lt-of-le h) [
     | inl e ↦ subst (λ (n : ℕ). n < 4294967296) (stretch-last runs (suc k) (omega arith) (omega (arith, q .stretches))) (q .counted (suc k - 1))
@@ -62,17 +62,17 @@ module _ (x : Context) (g : FrameGrid) (runs : List ℕ) (levels : List Float) (
 
   -- what holds of every cost of a cut on the scale holds of what is listed, and of what survives of it
   module _ (P : Float → Type 0) (f : (level time : Float) → OnScale level → T (nonneg time) → P (cutCost (x .weights) level time)) where
-    point-has : (ss : List ℕ) (k : ℕ) → k ≤ x .frames → 0 < x .frames → P (pointAt x ss runs levels k .cost)
+    point-has : (ss : List ℕ) (k : ℕ) → k ≤ x .padding .frames → 0 < x .padding .frames → P (pointAt x ss runs levels k .cost)
     unfolding pointAt
     point-has ss k h s = f (getD levels k nan) (secsOf (x .«frame_secs») (stretchAt runs k)) (q .scale k h) (secs (stretchAt runs k) (stretch-counted k h s))
 
     module _ (ss ks : List ℕ) (first last : ℕ) (p : Planned x ss levels ks first last) where
-      own-has : (i : ℕ) → InnerAt (x .frames) ss i → P (ownAt x ss levels i .cost)
+      own-has : (i : ℕ) → InnerAt (x .padding .frames) ss i → P (ownAt x ss levels i .cost)
       unfolding ownAt
       own-has i a =
-          let c = cutAt (x .gap) (x .placement) (x .frames) (x .pre) (x .tail) levels ss i in
-          let w = cut-level (x .placement) (x .frames) (x .pre) (x .tail) levels (startAt ss i) (endAt ss i)
-          (inner-cut (x .gap) (x .placement) (x .frames) (x .pre) (x .tail) levels ss (p .prepared) i a) (q .scale) (x .gap) in
+          let c = cutAt (x .gap) (x .placement) (x .padding) levels ss i in
+          let w = cut-level (x .placement) (x .padding) levels (startAt ss i) (endAt ss i)
+          (inner-cut (x .gap) (x .placement) (x .padding) levels ss (p .prepared) i a) (q .scale) (x .gap) in
           f (c .level) (secsOf (x .«frame_secs») (endAt ss i - startAt ss i)) w
           (secs (endAt ss i - startAt ss i) (omega (arith, listed-within (p .prepared .spanned .listed) i (a .listed), p .prepared .few)))
 
@@ -103,6 +103,7 @@ module _ (x : Context) (g : FrameGrid) (runs : List ℕ) (levels : List Float) (
 
     -- above zero where the fixed cost is an f64, as its type says: what is listed, and so what is compared for a left end
     module _ (held : T (fits binary64 (x .weights .cut))) where
+      -- what is listed costs something
       pub source-positive : (c : Candidate) → Source x ss runs levels ks c → c .left < last → T (lt nought (c .cost))
       source-positive =
           source-has (λ (y : Float). T (lt nought y))

@@ -9,21 +9,25 @@ use Rattle.candidates.specs.declared.candidate.Candidate.{Candidate}
 use Rattle.candidates.specs.Candidates.{reasonNumber}
 use Rattle.candidates.specs.Entries.{entriesOf, costsOf}
 
+-- three numbers for each candidate
 pub entries-length : (cs : List Candidate) → length (entriesOf cs) ≡ 3 * length cs
 unfolding entriesOf
 entries-length [] = refl
 entries-length (c ∷ cs) = omega (arith, entries-length cs)
 
+-- one cost for each
 pub costs-length : (cs : List Candidate) → length (costsOf cs) ≡ length cs
 unfolding costsOf
 costs-length [] = refl
 costs-length (c ∷ cs) = ap suc (costs-length cs)
 
+-- the entries of two lists joined are those of the one and then those of the other
 pub entries-append : (cs ds : List Candidate) → entriesOf (cs ++ ds) ≡ entriesOf cs ++ entriesOf ds
 unfolding entriesOf
 entries-append [] ds = refl
 entries-append (c ∷ cs) ds = ap (λ (t : List ℕ). c .left ∷ (c .right ∷ (reasonNumber (c .reason) ∷ t))) (entries-append cs ds)
 
+-- so it is with their costs
 pub costs-append : (cs ds : List Candidate) → costsOf (cs ++ ds) ≡ costsOf cs ++ costsOf ds
 unfolding costsOf
 costs-append [] ds = refl

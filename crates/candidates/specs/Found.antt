@@ -12,10 +12,9 @@ use Rattle.candidate_span.specs.KeptIn.{in-boundaries, of-boundaries}
 use Rattle.candidate_points.specs.Points.{isIn}
 use Rattle.candidates.specs.declared.candidate.Candidate.{Candidate}
 use Rattle.candidates.specs.declared.context.Context.{Context}
-use Rattle.candidates.specs.Candidates.{node, pointAt, allListed, candidatesOf}
+use Rattle.candidates.specs.Candidates.{node, pointAt, allListed, candidatesInside, candidatesOf}
 use Rattle.candidates.specs.Members.{candidateAt, at-member, member-at, survivor-of, survivor-found}
 use Rattle.candidates.specs.Sources.{Planned, Source, own, point, listed-source, source-listed, point-ends, own-inside}
-use Rattle.candidates.specs.Order.{between}
 
 module _ (x : Context) (ss runs : List ℕ) (levels : List Float) (ks : List ℕ) (first last : ℕ) where
   -- the candidates
@@ -30,24 +29,24 @@ module _ (x : Context) (ss runs : List ℕ) (levels : List Float) (ks : List ℕ
   pub every : (P : Candidate → Type 0) → P (node first) → P (node last) → ((c : Candidate) → Source x ss runs levels ks c → first < c .left → c .left < last → P c)
       → (c : Candidate) → List·Memᴰ c cs → P c
   unfolding candidatesOf
-  every P a z f c m = elim (List·Memᴰ·cases-cons m) [ inl e ↦ subst P (sym e) a | inr i ↦ rest (List·Memᴰ·append-cases (between x ss runs levels ks first last) i) ]
+  every P a z f c m = elim (List·Memᴰ·cases-cons m) [ inl e ↦ subst P (sym e) a | inr i ↦ rest (List·Memᴰ·append-cases (candidatesInside x ss runs levels ks first last) i) ]
     where
-      inner : List·Memᴰ c (between x ss runs levels ks first last) → P c
+      inner : List·Memᴰ c (candidatesInside x ss runs levels ks first last) → P c
       inner i =
           let q = survivor-of (allListed x ss runs levels ks) (boundaries first (last - suc first)) c i in
           let w = inside-span (c .left) (q .1) in
           f c (listed-source x ss runs levels ks c (q .0)) (w .0) (w .1)
 
-      rest : List·Memᴰ c (between x ss runs levels ks first last) ⊎ List·Memᴰ c (node last ∷ []) → P c
+      rest : List·Memᴰ c (candidatesInside x ss runs levels ks first last) ⊎ List·Memᴰ c (node last ∷ []) → P c
       rest (inl i) = inner i
       rest (inr i) = subst P (sym (List·Memᴰ·eq-of-singleton i)) z
 
   -- each candidate between the ends survived
-  pub inner-survives : (i : ℕ) → 0 < i → suc i < length cs → List·Memᴰ (candidateAt cs i) (between x ss runs levels ks first last)
+  pub inner-survives : (i : ℕ) → 0 < i → suc i < length cs → List·Memᴰ (candidateAt cs i) (candidatesInside x ss runs levels ks first last)
   unfolding candidatesOf
   inner-survives zero s h = absurd (omega arith)
   inner-survives (suc i) s h =
-      let b = between x ss runs levels ks first last in
+      let b = candidatesInside x ss runs levels ks first last in
       let l : i < length b = omega (arith, length-append b (node last ∷ [])) in
       rw (List·getD-append b (node last ∷ []) (node 0) i l) (at-member b i l)
 
@@ -58,7 +57,7 @@ module _ (x : Context) (ss runs : List ℕ) (levels : List Float) (ks : List ℕ
       listed-source x ss runs levels ks c (survivor-of (allListed x ss runs levels ks) (boundaries first (last - suc first)) c (inner-survives i s h) .0)
 
   -- a survivor stands between the ends
-  between-in : (c : Candidate) → List·Memᴰ c (between x ss runs levels ks first last) → List·Memᴰ c cs
+  between-in : (c : Candidate) → List·Memᴰ c (candidatesInside x ss runs levels ks first last) → List·Memᴰ c cs
   unfolding candidatesOf
   between-in c m = List·Memᴰ·tail (Memᴰ·append-left (node last ∷ []) m)
 

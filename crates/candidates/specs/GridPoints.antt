@@ -19,9 +19,8 @@ use Rattle.candidates.specs.Sources.{Planned, droppedOf}
 
 -- a context's frames and padding are those of a grid and a spacing
 pub record Fits (x : Context) (g : FrameGrid) (s : Spacing) : Type 0 where
-  pub frames : g .frames ≡ x .frames
-  pub before : s .pre ≡ x .pre
-  pub after : s .tail ≡ x .tail
+  pub frames : g .frames ≡ x .padding .frames
+  pub padding : s .padding ≡ x .padding
   pub some : 1 ≤ s .block
 
 module _ (x : Context) (g : FrameGrid) (s : Spacing) (ss : List ℕ) (levels : List Float) (f : Fits x g s) where
@@ -33,17 +32,16 @@ module _ (x : Context) (g : FrameGrid) (s : Spacing) (ss : List ℕ) (levels : L
   pub grid-inside : (first last k : ℕ) → isIn (pointsOf first last) k ≡ true → (first < k) × (k < last)
   grid-inside first last k t = point-inside (isBlocked (x .gap) g s ss) levels (s .block) last (f .some) first k (unfold isPoint in t)
 
-  grid-clear : (first last k : ℕ) → Listed (x .frames) ss → isIn (pointsOf first last) k ≡ true → Outside (droppedOf x ss) k
+  grid-clear : (first last k : ℕ) → Listed (x .padding .frames) ss → isIn (pointsOf first last) k ≡ true → Outside (droppedOf x ss) k
   grid-clear first last k l t =
-      rw (sym (f .frames), sym (f .before), sym (f .after))
-      (point-clear (x .gap) g s ss levels (s .block) first last (f .some) (rw (f .frames) l) k (unfold isPoint in t))
+      rw (sym (f .padding)) (point-clear (x .gap) g s ss levels (s .block) first last (f .some) (rw (f .padding) l) k (unfold isPoint in t))
 
   -- so prepared silences and the grid points make a plan's candidates
-  pub grid-planned : Prepared (x .gap) (x .placement) (x .frames) levels ss
-      → Planned x ss levels (pointsOf (firstOf (x .gap) (x .pre) ss) (lastOf (x .gap) (x .frames) (x .tail) ss)) (firstOf (x .gap) (x .pre) ss) (lastOf (x .gap) (x .frames) (x .tail) ss)
+  pub grid-planned : Prepared (x .gap) (x .placement) (x .padding .frames) levels ss
+      → Planned x ss levels (pointsOf (firstOf (x .gap) (x .padding) ss) (lastOf (x .gap) (x .padding) ss)) (firstOf (x .gap) (x .padding) ss) (lastOf (x .gap) (x .padding) ss)
   grid-planned p =
-      let first = firstOf (x .gap) (x .pre) ss in
-      let last = lastOf (x .gap) (x .frames) (x .tail) ss in
+      let first = firstOf (x .gap) (x .padding) ss in
+      let last = lastOf (x .gap) (x .padding) ss in
       record {
         prepared = p;
         starts = refl;

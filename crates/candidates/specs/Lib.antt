@@ -1,3 +1,5 @@
+-- The candidates of a plan: definitions, laws and theorems.
+
 -- Candidates: a point (`pointAt`), a silence's own candidate (`ownAt`), all in their order (`allListed`), and the survivors between the two ends (`candidatesOf`)
 pub mod Candidates
 -- Entries: candidates as numbers (`entriesOf`, `costsOf`)

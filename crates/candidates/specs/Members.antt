@@ -66,6 +66,7 @@ member-at (d ∷ cs) c (List·Memᴰ·tail m) =
 -- ---- those with left end k
 
 module _ (k : ℕ) where
+  -- each is listed, and has its left end there
   pub left-of : (cs : List Candidate) (c : Candidate) → List·Memᴰ c (withLeft k cs) → List·Memᴰ c cs × (c .left ≡ k)
   unfolding withLeft
   left-of [] c m = absurd (List·Memᴰ·not-nil m)
@@ -115,6 +116,7 @@ pub data Survivor (cs : List Candidate) (k : ℕ) (ds : List Candidate) : Type 0
   none : ds ≡ [] → ((c : Candidate) → List·Memᴰ c cs → c .left ≡ k → ⊥) → Survivor cs k ds
   one : (c : Candidate) → ds ≡ c ∷ [] → List·Memᴰ c cs → c .left ≡ k → Survivor cs k ds
 
+-- the cheapest of those with left end k is what survives at boundary k
 pub survivor-at : (cs : List Candidate) (k : ℕ) → Survivor cs k (cheapest (withLeft k cs))
 unfolding cheapest
 survivor-at cs k = go (withLeft k cs) (left-of k cs) (of-left k cs)

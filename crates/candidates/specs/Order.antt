@@ -10,11 +10,10 @@ use lib.ListN.{length, length-append}
 use Rattle.grid.specs.declared.boundary.FrameGrid.{FrameGrid}
 use Rattle.grid.specs.Boundary.{boundaryOf}
 use Rattle.grid.specs.BoundaryLaws.{Accepted, boundary-above}
-use Rattle.candidate_span.specs.Kept.{boundaries}
 use Rattle.candidate_span.specs.SpanLaws.{ends-order}
 use Rattle.candidates.specs.declared.candidate.Candidate.{Candidate}
 use Rattle.candidates.specs.declared.context.Context.{Context}
-use Rattle.candidates.specs.Candidates.{node, allListed, survivors, candidatesOf}
+use Rattle.candidates.specs.Candidates.{node, allListed, candidatesInside, candidatesOf}
 use Rattle.candidates.specs.Members.{candidateAt}
 use Rattle.candidates.specs.Sources.{Planned, Source, own, point, listed-source, point-ends, own-inside, sources-apart}
 use Rattle.candidates.specs.Row.{InRow, Apart, survivors-in-row, row-within, row-apart, survivors-few}
@@ -28,9 +27,9 @@ module _ (x : Context) (ss runs : List ℕ) (levels : List Float) (ks : List ℕ
   abbrev cs : List Candidate
   cs = candidatesOf x ss runs levels ks first last
 
-  -- the survivors between the two ends
-  abbrev pub between : List Candidate
-  between = survivors (allListed x ss runs levels ks) (boundaries first (last - suc first))
+  -- those between the two ends
+  abbrev inner : List Candidate
+  inner = candidatesInside x ss runs levels ks first last
 
   -- the first candidate is the span's first end
   pub candidates-first : candidateAt cs 0 ≡ node first
@@ -40,22 +39,22 @@ module _ (x : Context) (ss runs : List ℕ) (levels : List Float) (ks : List ℕ
   -- the last is its other end
   pub candidates-last : candidateAt cs (length cs - 1) ≡ node last
   unfolding candidatesOf
-  candidates-last = let e : suc (length (between ++ (node last ∷ []))) - 1 ≡ length (between ++ (node last ∷ [])) = omega arith in rw e (snoc-last (node first) between (node last))
+  candidates-last = let e : suc (length (inner ++ (node last ∷ []))) - 1 ≡ length (inner ++ (node last ∷ [])) = omega arith in rw e (snoc-last (node first) inner (node last))
 
   -- there are these two at least
   pub candidates-some : 2 ≤ length cs
   unfolding candidatesOf
-  candidates-some = omega (arith, length-append between (node last ∷ []))
+  candidates-some = omega (arith, length-append inner (node last ∷ []))
 
   -- and one for each boundary of the span at most
   pub candidates-few : first < last → length cs ≤ suc (last - first)
   unfolding candidatesOf
-  candidates-few h = omega (arith, length-append between (node last ∷ []), survivors-few (allListed x ss runs levels ks) (last - suc first) first)
+  candidates-few h = omega (arith, length-append inner (node last ∷ []), survivors-few (allListed x ss runs levels ks) (last - suc first) first)
 
   module _ (p : Planned x ss levels ks first last) where
     -- the ends of the span are in order, and within the frame count
-    pub span-ends : (first < last) × (last ≤ x .frames)
-    span-ends = let e = ends-order (x .gap) (x .frames) (x .pre) (x .tail) ss (p .prepared .spanned) in (rw (p .starts, p .stops) (e .0), rw (p .stops) (e .1))
+    pub span-ends : (first < last) × (last ≤ x .padding .frames)
+    span-ends = let e = ends-order (x .gap) (x .padding) ss (p .prepared .spanned) in (rw (p .starts, p .stops) (e .0), rw (p .stops) (e .1))
 
     source-inside : (c : Candidate) → Source x ss runs levels ks c → c .left < last → (c .left ≤ c .right) × (c .right < last)
     source-inside c (own i a e) h = let w = own-inside x ss runs levels ks first last p i a in rw e (w .1, w .2)
@@ -73,7 +72,7 @@ module _ (x : Context) (ss runs : List ℕ) (levels : List Float) (ks : List ℕ
               sources-apart x ss runs levels ks first last p c d (listed-source x ss runs levels ks c m) (listed-source x ss runs levels ks d n) h (omega arith) l;
         }
 
-    spaced : InRow first between last
+    spaced : InRow first inner last
     spaced = survivors-in-row (allListed x ss runs levels ks) first last all-apart (span-ends .0)
 
     -- each candidate's ends are boundaries of the span
@@ -81,14 +80,14 @@ module _ (x : Context) (ss runs : List ℕ) (levels : List Float) (ks : List ℕ
         → (first ≤ candidateAt cs i .left) × (candidateAt cs i .left ≤ candidateAt cs i .right) × (candidateAt cs i .right ≤ last)
     unfolding candidatesOf
     candidate-within zero h = (omega arith, omega arith, omega (arith, span-ends .0))
-    candidate-within (suc i) h = let w = row-within last (node 0) first between i spaced (omega arith) in (omega (arith, w .0), w .1, w .2)
+    candidate-within (suc i) h = let w = row-within last (node 0) first inner i spaced (omega arith) in (omega (arith, w .0), w .1, w .2)
 
     -- a candidate ends before any later one starts
     pub candidates-apart : (i j : ℕ) → i < j → j < length cs → candidateAt cs i .right < candidateAt cs j .left
     unfolding candidatesOf
     candidates-apart i zero h l = absurd (omega arith)
-    candidates-apart zero (suc j) h l = row-within last (node 0) first between j spaced (omega arith) .0
-    candidates-apart (suc i) (suc j) h l = row-apart last (node 0) first between i j spaced (omega arith) (omega arith)
+    candidates-apart zero (suc j) h l = row-within last (node 0) first inner j spaced (omega arith) .0
+    candidates-apart (suc i) (suc j) h l = row-apart last (node 0) first inner i j spaced (omega arith) (omega arith)
 
     -- so left ends rise strictly
     pub candidates-rise : (i j : ℕ) → i < j → j < length cs → candidateAt cs i .left < candidateAt cs j .left
@@ -96,7 +95,7 @@ module _ (x : Context) (ss runs : List ℕ) (levels : List Float) (ks : List ℕ
 
     -- ---- in samples
 
-    module _ (g : FrameGrid) (accepted : Accepted g) (same : g .frames ≡ x .frames) where
+    module _ (g : FrameGrid) (accepted : Accepted g) (same : g .frames ≡ x .padding .frames) where
       positioned : (j k : ℕ) → j < k → k ≤ last → boundaryOf g j < boundaryOf g k
       positioned j k h l = boundary-above g accepted j k h (omega (arith, span-ends .1))
 

@@ -24,6 +24,7 @@ use Rattle.candidates.specs.Candidates.{pausesBy, inPause}
 pub record EndsRise (ss : List ℕ) : Type 0 where
   pub rise : (i j : ℕ) → i < j → j < count ss → endAt ss i < endAt ss j
 
+-- those of a recording do
 pub listed-rise : (n : ℕ) (ss : List ℕ) → Listed n ss → EndsRise ss
 listed-rise n ss l = record { rise = λ (i j : ℕ) (h : i < j) (m : j < count ss). omega (arith, listed-apart l i j h m, listed-own l j m) }
 
@@ -41,10 +42,12 @@ pub record Ending (ss : List ℕ) (k i : ℕ) : Type 0 where
   pub from : (j : ℕ) → i ≤ j → j < count ss → k ≤ endAt ss j
 
 module _ (ss : List ℕ) (k : ℕ) where
+  -- at first nothing is known
   pub search-start : Searching ss k 0 (count ss)
   search-start = record { order = omega arith; within = omega arith; before = λ (j : ℕ) (h : j < 0). absurd (omega arith); from = λ (j : ℕ) (h : count ss ≤ j) (m : j < count ss). absurd (omega arith) }
 
   module _ (lo hi m : ℕ) (r : EndsRise ss) (s : Searching ss k lo hi) (a : lo ≤ m) (b : m < hi) where
+    -- silence m ends before k, and so do all up to it
     pub search-up : endAt ss m < k → Searching ss k (m + 1) hi
     search-up e = record { order = omega arith; within = s .within; before = up; from = s .from }
       where
@@ -54,6 +57,7 @@ module _ (ss : List ℕ) (k : ℕ) where
           | inr l ↦ let q : j ≡ m = omega arith in rw q e
         ]
 
+    -- silence m does not, and none after it does
     pub search-down : k ≤ endAt ss m → Searching ss k lo m
     search-down e = record { order = a; within = omega (arith, s .within); before = s .before; from = down }
       where
@@ -63,6 +67,7 @@ module _ (ss : List ℕ) (k : ℕ) where
           | inr d ↦ let q : j ≡ m = omega arith in rw q e
         ]
 
+  -- where both meet, the first that does not end before k is found
   pub search-done : (lo hi : ℕ) → Searching ss k lo hi → hi ≤ lo → Ending ss k lo
   search-done lo hi s h = record { within = omega (arith, s .order, s .within); before = s .before; from = λ (j : ℕ) (a : lo ≤ j) (b : j < count ss). s .from j (omega arith) b }
 
@@ -71,7 +76,7 @@ module _ (ss : List ℕ) (k : ℕ) where
 module _ (x : Context) (ss : List ℕ) (k : ℕ) where
   -- boundary k lies within the padded bounds of silence j
   abbrev at : ℕ → Bool
-  at j = touches (lowOf (x .frames) (x .tail) (startAt ss j)) (highOf (x .frames) (x .pre) (endAt ss j)) k
+  at j = touches (lowOf (x .padding) (startAt ss j)) (highOf (x .padding) (endAt ss j)) k
 
   by-none : (m : ℕ) → ((j : ℕ) → j < m → at j ≡ false) → pausesBy x ss m k ≡ false
   unfolding pausesBy
@@ -87,7 +92,7 @@ module _ (x : Context) (ss : List ℕ) (k : ℕ) where
   ]
 
   past : (j : ℕ) → endAt ss j < k → at j ≡ false
-  past j h = touches-out (lowOf (x .frames) (x .tail) (startAt ss j)) (highOf (x .frames) (x .pre) (endAt ss j)) k (inr (omega (arith, high-within (x .frames) (x .pre) (endAt ss j))))
+  past j h = touches-out (lowOf (x .padding) (startAt ss j)) (highOf (x .padding) (endAt ss j)) k (inr (omega (arith, high-within (x .padding) (endAt ss j))))
 
   -- no silence is left
   pub pause-none : (i : ℕ) → Ending ss k i → count ss ≤ i → inPause x ss k ≡ false
@@ -95,22 +100,24 @@ module _ (x : Context) (ss : List ℕ) (k : ℕ) where
   pause-none i e h = by-none (count ss) (λ (j : ℕ) (l : j < count ss). past j (e .before j (omega arith)))
 
   -- it is that one or none
-  pub pause-one : (i : ℕ) → Listed (x .frames) ss → Ending ss k i → i < count ss → inPause x ss k ≡ at i
+  pub pause-one : (i : ℕ) → Listed (x .padding .frames) ss → Ending ss k i → i < count ss → inPause x ss k ≡ at i
   unfolding inPause
   pause-one i l e h = by-one i (count ss) h (λ (j : ℕ) (a : j < i). past j (e .before j a)) ahead
     where
       ahead : (j : ℕ) → i < j → j < count ss → at j ≡ false
-      ahead j a b = touches-out (lowOf (x .frames) (x .tail) (startAt ss j)) (highOf (x .frames) (x .pre) (endAt ss j)) k
-          (inl (omega (arith, e .from i (omega arith) h, listed-apart l i j a b, low-within (x .frames) (x .tail) (startAt ss j) (omega (arith, listed-own l j b, listed-within l j b)))))
+      ahead j a b = touches-out (lowOf (x .padding) (startAt ss j)) (highOf (x .padding) (endAt ss j)) k
+          (inl (omega (arith, e .from i (omega arith) h, listed-apart l i j a b, low-within (x .padding) (startAt ss j) (omega (arith, listed-own l j b, listed-within l j b)))))
 
   -- told from that silence's bounds b
-  module _ (i start end : ℕ) (b : Bounds) (l : Listed (x .frames) ss) (e : Ending ss k i) (h : i < count ss) (begins : start ≡ startAt ss i) (stops : end ≡ endAt ss i)
-      (is : b ≡ boundsOf (x .frames) (x .pre) (x .tail) start end) where
+  module _ (i start end : ℕ) (b : Bounds) (l : Listed (x .padding .frames) ss) (e : Ending ss k i) (h : i < count ss) (begins : start ≡ startAt ss i) (stops : end ≡ endAt ss i)
+      (is : b ≡ boundsOf (x .padding) start end) where
     told : inPause x ss k ≡ (leb (b .lo) k && leb k (b .hi))
     told = rw (is, begins, stops) (pause-one i l e h ∙ unfold touches in refl)
 
+    -- below the lower bound k is in no pause
     pub pause-before : k < b .lo → false ≡ inPause x ss k
     pause-before m = rw (told, lt-leb (b .lo) k m)
 
+    -- from there on it is in one up to the upper bound
     pub pause-from : b .lo ≤ k → leb k (b .hi) ≡ inPause x ss k
     pause-from m = rw (told, le-leb (b .lo) k m)

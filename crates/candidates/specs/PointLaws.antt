@@ -17,7 +17,7 @@ use Rattle.candidates.specs.Candidates.{reasonAt, pointAt, ownAt}
 
 -- silences, and a level at boundary k
 pub record Heard (x : Context) (ss : List ℕ) (levels : List Float) (k : ℕ) : Type 0 where
-  pub listed : Listed (x .frames) ss
+  pub listed : Listed (x .padding .frames) ss
   pub held : k < length levels
 
 -- a stretch for each frame, and boundary k among them
@@ -28,17 +28,19 @@ pub record Stretched (runs : List ℕ) (k : ℕ) : Type 0 where
 -- silence i has sound on both sides
 pub record Cuttable (x : Context) (ss : List ℕ) (levels : List Float) (i : ℕ) : Type 0 where
   pub listed : i < count ss
-  pub inner : Inner (x .placement) (x .frames) levels (startAt ss i) (endAt ss i)
+  pub inner : Inner (x .placement) (x .padding .frames) levels (startAt ss i) (endAt ss i)
 
 -- ---- what their functions put together
 
 module _ (x : Context) (ss : List ℕ) (levels : List Float) where
+  -- the parts that `own` reckons make the silence's own candidate
   pub own-is : (i start end : ℕ) (r : SilenceCut) (secs cost : Float) → start ≡ startAt ss i → end ≡ endAt ss i
-      → r ≡ silenceCut (x .gap) (x .placement) (x .frames) (x .pre) (x .tail) levels start end → secs ≡ secsOf (x .«frame_secs») (end - start) → cost ≡ cutCost (x .weights) (r .level) secs
+      → r ≡ silenceCut (x .gap) (x .placement) (x .padding) levels start end → secs ≡ secsOf (x .«frame_secs») (end - start) → cost ≡ cutCost (x .weights) (r .level) secs
       → record { left = r .left; right = r .right; cost = cost; reason = Silence } ≡ ownAt x ss levels i
   unfolding ownAt
   own-is i start end r secs cost a b c d e = rw (e, d, c, a, b)
 
+  -- the parts that `point` reckons make the point
   pub point-is : (runs : List ℕ) (k stretch : ℕ) (secs cost : Float) (reason : Reason) → stretch ≡ stretchAt runs k → secs ≡ secsOf (x .«frame_secs») stretch
       → cost ≡ cutCost (x .weights) (getD levels k nan) secs → reason ≡ reasonAt x ss levels k → record { left = k; right = k; cost = cost; reason = reason } ≡ pointAt x ss runs levels k
   unfolding pointAt

@@ -39,6 +39,7 @@ module _ (cs : List Candidate) (first last : ℕ) (p : Apart cs first last) wher
           let q : r < c .left = b c m (omega arith) (omega arith) in
           rw e (q, i .0, k (c .right) (i .1) (λ (d : Candidate) (o : List·Memᴰ d cs) (g : suc a < d .left) (j : d .left < last). p .later c d m o (omega arith) (omega arith) j))
 
+  -- the survivors between two boundaries stand in a row between them
   pub survivors-in-row : first < last → InRow first (survivors cs (boundaries first (last - suc first))) last
   survivors-in-row h = row-from (last - suc first) first first (omega arith) (omega arith) h (λ (d : Candidate) (m : List·Memᴰ d cs) (i : first < d .left) (j : d .left < last). i)
 
@@ -54,12 +55,13 @@ survivors-few cs (suc n) a = go (cheapest (withLeft (suc a) cs)) (survivor-at cs
 
 -- ---- by number
 
--- every candidate of a row starts after boundary a, and ends at z or before
+-- a row between boundaries a and z, with the end of the span at z behind it; d stands for what is beyond
 module _ (z : ℕ) (d : Candidate) where
   row-first : (a : ℕ) (cs : List Candidate) → InRow a cs z → a < z
   row-first a [] s = s
   row-first a (c ∷ cs) s = omega (arith, s .0, s .1, row-first (c .right) cs (s .2))
 
+  -- every candidate starts after boundary a, and ends at z or before
   pub row-within : (a : ℕ) (cs : List Candidate) (i : ℕ) → InRow a cs z → i < length (cs ++ (node z ∷ []))
       → (a < getD (cs ++ (node z ∷ [])) i d .left) × (getD (cs ++ (node z ∷ [])) i d .left ≤ getD (cs ++ (node z ∷ [])) i d .right) × (getD (cs ++ (node z ∷ [])) i d .right ≤ z)
   row-within a [] zero s h = (s, omega arith, omega arith)
@@ -67,6 +69,7 @@ module _ (z : ℕ) (d : Candidate) where
   row-within a (c ∷ cs) zero s h = (s .0, s .1, omega (arith, row-first (c .right) cs (s .2)))
   row-within a (c ∷ cs) (suc i) s h = let w = row-within (c .right) cs i (s .2) (omega arith) in (omega (arith, s .0, s .1, w .0), w .1, w .2)
 
+  -- each ends before any later one starts
   pub row-apart : (a : ℕ) (cs : List Candidate) (i j : ℕ) → InRow a cs z → i < j → j < length (cs ++ (node z ∷ []))
       → getD (cs ++ (node z ∷ [])) i d .right < getD (cs ++ (node z ∷ [])) j d .left
   row-apart a cs i zero s h l = absurd (omega arith)

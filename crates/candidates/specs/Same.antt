@@ -13,7 +13,7 @@ use Rattle.candidates.specs.declared.context.Context.{Context}
 use Rattle.candidates.specs.Candidates.{node, pointAt, ownFrom, allListed, withLeft, cheaper, cheapestOf, cheapest, survivors, candidatesOf}
 use Rattle.candidates.specs.SurvivorsLaws.{left-append, points-beside, points-alone}
 
--- the cheapest of some and more is that of the first and the others
+-- the cheapest of two lists joined is that of the first one's cheapest and the second
 pub cheapest-append : (c : Candidate) (cs ds : List Candidate) → cheapestOf c (cs ++ ds) ≡ cheapestOf (cheapestOf c cs) ds
 unfolding cheapestOf
 cheapest-append c [] ds = refl

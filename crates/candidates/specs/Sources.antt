@@ -23,38 +23,38 @@ use Rattle.candidates.specs.Members.{is-in, in-is}
 
 -- document 01's dropped gaps of a plan
 abbrev pub droppedOf : Context → List ℕ → List Cut
-droppedOf x ss = gapsOf (x .gap) (x .frames) (x .pre) (x .tail) ss
+droppedOf x ss = gapsOf (x .gap) (x .padding) ss
 
 -- what a plan has when candidates are sought: a span, prepared silences, and points at kept frame boundaries only
 pub record Planned (x : Context) (ss : List ℕ) (levels : List Float) (ks : List ℕ) (first last : ℕ) : Type 0 where
-  pub prepared : Prepared (x .gap) (x .placement) (x .frames) levels ss
-  pub starts : first ≡ firstOf (x .gap) (x .pre) ss
-  pub stops : last ≡ lastOf (x .gap) (x .frames) (x .tail) ss
+  pub prepared : Prepared (x .gap) (x .placement) (x .padding .frames) levels ss
+  pub starts : first ≡ firstOf (x .gap) (x .padding) ss
+  pub stops : last ≡ lastOf (x .gap) (x .padding) ss
   pub clear : (k : ℕ) → isIn ks k ≡ true → first < k → k < last → Outside (droppedOf x ss) k
 
 module _ (x : Context) (ss runs : List ℕ) (levels : List Float) (ks : List ℕ) where
   -- where a listed candidate comes from
   pub data Source (c : Candidate) : Type 0 where
-    own : (i : ℕ) → InnerAt (x .frames) ss i → c ≡ ownAt x ss levels i → Source c
+    own : (i : ℕ) → InnerAt (x .padding .frames) ss i → c ≡ ownAt x ss levels i → Source c
     point : (k : ℕ) → isIn ks k ≡ true → c ≡ pointAt x ss runs levels k → Source c
 
   own-from : (n i : ℕ) (c : Candidate) → i + n ≡ count ss → List·Memᴰ c (ownFrom x ss levels n i) → Source c
   unfolding ownFrom
   own-from zero i c h m = absurd (List·Memᴰ·not-nil m)
-  own-from (suc n) i c h m = go (isInner (x .frames) (startAt ss i) (endAt ss i)) refl m (own-from n (suc i) c (omega arith))
+  own-from (suc n) i c h m = go (isInner (x .padding .frames) (startAt ss i) (endAt ss i)) refl m (own-from n (suc i) c (omega arith))
     where
-      go : (b : Bool) → isInner (x .frames) (startAt ss i) (endAt ss i) ≡ b → List·Memᴰ c (cond b (ownAt x ss levels i ∷ ownFrom x ss levels n (suc i)) (ownFrom x ss levels n (suc i)))
+      go : (b : Bool) → isInner (x .padding .frames) (startAt ss i) (endAt ss i) ≡ b → List·Memᴰ c (cond b (ownAt x ss levels i ∷ ownFrom x ss levels n (suc i)) (ownFrom x ss levels n (suc i)))
           → (List·Memᴰ c (ownFrom x ss levels n (suc i)) → Source c) → Source c
       go true t (List·Memᴰ·head e) f = own i (record { listed = omega arith; inner = t }) e
       go true t (List·Memᴰ·tail q) f = f q
       go false t q f = f q
 
-  from-own : (n i j : ℕ) → i ≤ j → j < i + n → isInner (x .frames) (startAt ss j) (endAt ss j) ≡ true → List·Memᴰ (ownAt x ss levels j) (ownFrom x ss levels n i)
+  from-own : (n i j : ℕ) → i ≤ j → j < i + n → isInner (x .padding .frames) (startAt ss j) (endAt ss j) ≡ true → List·Memᴰ (ownAt x ss levels j) (ownFrom x ss levels n i)
   unfolding ownFrom
   from-own zero i j h l t = absurd (omega arith)
   from-own (suc n) i j h l t =
       elim (lt-or-le i j) [
-        | inl q ↦ later (isInner (x .frames) (startAt ss i) (endAt ss i)) (from-own n (suc i) j q (omega arith) t)
+        | inl q ↦ later (isInner (x .padding .frames) (startAt ss i) (endAt ss i)) (from-own n (suc i) j q (omega arith) t)
         | inr q ↦ here (omega arith)
       ]
     where
@@ -63,7 +63,7 @@ module _ (x : Context) (ss runs : List ℕ) (levels : List Float) (ks : List ℕ
       later true m = List·Memᴰ·tail m
       later false m = m
 
-      here : i ≡ j → List·Memᴰ (ownAt x ss levels j) (cond (isInner (x .frames) (startAt ss i) (endAt ss i)) (ownAt x ss levels i ∷ ownFrom x ss levels n (suc i)) (ownFrom x ss levels n (suc i)))
+      here : i ≡ j → List·Memᴰ (ownAt x ss levels j) (cond (isInner (x .padding .frames) (startAt ss i) (endAt ss i)) (ownAt x ss levels i ∷ ownFrom x ss levels n (suc i)) (ownFrom x ss levels n (suc i)))
       here e = rw (e, t) (List·Memᴰ·head refl)
 
   -- every listed candidate has a source
@@ -89,33 +89,34 @@ module _ (x : Context) (ss runs : List ℕ) (levels : List Float) (ks : List ℕ
 
   module _ (first last : ℕ) (p : Planned x ss levels ks first last) where
     -- an own candidate lies strictly inside the span
-    pub own-inside : (i : ℕ) → InnerAt (x .frames) ss i
+    pub own-inside : (i : ℕ) → InnerAt (x .padding .frames) ss i
         → (first < ownAt x ss levels i .left) × (ownAt x ss levels i .left ≤ ownAt x ss levels i .right) × (ownAt x ss levels i .right < last)
     unfolding ownAt
     own-inside i a =
-        let q = cut-inside (x .gap) (x .placement) (x .frames) (x .pre) (x .tail) levels ss (p .prepared) i a in
-        let w = cut-within (x .placement) (x .frames) (x .pre) (x .tail) levels (startAt ss i) (endAt ss i) (inner-cut (x .gap) (x .placement) (x .frames) (x .pre) (x .tail) levels ss (p .prepared) i a) (x .gap) in
+        let q = cut-inside (x .gap) (x .placement) (x .padding) levels ss (p .prepared) i a in
+        let w = cut-within (x .placement) (x .padding) levels (startAt ss i) (endAt ss i) (inner-cut (x .gap) (x .placement) (x .padding) levels ss (p .prepared) i a) (x .gap) in
         (rw (p .starts) (q .0), w .1, rw (p .stops) (q .1))
 
-    pub own-apart : (i j : ℕ) → i < j → InnerAt (x .frames) ss i → InnerAt (x .frames) ss j → ownAt x ss levels i .right < ownAt x ss levels j .left
+    -- an own candidate ends before that of a later silence starts
+    pub own-apart : (i j : ℕ) → i < j → InnerAt (x .padding .frames) ss i → InnerAt (x .padding .frames) ss j → ownAt x ss levels i .right < ownAt x ss levels j .left
     unfolding ownAt
-    own-apart i j h a b = cuts-apart (x .gap) (x .placement) (x .frames) (x .pre) (x .tail) levels ss (p .prepared) i j h a b
+    own-apart i j h a b = cuts-apart (x .gap) (x .placement) (x .padding) levels ss (p .prepared) i j h a b
 
     -- with two ends it is a dropped gap
-    pub own-dropped : (i : ℕ) → InnerAt (x .frames) ss i → ownAt x ss levels i .left < ownAt x ss levels i .right
+    pub own-dropped : (i : ℕ) → InnerAt (x .padding .frames) ss i → ownAt x ss levels i .left < ownAt x ss levels i .right
         → List·Memᴰ (record { left = ownAt x ss levels i .left; right = ownAt x ss levels i .right }) (droppedOf x ss)
     unfolding ownAt
-    own-dropped i a h = cut-dropped (x .gap) (x .placement) (x .frames) (x .pre) (x .tail) levels ss (p .prepared) i a h
+    own-dropped i a h = cut-dropped (x .gap) (x .placement) (x .padding) levels ss (p .prepared) i a h
 
     -- and no point lies in it, its edges included
-    own-clear : (i k : ℕ) → InnerAt (x .frames) ss i → ownAt x ss levels i .left < ownAt x ss levels i .right → isIn ks k ≡ true → first < k → k < last
+    own-clear : (i k : ℕ) → InnerAt (x .padding .frames) ss i → ownAt x ss levels i .left < ownAt x ss levels i .right → isIn ks k ≡ true → first < k → k < last
         → (k < ownAt x ss levels i .left) ⊎ (ownAt x ss levels i .right < k)
     own-clear i k a h t f l = p .clear k t f l (record { left = ownAt x ss levels i .left; right = ownAt x ss levels i .right }) (own-dropped i a h)
 
     -- ---- two of them
 
     -- the later own candidate has the higher left end
-    own-order : (i j : ℕ) → InnerAt (x .frames) ss i → InnerAt (x .frames) ss j → ownAt x ss levels i .left < ownAt x ss levels j .left → ownAt x ss levels i .right < ownAt x ss levels j .left
+    own-order : (i j : ℕ) → InnerAt (x .padding .frames) ss i → InnerAt (x .padding .frames) ss j → ownAt x ss levels i .left < ownAt x ss levels j .left → ownAt x ss levels i .right < ownAt x ss levels j .left
     own-order i j a b h = elim (lt-or-le i j) [
       | inl q ↦ own-apart i j q a b
       | inr q ↦
@@ -126,7 +127,7 @@ module _ (x : Context) (ss runs : List ℕ) (levels : List Float) (ks : List ℕ
     ]
 
     -- an own candidate ends before a point that lies after its left end
-    own-before : (i k : ℕ) → InnerAt (x .frames) ss i → isIn ks k ≡ true → first < k → k < last → ownAt x ss levels i .left < k → ownAt x ss levels i .right < k
+    own-before : (i k : ℕ) → InnerAt (x .padding .frames) ss i → isIn ks k ≡ true → first < k → k < last → ownAt x ss levels i .left < k → ownAt x ss levels i .right < k
     own-before i k a t f l h = elim (lt-or-le (ownAt x ss levels i .left) (ownAt x ss levels i .right)) [
       | inl g ↦ elim (own-clear i k a g t f l) [ inl q ↦ absurd (omega arith) | inr q ↦ q ]
       | inr g ↦ omega arith
@@ -141,7 +142,7 @@ module _ (x : Context) (ss runs : List ℕ) (levels : List Float) (ks : List ℕ
         rw (e, r) (own-before i k a t (rw r at f) (rw r at l) (rw (e, r) at h))
 
     -- where a silence's candidate is a dropped gap, no other has its left end
-    pub own-only : (i : ℕ) (c : Candidate) → InnerAt (x .frames) ss i → ownAt x ss levels i .left < ownAt x ss levels i .right → Source c → c .left ≡ ownAt x ss levels i .left
+    pub own-only : (i : ℕ) (c : Candidate) → InnerAt (x .padding .frames) ss i → ownAt x ss levels i .left < ownAt x ss levels i .right → Source c → c .left ≡ ownAt x ss levels i .left
         → c ≡ ownAt x ss levels i
     own-only i c a h (own j b q) e = elim (lt-or-le i j) [
       | inl l ↦ absurd (omega (arith, own-apart i j l a b, ap (λ (d : Candidate). d .left) (sym q) ∙ e))

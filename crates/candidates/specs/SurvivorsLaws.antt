@@ -39,6 +39,7 @@ more : (b : Bool) (c : Candidate) (cs ds : List Candidate) {es : List Candidate}
 more true c cs ds e = ap (λ (t : List Candidate). c ∷ t) e
 more false c cs ds e = e
 
+-- of two lists joined: those of the first, then those of the second
 pub left-append : (k : ℕ) (cs ds : List Candidate) → withLeft k (cs ++ ds) ≡ withLeft k cs ++ withLeft k ds
 unfolding withLeft
 left-append k [] ds = refl
@@ -84,7 +85,7 @@ module _ (x : Context) (ss runs : List ℕ) (levels : List Float) (k : ℕ) wher
 module _ (x : Context) (ss : List ℕ) (levels : List Float) where
   -- silence j has sound on both sides
   abbrev pub IsOwn : ℕ → Type 0
-  IsOwn j = isInner (x .frames) (startAt ss j) (endAt ss j) ≡ true
+  IsOwn j = isInner (x .padding .frames) (startAt ss j) (endAt ss j) ≡ true
 
   -- where its own candidate has its left end
   abbrev pub leftAt : ℕ → ℕ
@@ -96,7 +97,7 @@ module _ (x : Context) (ss : List ℕ) (levels : List Float) where
   own-split zero n c i j d e = let h : i ≡ j = omega (arith, e) in let g : c ≡ n = omega (arith, d) in rw (h, g)
   own-split (suc m) n zero i j d e = absurd (omega (arith, d))
   own-split (suc m) n (suc c) i j d e =
-      more (isInner (x .frames) (startAt ss i) (endAt ss i)) (ownAt x ss levels i) (ownFrom x ss levels m (suc i)) (ownFrom x ss levels n j)
+      more (isInner (x .padding .frames) (startAt ss i) (endAt ss i)) (ownAt x ss levels i) (ownFrom x ss levels m (suc i)) (ownFrom x ss levels n j)
       (own-split m n c (suc i) j (omega (arith, d)) (omega (arith, e)))
 
   module _ (k : ℕ) where
@@ -109,7 +110,7 @@ module _ (x : Context) (ss : List ℕ) (levels : List Float) where
     unfolding ownFrom withLeft
     own-none zero i f = refl
     own-none (suc n) i f =
-        none-step (isInner (x .frames) (startAt ss i) (endAt ss i)) i (ownFrom x ss levels n (suc i)) (f i (omega arith) (omega arith))
+        none-step (isInner (x .padding .frames) (startAt ss i) (endAt ss i)) i (ownFrom x ss levels n (suc i)) (f i (omega arith) (omega arith))
         (own-none n (suc i) (λ (j : ℕ) (a : suc i ≤ j) (b : j < suc i + n). f j (omega arith) (omega arith)))
 
     -- beside silence i, which has one there, no other does
@@ -127,6 +128,7 @@ module _ (x : Context) (ss : List ℕ) (levels : List Float) where
           rw (own, eq-eqb (leftAt i) k at)
           (ap (λ (t : List Candidate). ownAt x ss levels i ∷ t) (own-none later (suc i) (λ (j : ℕ) (a : suc i ≤ j) (b : j < suc i + later). beyond j a (omega (arith, all-of)))))
 
+      -- so it is the only own candidate with that left end
       pub own-one : withLeft k (ownFrom x ss levels (count ss) 0) ≡ ownAt x ss levels i ∷ []
       own-one =
           rw (own-split i (suc later) (count ss) 0 i (sym all-of) (omega arith), left-append k)

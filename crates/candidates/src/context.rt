@@ -1,16 +1,17 @@
-// What candidates are made with, beside the recording's own lists: the Rust's `Context` with numbers for its references.
-use candidate_settings::config::Gap;
-use candidate_settings::config::Placement;
+// What candidates are made with, beside the recording's own lists.
+// It is the Rust's `Context` with numbers for its references.
+use candidate_span::padding::Padding;
 use path_pieces::weights::Weights;
+use plan_settings::config::Gap;
+use plan_settings::config::Placement;
 
+// The settings and numbers that every candidate of a plan is made with.
 pub struct Context {
     pub gap: Gap,
     pub placement: Placement,
     pub weights: Weights,
-    // How many frames the recording has, and how long one lasts in seconds.
-    pub frames: usize,
+    // How long a frame lasts in seconds.
     pub frame_secs: f64,
-    // Frames of silence kept before sound, and after it.
-    pub pre: usize,
-    pub tail: usize,
+    // How many frames the recording has, and how much silence is kept beside sound.
+    pub padding: Padding,
 }

@@ -20,7 +20,8 @@ pub fn own(x: Context, silences: &[u32], levels: &[f64], i: usize) -> Candidate
     let gap = x.gap;
     let placement = x.placement;
     let weights = x.weights;
-    let c = cut::silence_cut(gap, placement, x.frames, x.pre, x.tail, levels, start, end);
+    let padding = x.padding;
+    let c = cut::silence_cut(gap, placement, padding, levels, start, end);
     let secs = stretch::secs_of(x.frame_secs, (end - start) as u32);
     Candidate {
         left: c.left,

@@ -27,7 +27,7 @@ pub fn first_ending(silences: &[u32], k: usize) -> usize
 
 // Whether boundary k lies within the padded bounds of a silence.
 pub fn in_pause(x: Context, silences: &[u32], k: usize) -> bool
-    requires { ⌜ Listed (x .frames) (now silences) ⌝ }
+    requires { ⌜ Listed (x .padding .frames) (now silences) ⌝ }
     ensures { λ r. ⌜ r ≡ inPause x (now (silences .entry)) k ⌝ }
 {
     let i = first_ending(silences, k);
@@ -36,7 +36,8 @@ pub fn in_pause(x: Context, silences: &[u32], k: usize) -> bool
     }
     let start = listed::start_at(silences, i);
     let end = listed::end_at(silences, i);
-    let b = bounds::silence_bounds(x.frames, x.pre, x.tail, start, end);
+    let padding = x.padding;
+    let b = bounds::silence_bounds(padding, start, end);
     if k < b.lo {
         return false;
     }

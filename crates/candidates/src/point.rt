@@ -27,7 +27,8 @@ fn reason_at(x: Context, silences: &[u32], levels: &[f64], k: usize) -> Reason
     }
 }
 
-// The point at boundary k. `runs` has for each frame the length of its quiet stretch, `levels` the level at each boundary.
+// The point at boundary k.
+// `runs` has for each frame the length of its quiet stretch, `levels` the level at each boundary.
 pub fn point(x: Context, silences: &[u32], runs: &[u32], levels: &[f64], k: usize) -> Candidate
     requires { ⌜ Heard x (now silences) (now levels) k ⌝ }
     requires { ⌜ Stretched (now runs) k ⌝ }

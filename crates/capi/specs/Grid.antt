@@ -1,6 +1,6 @@
 -- What the exported conversions answer: the value where every number is within document 01's limits, and a marker elsewhere.
 use Prim.Native.Nat.{ℕ}
-use mathlib.Core.Bool.{Bool, true, false, _&&_, cond}
+use mathlib.Core.Bool.{Bool, true, _&&_, cond}
 use lib.Dec.{leb}
 use lib.IntN.{pos}
 use lib.Ieee.{Float, fin}
@@ -10,8 +10,7 @@ use Rattle.grid.specs.Durations.{durationOk}
 use Rattle.grid.specs.Validate.{rateOk, frameStepOk}
 use Rattle.grid.specs.declared.boundary.FrameGrid.{FrameGrid}
 use Rattle.grid.specs.declared.validate.Recording.{Recording}
-use Rattle.grid.specs.declared.validate.Domain.{Domain}
-use Rattle.grid.specs.declared.validate.Domain.the-variants.{Decibels, Scores}
+use Rattle.kinds.specs.Flagged.{domainOf}
 
 -- no whole number: 2^64 − 1, above every answer
 abbrev pub noNumber : ℕ
@@ -34,10 +33,11 @@ unfoldable pub gridArgs : FrameGrid → Bool
 gridArgs g =
     rateOk (g .«sample_rate») && frameStepOk (g .«frame_rate») (g .hop) && leb (g .frames) maxFrames && leb (g .len) maxLen
 
--- the number or the float where the test passes
+-- the number where the test passes, and else the marker
 abbrev pub numberIf : Bool → ℕ → ℕ
 numberIf within n = cond within n noNumber
 
+-- the float where the test passes, and else the marker
 abbrev pub floatIf : Bool → Float → Float
 floatIf within x = cond within x noFloat
 
@@ -45,11 +45,6 @@ floatIf within x = cond within x noFloat
 abbrev pub gridWith : ℕ → ℕ → ℕ → ℕ → ℕ → FrameGrid
 gridWith rate frameRate hop len frames =
     record { «sample_rate» = rate; «frame_rate» = frameRate; hop = hop; len = len; frames = frames }
-
--- C hands the domain over as a bool
-abbrev pub domainOf : Bool → Domain
-domainOf true = Decibels
-domainOf false = Scores
 
 -- a recording's numbers, as C hands them over
 abbrev pub recordingOf : ℕ → ℕ → ℕ → ℕ → ℕ → Bool → Recording

@@ -14,6 +14,7 @@ use Rattle.grid.specs.ValidateLaws.{within-most, within-pos, step-parts}
 use Rattle.grid.specs.declared.boundary.FrameGrid.{FrameGrid}
 use Rattle.capi.specs.Grid.{framesArgs, samplesArgs, gridArgs}
 
+-- numbers that pass the test can be converted to frames
 pub frames-args : (frameRate hop ns : ℕ) → framesArgs frameRate hop ns ≡ true → InFrames frameRate hop ns
 unfolding framesArgs
 frames-args frameRate hop ns e =
@@ -26,12 +27,14 @@ frames-args frameRate hop ns e =
       time = leb-true ns maxDuration (p .1);
     }
 
+-- numbers that pass the test can be converted to samples
 pub samples-args : (rate ns : ℕ) → samplesArgs rate ns ≡ true → InSamples rate ns
 unfolding samplesArgs
 samples-args rate ns e =
     let p = both (rateOk rate) (durationOk ns) e in
     record { rate = within-most rate maxRate (p .0); time = leb-true ns maxDuration (p .1) }
 
+-- and the boundaries of a grid of such numbers fit in 64 bits
 pub grid-args : (g : FrameGrid) → gridArgs g ≡ true → Bounded g
 unfolding gridArgs
 grid-args g e =

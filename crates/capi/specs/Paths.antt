@@ -6,34 +6,12 @@ use Rattle.base_terms.specs.Work.{Work}
 use Rattle.path_pieces.specs.Pieces.{lengthWeights}
 use Rattle.path_pieces.specs.declared.lengths.Lengths.{Lengths}
 use Rattle.path_list.specs.Operation.{End, numberOf}
-use Rattle.path_list.specs.declared.seek.Answer.{Answer}
-use Rattle.path_list.specs.declared.seek.Answer.the-variants.{Found, Refused, ShortParent, ShortPath}
+use Rattle.handed_back.specs.Path.{lengthAfter, overAfter, costAfter}
 
 -- C hands the length preferences over as five numbers
 abbrev pub lengthsOf : Float → Float → ℕ → Float → Float → Lengths
 lengthsOf min target limit targetWeight shortWeight =
     record { min = min; target = target; limit = limit; weights = lengthWeights targetWeight shortWeight }
-
--- the number of the path's candidates where there is one, and else what stood there
-abbrev pub lengthAfter : Answer → ℕ → ℕ
-lengthAfter (Found s) before = s .len
-lengthAfter (Refused r) before = before
-lengthAfter ShortParent before = before
-lengthAfter ShortPath before = before
-
--- its pieces over the limit
-abbrev pub overAfter : Answer → ℕ → ℕ
-overAfter (Found s) before = s .score .over
-overAfter (Refused r) before = before
-overAfter ShortParent before = before
-overAfter ShortPath before = before
-
--- its cost
-abbrev pub costAfter : Answer → Float → Float
-costAfter (Found s) before = s .score .cost
-costAfter (Refused r) before = before
-costAfter ShortParent before = before
-costAfter ShortPath before = before
 
 -- what a call leaves: its number, the path's length and score, and every list that was lent to be written
 pub record PathCalled : Type 0 where
@@ -45,6 +23,7 @@ pub record PathCalled : Type 0 where
   pub work : Work
   pub parent : List ℕ
 
+-- what a call leaves, from its parts
 abbrev pub pathCalled : ℕ → ℕ → ℕ → Float → List ℕ → Work → List ℕ → PathCalled
 pathCalled number length over cost path work parent =
     record { number = number; length = length; over = over; cost = cost; path = path; work = work; parent = parent }

@@ -8,11 +8,11 @@ use Rattle.base_terms.specs.Work.{Work}
 use Rattle.path_pieces.specs.declared.lengths.Lengths.{Lengths}
 use Rattle.path_pieces.specs.declared.mode.Mode.{Mode}
 use Rattle.path_pieces.specs.declared.mode.Mode.the-variants.{ByLength, ByCount}
-use Rattle.path_by_length.specs.declared.solve.Solved.{Solved}
+use Rattle.path_rules.specs.declared.solved.Solved.{Solved}
 use Rattle.path_list.specs.Operation.{End, pathOf}
 use Rattle.path_list.specs.Found.{FoundByLength, FoundByCount}
 use Rattle.path_list.specs.Theorems.{found-by-length, found-by-count, number-zero}
-use Rattle.path_list.specs.declared.seek.Answer.the-variants.{Found}
+use Rattle.path_list.specs.declared.search.Answer.the-variants.{Found}
 use Rattle.capi.specs.Paths.{PathCalled, pathCalledOf}
 
 -- 0 exactly where a path was found

@@ -12,7 +12,7 @@ use Rattle.base_code.specs.FrontLaws.{onto-length}
 use Rattle.grid.specs.Validate.{gridOf}
 use Rattle.grid.specs.declared.validate.Recording.{Recording}
 use Rattle.silence_list.specs.declared.config.SegmentConfig.{SegmentConfig}
-use Rattle.candidate_settings.specs.declared.config.PlanConfig.{PlanConfig}
+use Rattle.plan_settings.specs.declared.config.PlanConfig.{PlanConfig}
 use Rattle.plan_tests.specs.Fitting.{Fitting}
 use Rattle.plan_lengths.specs.PlanLengths.{minimumIn, maximumIn}
 use Rattle.plan_pieces.specs.Flags.{isShorter, isLonger}
@@ -42,19 +42,19 @@ front-length n before after fits e =
     let same = ap length e ∙ onto-length (take n after) before (omega (arith, length-take n after, fits)) in
     length-take-le n after (omega (arith, same, fits))
 
-module _ (r : Recording) (segment : SegmentConfig) (plan : PlanConfig) (values : List Float) (flags : List ℕ) (levels : List Float) (k : ℕ) (before after : Output)
-    (made : Made r segment plan values flags levels k before after) (fitting : Fitting values levels)
+module _ (r : Recording) (segment : SegmentConfig) (settings : PlanConfig) (values : List Float) (flags : List ℕ) (levels : List Float) (k : ℕ) (before after : Output)
+    (made : Made r segment settings values flags levels k before after) (fitting : Fitting values levels)
   where
-    of-span : 0 < k → MadeOfSpan r segment plan values flags levels k after
-    of-span pieces = made-of-span r segment plan values flags levels k before after made fitting pieces
+    of-span : 0 < k → MadeOfSpan r segment settings values flags levels k after
+    of-span pieces = made-of-span r segment settings values flags levels k before after made fitting pieces
 
-    -- pieces, of the first 3 k numbers
+    -- of the first 3 k numbers, record i is piece i with its flags
     pub records-made : (records : List Piece) → k ≤ length records → (i : ℕ) (z : Piece) → i < k → getD (recordsEndOf pieceOf (take (3 * k) (after .pieces)) records .records) i z
         ≡ record {
           start = startAt after i;
           end = endAt after i;
-          «too_short» = isShorter (minimumIn (gridOf r (length values)) plan) (lengthAt after i);
-          «too_long» = isLonger (maximumIn (gridOf r (length values)) plan) (lengthAt after i);
+          «too_short» = isShorter (minimumIn (gridOf r (length values)) settings) (lengthAt after i);
+          «too_long» = isLonger (maximumIn (gridOf r (length values)) settings) (lengthAt after i);
         }
     records-made records room i z h =
         let l = front-length (3 * k) (before .pieces) (after .pieces) (made .written .fits .0) (made .written .pieces) in
@@ -63,7 +63,7 @@ module _ (r : Recording) (segment : SegmentConfig) (plan : PlanConfig) (values :
         ∙ record-of pieceOf (take (3 * k) (after .pieces)) (front-numbers (after .pieces) k i h)
         ∙ rw (flagged .short i h, flagged .long i h)
 
-    -- cuts, of the first 3 (k - 1)
+    -- of the first 3 (k - 1) numbers, record i is the cut after piece i
     pub cut-records-made : (records : List Cut) → k - 1 ≤ length records → (i : ℕ) (z : Cut) → suc i < k
         → getD (recordsEndOf cutOf (take (3 * (k - 1)) (after .cuts)) records .records) i z ≡ cutOf (endAt after i) (startAt after (suc i)) (reasonAt after i)
     cut-records-made records room i z h =

@@ -3,7 +3,7 @@ use crate::recording;
 use crate::settings;
 use crate::silences;
 use candidate_list::list;
-use candidate_list::list::Answer;
+use handed_back::candidates;
 ghost use mathlib.Core.Path.{_≡_};
 ghost use lib.Dec.{T};
 ghost use lib.Ieee.{binary64, fits};
@@ -13,20 +13,10 @@ ghost use Rattle.candidate_list.specs.CandidateList.{outputOf, candidateListOf}
 ghost use Rattle.capi.specs.Grid.{recordingOf};
 ghost use Rattle.capi.specs.Silences.{segmentOf};
 ghost use Rattle.capi.specs.Settings.{weightsOf, planConfigOf};
-ghost use Rattle.capi.specs.Candidates.{foundAfter, listCalled, listCalledOf};
+ghost use Rattle.capi.specs.Candidates.{listCalled, listCalledOf};
 
-// How many candidates were found, or what stood there before.
-fn found_after(answer: Answer, before: u64) -> u64
-    ensures { λ r. ⌜ r ≡ foundAfter answer before ⌝ }
-{
-    match answer {
-        Answer::Found(n) => n as u64,
-        Answer::Refused(_) => before,
-        Answer::ShortOutput => before,
-    }
-}
-
-// 0 where the list was made, and else document 01's number. Candidate i has its left boundary at ends[3 i], its right boundary at ends[3 i + 1],
+// 0 where the list was made, and else document 01's number.
+// Candidate i has its left boundary at ends[3 i], its right boundary at ends[3 i + 1],
 // its reason (0 silence, 1 quiet, 2 forced) at ends[3 i + 2] and its cost at costs[i].
 #[no_mangle]
 pub extern "C" fn buchawzer_candidates(
@@ -116,6 +106,6 @@ pub extern "C" fn buchawzer_candidates(
         ends,
         costs,
     );
-    *found = found_after(answer, *found);
+    *found = candidates::found_after(answer, *found);
     list::number(answer)
 }

@@ -5,11 +5,14 @@ use grid::validate;
 ghost use mathlib.Core.Path.{_≡_};
 ghost use mathlib.Core.Bool.{_&&_};
 ghost use Rattle.grid.specs.Boundary.{boundaryOf, covers};
-ghost use Rattle.grid.specs.Durations.{framesIn, framesCeil, framesFloor, samplesFloor, samplesIn, secondsOf, frameSecs};
+ghost use Rattle.grid.specs.Durations.{framesIn, framesCeil, framesFloor, samplesFloor, samplesIn};
+ghost use Rattle.grid.specs.Durations.{secondsOf, frameSecs};
 ghost use Rattle.capi.specs.Grid.{framesArgs, samplesArgs, gridArgs, numberIf, floatIf, gridWith};
 
+// The answer where there is no number.
 const NO_NUMBER: u64 = 18_446_744_073_709_551_615;
 
+// Whether a duration has a number of frames.
 fn frames_args(frame_rate: u32, hop: u32, nanos: u64) -> bool
     ensures { λ r. ⌜ r ≡ framesArgs «frame_rate» hop nanos ⌝ }
 {
@@ -19,6 +22,7 @@ fn frames_args(frame_rate: u32, hop: u32, nanos: u64) -> bool
     durations::duration_ok(nanos)
 }
 
+// Whether a duration has a number of samples.
 fn samples_args(sample_rate: u32, nanos: u64) -> bool
     ensures { λ r. ⌜ r ≡ samplesArgs «sample_rate» nanos ⌝ }
 {
@@ -28,6 +32,7 @@ fn samples_args(sample_rate: u32, nanos: u64) -> bool
     durations::duration_ok(nanos)
 }
 
+// Whether a grid has boundaries.
 fn grid_args(g: FrameGrid) -> bool
     ensures { λ r. ⌜ r ≡ gridArgs g ⌝ }
 {

@@ -2,8 +2,8 @@
 use crate::recording;
 use crate::settings;
 use crate::silences;
+use handed_back::plan;
 use plan_pieces::answer;
-use plan_pieces::answer::Answer;
 use planner::operation;
 ghost use mathlib.Core.Path.{_≡_};
 ghost use Rattle.base_terms.specs.Work.{workOf};
@@ -13,24 +13,13 @@ ghost use Rattle.planner.specs.Operation.{planOf};
 ghost use Rattle.capi.specs.Grid.{recordingOf};
 ghost use Rattle.capi.specs.Silences.{segmentOf};
 ghost use Rattle.capi.specs.Settings.{weightsOf, planConfigOf};
-ghost use Rattle.capi.specs.Plans.{piecesAfter, planCalled, planCalledOf};
+ghost use Rattle.capi.specs.Plans.{planCalled, planCalledOf};
 
-// How many pieces the plan has, or what stood there before.
-fn pieces_after(answer: Answer, before: u64) -> u64
-    ensures { λ r. ⌜ r ≡ piecesAfter answer before ⌝ }
-{
-    match answer {
-        Answer::Planned(n) => n as u64,
-        Answer::Refused(_) => before,
-        Answer::ShortParent => before,
-        Answer::NoReach => before,
-        Answer::ShortOutput => before,
-    }
-}
-
-// 0 where the plan was made, and else document 01's number. Piece i has its start at pieces[3 i], its end at pieces[3 i + 1] and its flags (1 short, 2 long, 3 both)
-// at pieces[3 i + 2]; the cut after it has the end of piece i at cuts[3 i], the start of the next at cuts[3 i + 1] and its reason (0 silence, 1 quiet, 2 forced)
-// at cuts[3 i + 2].
+// 0 where the plan was made, and else document 01's number.
+// Piece i has its start at pieces[3 i], its end at pieces[3 i + 1]
+// and its flags (1 short, 2 long, 3 both) at pieces[3 i + 2];
+// the cut after it has the end of piece i at cuts[3 i], the start of the next at cuts[3 i + 1]
+// and its reason (0 silence, 1 quiet, 2 forced) at cuts[3 i + 2].
 #[no_mangle]
 pub extern "C" fn buchawzer_plan(
     sample_rate: u32,
@@ -122,6 +111,6 @@ pub extern "C" fn buchawzer_plan(
         pieces,
         cuts,
     );
-    *found = pieces_after(answer, *found);
+    *found = plan::pieces_after(answer, *found);
     answer::number(answer)
 }

@@ -1,19 +1,9 @@
 // The tests of a recording's input.
-use grid::validate::Domain;
 use grid::validate::Recording;
+use kinds::flagged;
 ghost use mathlib.Core.Path.{_≡_};
 ghost use Rattle.grid.specs.Validate.{validityOf, refusalOf};
-ghost use Rattle.capi.specs.Grid.{domainOf, recordingOf};
-
-pub fn domain(decibels: bool) -> Domain
-    ensures { λ r. ⌜ r ≡ domainOf decibels ⌝ }
-{
-    if decibels {
-        Domain::Decibels
-    } else {
-        Domain::Scores
-    }
-}
+ghost use Rattle.capi.specs.Grid.{recordingOf};
 
 // A recording with these numbers.
 pub fn recording_of(
@@ -32,7 +22,7 @@ pub fn recording_of(
         frame_rate,
         hop,
         len,
-        domain: domain(decibels),
+        domain: flagged::domain_of(decibels),
     }
 }
 

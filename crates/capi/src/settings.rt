@@ -1,37 +1,12 @@
 // The settings of a plan, as C hands them over.
-use crate::best_path;
-use candidate_settings::config::Gap;
-use candidate_settings::config::Placement;
-use candidate_settings::config::PlanConfig;
+use kinds::flagged;
+use kinds::numbered;
 use path_pieces::weights::Weights;
+use plan_settings::config::PlanConfig;
 ghost use mathlib.Core.Path.{_≡_};
-ghost use Rattle.capi.specs.Settings.{gapSetting, placementOf, weightsOf, planConfigOf};
+ghost use Rattle.capi.specs.Settings.{weightsOf, planConfigOf};
 
-fn gap_setting(drop_gaps: bool) -> Gap
-    ensures { λ r. ⌜ r ≡ gapSetting «drop_gaps» ⌝ }
-{
-    if drop_gaps {
-        return Gap::Drop;
-    }
-    Gap::Keep
-}
-
-// The placement of a kind and a ratio. A kind that does not exist has no ratio, and is refused like one.
-fn placement_of(kind: u8, ratio: f32) -> Placement
-    ensures { λ r. ⌜ r ≡ placementOf kind ratio ⌝ }
-{
-    if kind == 0 {
-        return Placement::Quietest;
-    }
-    if kind == 1 {
-        return Placement::Center;
-    }
-    if kind == 2 {
-        return Placement::Ratio(ratio);
-    }
-    Placement::Ratio(0.0 / 0.0)
-}
-
+// The weights with these numbers.
 pub fn weights_of(
     cut: f64,
     level: f64,
@@ -70,9 +45,9 @@ pub fn plan_config(
         min,
         target,
         max,
-        mode: best_path::mode_of(by_count, count),
-        gap: gap_setting(drop_gaps),
-        placement: placement_of(placement_kind, ratio),
+        mode: flagged::mode_of(by_count, count),
+        gap: flagged::gap_of(drop_gaps),
+        placement: numbered::placement_of(placement_kind, ratio),
         weights,
     }
 }

@@ -1,30 +1,14 @@
 // The operation "silence list".
 use crate::recording;
-use silence_levels::threshold::Threshold;
+use handed_back::silences;
+use kinds::numbered;
 use silence_list::config::SegmentConfig;
 use silence_list::list;
-use silence_list::list::Answer;
 ghost use mathlib.Core.Path.{_≡_};
 ghost use Rattle.base_terms.specs.Work.{workOf};
 ghost use Rattle.silence_list.specs.Silences.{silenceListOf};
 ghost use Rattle.capi.specs.Grid.{recordingOf};
-ghost use Rattle.capi.specs.Silences.{thresholdOf, segmentOf, countAfter, silencesCalled, silencesCalledOf};
-
-// The threshold of a kind and a number. A kind that does not exist has no number, and is refused like one.
-fn threshold_of(kind: u8, v: f32) -> Threshold
-    ensures { λ r. ⌜ r ≡ thresholdOf kind v ⌝ }
-{
-    if kind == 0 {
-        return Threshold::Auto;
-    }
-    if kind == 1 {
-        return Threshold::Abs(v);
-    }
-    if kind == 2 {
-        return Threshold::BelowRef(v);
-    }
-    Threshold::Abs(0.0 / 0.0)
-}
+ghost use Rattle.capi.specs.Silences.{segmentOf, silencesCalled, silencesCalledOf};
 
 // The segment settings with these numbers.
 pub fn segment_of(
@@ -38,7 +22,7 @@ pub fn segment_of(
     ensures { λ r. ⌜ r ≡ segmentOf «threshold_kind» threshold «min_silence» «min_sound» pre tail ⌝ }
 {
     SegmentConfig {
-        threshold: threshold_of(threshold_kind, threshold),
+        threshold: numbered::threshold_of(threshold_kind, threshold),
         min_silence,
         min_sound,
         pre,
@@ -46,18 +30,8 @@ pub fn segment_of(
     }
 }
 
-// How many silences were found, or what stood there before.
-fn count_after(answer: Answer, before: u64) -> u64
-    ensures { λ r. ⌜ r ≡ countAfter answer before ⌝ }
-{
-    match answer {
-        Answer::Found(n) => n as u64,
-        Answer::Refused(_) => before,
-        Answer::ShortOutput => before,
-    }
-}
-
-// 0 where the list was made, and else document 01's number (`silences-called-zero`). Silence i has its first frame at out[2 i] and the frame after its last at out[2 i + 1].
+// 0 where the list was made, and else document 01's number (`silences-called-zero`).
+// Silence i has its first frame at out[2 i] and the frame after its last at out[2 i + 1].
 #[no_mangle]
 pub extern "C" fn buchawzer_silence_list(
     sample_rate: u32,
@@ -105,6 +79,6 @@ pub extern "C" fn buchawzer_silence_list(
         work_f64,
         out,
     );
-    *count = count_after(answer, *count);
+    *count = silences::count_after(answer, *count);
     list::number(answer)
 }

@@ -2,6 +2,7 @@
 ghost use mathlib.Core.Path.{_≡_};
 ghost use Rattle.base_terms.specs.Work.{workOf, cleared};
 
+// Every entry becomes zero.
 #[no_mangle]
 pub extern "C" fn buchawzer_clear_work(
     work_u32: &mut [u32],

@@ -135,6 +135,7 @@ module _ (g : FrameGrid) (base from end limit : ℕ) (work₀ : List ℕ) (fit :
           ap (λ (ks : List Cut). cutAt (onTo g limit end a) ∷ ks) (rest (below (onTo g limit end a) end (s .1) (f refl)) (omega (arith, k, s .0)) (omega (arith, l, s .0)))
       go false c f rest = refl
 
+  -- before the first point all are ahead
   pub bridging-start : Bridging g base from end limit work₀ from work₀
   bridging-start =
       record {
@@ -150,17 +151,20 @@ module _ (g : FrameGrid) (base from end limit : ℕ) (work₀ : List ℕ) (fit :
     bridging-within h = sym (rw (le-ltb limit (lengthOf g (pieceFrom a end)) h)) ∙ w .ahead (suc end) (omega arith)
 
     module _ (over : limit < lengthOf g (pieceFrom a end)) (next : ℕ) (is : next ≡ onTo g limit end a) where
+      -- the next boundary that a piece reaches is the end
       pub bridging-end : next ≡ end → work ≡ marking base (bridgeOf g limit from end) work₀
       unfolding bridgeFrom marking
       bridging-end e =
           sym (rw (lt-ltb limit (lengthOf g (pieceFrom a end)) over, eq-eqb (onTo g limit end a) end (sym is ∙ e))) ∙ w .ahead (suc end) (omega arith)
 
       module _ (short : next ≡ end → ⊥) where
+        -- it is not: then it lies between
         pub bridging-on : (a < next) × (next < end)
         bridging-on =
             let s = step-on g limit end a (w .before) in
             elim (lt-or-le next end) [ inl h ↦ (omega (arith, is, s .0), h) | inr h ↦ absurd (short (omega (arith, is, s .1, h))) ]
 
+        -- where there is room for its mark
         pub bridging-room : base + next < length work
         bridging-room = omega (arith, bridging-on .1, fit .room, w .size)
 
@@ -170,6 +174,7 @@ module _ (g : FrameGrid) (base from end limit : ℕ) (work₀ : List ℕ) (fit :
             rw (lt-ltb limit (lengthOf g (pieceFrom a end)) over, ne-eqb (onTo g limit end a) end (λ (e : onTo g limit end a ≡ end). short (is ∙ e)))
             (ap (λ (k : ℕ). cutAt k ∷ bridgeFrom g limit end m k) (sym is))
 
+        -- with that mark the points behind it are still ahead
         pub bridging-next : (work′ : List ℕ) → work′ ≡ markCut base (cutAt next) work → Bridging g base from end limit work₀ next work′
         unfolding marking
         bridging-next work′ e =

@@ -9,7 +9,8 @@ use lib.Dec.{ltb, eqb}
 use Rattle.grid.specs.declared.boundary.FrameGrid.{FrameGrid}
 use Rattle.candidate_span.specs.Gaps.{Cut}
 use Rattle.candidate_span.specs.KeptIn.{Outside, kept-in}
-use Rattle.division.specs.Division.{Span, Place, boundary, Row, Division, Among}
+use Rattle.candidate_span.specs.Span.{Span}
+use Rattle.division.specs.Division.{Place, boundary, Row, Division, Among}
 use Rattle.division.specs.Pieces.{Piece, piecesFrom, piecesOf, IsSingle, lengthOf}
 use Rattle.division.specs.PiecesLaws.{row-ends, row-inside}
 use Rattle.division.specs.Places.{cutAt}

@@ -5,11 +5,11 @@ use mathlib.Core.List.{List, [], _∷_}
 use Prim.Native.Nat.{ℕ, _+_, _-_, _*_, _≤_}
 use lib.Dec.{leb, ltb}
 use lib.ListN.{drop}
-use Rattle.candidate_settings.specs.declared.config.Gap.{Gap}
-use Rattle.candidate_settings.specs.declared.config.Gap.the-variants.{Keep, Drop}
+use Rattle.plan_settings.specs.declared.config.Gap.{Gap}
+use Rattle.candidate_span.specs.declared.padding.Padding.{Padding}
 use Rattle.candidate_span.specs.Bounds.{lowOf}
 use Rattle.candidate_span.specs.Listed.{count}
-use Rattle.candidate_span.specs.Gaps.{Cut, isGap, innerGaps, gapsOf, dropped}
+use Rattle.candidate_span.specs.Gaps.{Cut, isGap, gapsOf, dropped}
 use Rattle.completion.specs.declared.shares.Passed.{Passed}
 
 -- boundary k, moved on by the gaps
@@ -18,30 +18,18 @@ movedOn [] k = k
 movedOn (g ∷ gs) k = cond (ltb (g .left) k) (movedOn gs (k + (g .right - g .left))) k
 
 -- a silence has a gap, which starts at boundary k or after it
-unfoldable pub isAhead : ℕ → ℕ → ℕ → ℕ → ℕ → ℕ → Bool
-isAhead n pre tail start end k = isGap n pre tail start end && leb k (lowOf n tail start)
+unfoldable pub isAhead : Padding → ℕ → ℕ → ℕ → Bool
+isAhead p start end k = isGap p start end && leb k (lowOf p start)
 
 -- ---- the gaps that are passed on the way, share by share
 
--- the gaps of the first i silences drop `removed` frames, and start before every boundary from `at` on that is moved by them
-pub record Counting (n pre tail : ℕ) (ss : List ℕ) (at i removed : ℕ) : Type 0 where
-  pub within : i ≤ count ss
-  pub balance : removed + dropped (innerGaps n pre tail (drop (2 * i) ss)) ≡ dropped (innerGaps n pre tail ss)
-  pub moved : (k : ℕ) → at ≤ k → movedOn (innerGaps n pre tail ss) k ≡ movedOn (innerGaps n pre tail (drop (2 * i) ss)) (k + removed)
+-- the gaps of the silences that are passed drop `removed` frames, and every boundary from `at` on is moved on by them
+pub record Counting (gap : Gap) (p : Padding) (ss : List ℕ) (at : ℕ) (passed : Passed) : Type 0 where
+  pub within : passed .silences ≤ count ss
+  pub balance : passed .removed + dropped (gapsOf gap p (drop (2 * passed .silences) ss)) ≡ dropped (gapsOf gap p ss)
+  pub moved : (k : ℕ) → at ≤ k → movedOn (gapsOf gap p ss) k ≡ movedOn (gapsOf gap p (drop (2 * passed .silences) ss)) (k + passed .removed)
 
 -- boundary `at` is moved on by the frames that the passed gaps drop
-pub record Counted (n pre tail : ℕ) (ss : List ℕ) (at : ℕ) (p : Passed) : Type 0 where
-  pub counting : Counting n pre tail ss at (p .silences) (p .removed)
-  pub here : movedOn (innerGaps n pre tail ss) at ≡ at + p .removed
-
--- the same with gaps kept, where none is passed, or dropped
-abbrev Counts : Gap → ℕ → ℕ → ℕ → List ℕ → ℕ → Passed → Type 0
-Counts Keep n pre tail ss at p = p .removed ≡ 0
-Counts Drop n pre tail ss at p = Counting n pre tail ss at (p .silences) (p .removed)
-
-pub record CountingBy (gap : Gap) (n pre tail : ℕ) (ss : List ℕ) (at : ℕ) (p : Passed) : Type 0 where
-  pub counts : Counts gap n pre tail ss at p
-
-pub record CountedBy (gap : Gap) (n pre tail : ℕ) (ss : List ℕ) (at : ℕ) (p : Passed) : Type 0 where
-  pub counting : CountingBy gap n pre tail ss at p
-  pub here : movedOn (gapsOf gap n pre tail ss) at ≡ at + p .removed
+pub record Counted (gap : Gap) (p : Padding) (ss : List ℕ) (at : ℕ) (passed : Passed) : Type 0 where
+  pub counting : Counting gap p ss at passed
+  pub here : movedOn (gapsOf gap p ss) at ≡ at + passed .removed

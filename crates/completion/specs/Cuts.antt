@@ -6,7 +6,7 @@ use lib.Dec.{eqb}
 use lib.ListN.{set}
 use Rattle.grid.specs.declared.boundary.FrameGrid.{FrameGrid}
 use Rattle.candidate_span.specs.Gaps.{Cut}
-use Rattle.division.specs.Division.{Span}
+use Rattle.candidate_span.specs.Span.{Span}
 use Rattle.completion.specs.declared.next.Next.{Next}
 use Rattle.completion.specs.declared.next.Next.the-variants.{Whole, Stuck, To}
 use Rattle.completion.specs.Next.{nextOf}
@@ -22,7 +22,7 @@ unfoldable pub cutsFrom : FrameGrid → Span → ℕ → ℕ → ℕ → List Cu
 cutsFrom g s limit zero a = []
 cutsFrom g s limit (suc n) a = cutting (nextOf g s limit a) (cutsFrom g s limit n)
 
--- the cuts of n pieces at most
+-- document 01's "cuts of the division that goes as far as it can at each step", of n pieces at most
 abbrev pub cutsOf : FrameGrid → Span → ℕ → ℕ → List Cut
 cutsOf g s limit n = cutsFrom g s limit n (s .first)
 

@@ -9,27 +9,28 @@ use lib.ListN.{length, take, set, length-set}
 use lib.Seq.{take-set-le}
 use Rattle.candidate_span.specs.Gaps.{Cut}
 use Rattle.candidate_span.specs.GapsLaws.{spread-ends}
-use Rattle.division.specs.Division.{Span, Place}
+use Rattle.candidate_span.specs.Span.{Span, spanIn}
+use Rattle.division.specs.Division.{Place}
 use Rattle.division.specs.PlacesLaws.{place-inside}
 use Rattle.division.specs.GreedyLaws.{Start, start-first, start-right}
 use Rattle.completion.specs.declared.ground.Ground.{Ground}
 use Rattle.completion.specs.declared.next.Next.{Next}
 use Rattle.completion.specs.declared.next.Next.the-variants.{Whole, Stuck, To}
-use Rattle.completion.specs.Ground.{spanIn}
 use Rattle.completion.specs.GroundLaws.{Founded}
 use Rattle.completion.specs.Next.{nextOf}
 use Rattle.completion.specs.NextLaws.{Stepped, next-stepped}
 use Rattle.completion.specs.Cuts.{cutting, cutsFrom, cutsOf, markCut, marking}
 
 -- silences in front, marks behind them, and room for one at each boundary of the span
-pub record MarkRoom (x : Ground) (count base : ℕ) (work : List ℕ) : Type 0 where
-  pub founded : Founded x (take (2 * count) work)
-  pub held : 2 * count ≤ length work
-  pub apart : 2 * count ≤ base
-  pub room : base + x .last ≤ length work
+pub record MarkRoom (x : Ground) (base : ℕ) (work : List ℕ) : Type 0 where
+  pub founded : Founded x (take (2 * x .span .silences) work)
+  pub held : 2 * x .span .silences ≤ length work
+  pub apart : 2 * x .span .silences ≤ base
+  pub room : base + x .span .last ≤ length work
 
 -- ---- one mark
 
+-- the list keeps its length
 pub mark-length : (base : ℕ) (k : Cut) (work : List ℕ) → length (markCut base k work) ≡ length work
 mark-length base k work = go (eqb (k .left) (k .right))
   where
@@ -48,24 +49,25 @@ mark-stays base n k work h = go (eqb (k .left) (k .right))
 -- ---- the walk
 
 -- a piece may start at boundary a of the span
-pub record Standing (s : Span) (a : ℕ) : Type 0 where
+pub record MayStart (s : Span) (a : ℕ) : Type 0 where
   pub from : s .first ≤ a
   pub to : a < s .last
   pub start : Start s a
 
 -- from boundary a, with n pieces left, the walk still marks what the whole does
-pub record MarkedUpTo (x : Ground) (count base pieces limit : ℕ) (work₀ : List ℕ) (a n : ℕ) (work : List ℕ) : Type 0 where
-  pub stands : Standing (spanIn x (take (2 * count) work₀)) a
-  pub same : take (2 * count) work ≡ take (2 * count) work₀
+pub record MarkedUpTo (x : Ground) (base pieces limit : ℕ) (work₀ : List ℕ) (a n : ℕ) (work : List ℕ) : Type 0 where
+  pub stands : MayStart (spanIn (x .gap) (x .padding) (x .span) (take (2 * x .span .silences) work₀)) a
+  pub same : take (2 * x .span .silences) work ≡ take (2 * x .span .silences) work₀
   pub size : length work ≡ length work₀
-  pub ahead : marking base (cutsFrom (x .grid) (spanIn x (take (2 * count) work₀)) limit n a) work
-      ≡ marking base (cutsOf (x .grid) (spanIn x (take (2 * count) work₀)) limit pieces) work₀
+  pub ahead : marking base (cutsFrom (x .grid) (spanIn (x .gap) (x .padding) (x .span) (take (2 * x .span .silences) work₀)) limit n a) work
+      ≡ marking base (cutsOf (x .grid) (spanIn (x .gap) (x .padding) (x .span) (take (2 * x .span .silences) work₀)) limit pieces) work₀
 
-module _ (x : Ground) (count base pieces limit : ℕ) (work₀ : List ℕ) (room : MarkRoom x count base work₀) where
+module _ (x : Ground) (base pieces limit : ℕ) (work₀ : List ℕ) (room : MarkRoom x base work₀) where
   abbrev span : Span
-  span = spanIn x (take (2 * count) work₀)
+  span = spanIn (x .gap) (x .padding) (x .span) (take (2 * x .span .silences) work₀)
 
-  pub walking-start : MarkedUpTo x count base pieces limit work₀ (x .first) pieces work₀
+  -- before the first step all marks are ahead
+  pub walking-start : MarkedUpTo x base pieces limit work₀ (x .span .first) pieces work₀
   walking-start =
       record {
         stands = record {
@@ -78,7 +80,7 @@ module _ (x : Ground) (count base pieces limit : ℕ) (work₀ : List ℕ) (room
         ahead = refl;
       }
 
-  module _ (a n : ℕ) (work : List ℕ) (w : MarkedUpTo x count base pieces limit work₀ a n work) where
+  module _ (a n : ℕ) (work : List ℕ) (w : MarkedUpTo x base pieces limit work₀ a n work) where
     -- no piece is left
     pub walking-none : n ≤ 0 → work ≡ marking base (cutsOf (x .grid) span limit pieces) work₀
     unfolding cutsFrom marking
@@ -86,9 +88,9 @@ module _ (x : Ground) (count base pieces limit : ℕ) (work₀ : List ℕ) (room
         let e : n ≡ 0 = omega arith in
         ap (λ (m : ℕ). marking base (cutsFrom (x .grid) span limit m a) work) (sym e) ∙ w .ahead
 
-    module _ (some : 0 < n) (next : Next) (is : next ≡ nextOf (x .grid) (spanIn x (take (2 * count) work)) limit a) where
+    module _ (some : 0 < n) (next : Next) (is : next ≡ nextOf (x .grid) (spanIn (x .gap) (x .padding) (x .span) (take (2 * x .span .silences) work)) limit a) where
       step : next ≡ nextOf (x .grid) span limit a
-      step = is ∙ ap (λ (ss : List ℕ). nextOf (x .grid) (spanIn x ss) limit a) (w .same)
+      step = is ∙ ap (λ (ss : List ℕ). nextOf (x .grid) (spanIn (x .gap) (x .padding) (x .span) ss) limit a) (w .same)
 
       more : cutsFrom (x .grid) span limit n a ≡ cutting next (cutsFrom (x .grid) span limit (n - 1))
       unfolding cutsFrom
@@ -96,10 +98,12 @@ module _ (x : Ground) (count base pieces limit : ℕ) (work₀ : List ℕ) (room
           let e : n ≡ suc (n - 1) = omega arith in
           ap (λ (m : ℕ). cutsFrom (x .grid) span limit m a) e ∙ ap (λ (t : Next). cutting t (cutsFrom (x .grid) span limit (n - 1))) (sym step)
 
+      -- the rest is one piece
       pub walking-whole : next ≡ Whole → work ≡ marking base (cutsOf (x .grid) span limit pieces) work₀
       unfolding marking
       walking-whole e = ap (λ (ks : List Cut). marking base ks work) (sym (more ∙ ap (λ (t : Next). cutting t (cutsFrom (x .grid) span limit (n - 1))) e)) ∙ w .ahead
 
+      -- no place is within the limit
       pub walking-stuck : next ≡ Stuck → work ≡ marking base (cutsOf (x .grid) span limit pieces) work₀
       unfolding marking
       walking-stuck e = ap (λ (ks : List Cut). marking base ks work) (sym (more ∙ ap (λ (t : Next). cutting t (cutsFrom (x .grid) span limit (n - 1))) e)) ∙ w .ahead
@@ -113,10 +117,12 @@ module _ (x : Ground) (count base pieces limit : ℕ) (work₀ : List ℕ) (room
         inside : (span .first < l) × (l ≤ r) × (r < span .last)
         inside = place-inside span (room .founded .spread) (record { left = l; right = r }) place
 
+        -- a step to a cut: there is room for its mark
         pub walking-room : base + l < length work
         walking-room = omega (arith, inside .1, inside .2, room .room, w .size)
 
-        pub walking-to : (work′ : List ℕ) → work′ ≡ markCut base (record { left = l; right = r }) work → MarkedUpTo x count base pieces limit work₀ r (n - 1) work′
+        -- and with it the marks from its right end on are ahead
+        pub walking-to : (work′ : List ℕ) → work′ ≡ markCut base (record { left = l; right = r }) work → MarkedUpTo x base pieces limit work₀ r (n - 1) work′
         unfolding marking
         walking-to work′ q =
             record {
@@ -125,7 +131,7 @@ module _ (x : Ground) (count base pieces limit : ℕ) (work₀ : List ℕ) (room
                 to = inside .2;
                 start = start-right (x .grid) (room .founded .accepted) span (room .founded .spread) (record { left = l; right = r }) place;
               };
-              same = ap (take (2 * count)) q ∙ mark-stays base (2 * count) (record { left = l; right = r }) work (room .apart) ∙ w .same;
+              same = ap (take (2 * x .span .silences)) q ∙ mark-stays base (2 * x .span .silences) (record { left = l; right = r }) work (room .apart) ∙ w .same;
               size = ap length q ∙ mark-length base (record { left = l; right = r }) work ∙ w .size;
               ahead =
                   ap (marking base (cutsFrom (x .grid) span limit (n - 1) r)) q

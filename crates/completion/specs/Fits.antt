@@ -2,7 +2,7 @@
 use mathlib.Core.Bool.{Bool, true, false}
 use Prim.Native.Nat.{ℕ, zero, suc}
 use Rattle.grid.specs.declared.boundary.FrameGrid.{FrameGrid}
-use Rattle.division.specs.Division.{Span}
+use Rattle.candidate_span.specs.Span.{Span}
 use Rattle.completion.specs.declared.next.Next.{Next}
 use Rattle.completion.specs.declared.next.Next.the-variants.{Whole, Stuck, To}
 use Rattle.completion.specs.Next.{nextOf}

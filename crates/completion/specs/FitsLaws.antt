@@ -11,7 +11,8 @@ use Rattle.grid.specs.BoundaryLaws.{Accepted}
 use Rattle.grid.specs.declared.boundary.FrameGrid.{FrameGrid}
 use Rattle.candidate_span.specs.Gaps.{Cut, Spread}
 use Rattle.candidate_span.specs.GapsLaws.{spread-ends}
-use Rattle.division.specs.Division.{Span, piecesAsked, Division}
+use Rattle.candidate_span.specs.Span.{Span}
+use Rattle.division.specs.Division.{piecesAsked, Division}
 use Rattle.division.specs.Pieces.{piecesOf, longest}
 use Rattle.division.specs.PiecesLaws.{pieces-count}
 use Rattle.division.specs.PlacesLaws.{place-inside}
@@ -22,9 +23,6 @@ use Rattle.division.specs.Reach.{Feasible}
 use Rattle.division.specs.ReachLaws.{feasible-greedy}
 use Rattle.completion.specs.declared.next.Next.{Next}
 use Rattle.completion.specs.declared.next.Next.the-variants.{Whole, Stuck, To}
-use Rattle.completion.specs.declared.ground.Ground.{Ground}
-use Rattle.completion.specs.Ground.{spanIn}
-use Rattle.completion.specs.GroundLaws.{Founded}
 use Rattle.completion.specs.Next.{nextOf}
 use Rattle.completion.specs.NextLaws.{Stepped, next-stepped}
 use Rattle.completion.specs.Cuts.{cutting, cutsFrom, cutsOf}
@@ -104,34 +102,35 @@ module _ (g : FrameGrid) (ok : Accepted g) (s : Span) (spread : Spread (s .first
       let t = gone-from n (s .first) (omega arith) whole (start-first g ok s spread) e in
       (t .0, omega (arith, pieces-count (s .first) (cutsOf g s limit n) (s .last), t .1))
 
-  -- what fits is feasible, and what is feasible fits
-  pub fits-feasible : (count : ℕ) → fitsOf g s limit (piecesAsked s count) ≡ true → Feasible g s count limit
-  fits-feasible count e =
-      let ks = cutsOf g s limit (piecesAsked s count) in
-      let t = fits-greedy (piecesAsked s count) e in
+  -- what fits is feasible
+  pub fits-feasible : (asked : ℕ) → fitsOf g s limit (piecesAsked s asked) ≡ true → Feasible g s asked limit
+  fits-feasible asked e =
+      let ks = cutsOf g s limit (piecesAsked s asked) in
+      let t = fits-greedy (piecesAsked s asked) e in
       record { cuts = ks; divides = greedy-divides g ok s spread limit ks (t .0); few = t .1; within = greedy-within g ok s spread limit ks (t .0) }
 
-  pub feasible-fits : (count : ℕ) → Feasible g s count limit → fitsOf g s limit (piecesAsked s count) ≡ true
-  feasible-fits count f = go (greedy-found g ok s spread limit)
+  -- and what is feasible fits
+  pub feasible-fits : (asked : ℕ) → Feasible g s asked limit → fitsOf g s limit (piecesAsked s asked) ≡ true
+  feasible-fits asked f = go (greedy-found g ok s spread limit)
     where
-      go : ((ks : List Cut) × Greedy g s limit ks) ⊎ ((ks : List Cut) → Division s ks → limit < longest g (piecesOf s ks)) → fitsOf g s limit (piecesAsked s count) ≡ true
+      go : ((ks : List Cut) × Greedy g s limit ks) ⊎ ((ks : List Cut) → Division s ks → limit < longest g (piecesOf s ks)) → fitsOf g s limit (piecesAsked s asked) ≡ true
       go (inl t) =
-          fits-from (piecesAsked s count) (s .first) (t .0) (omega arith) whole (start-first g ok s spread) (t .1)
-          (omega (arith, pieces-count (s .first) (t .0) (s .last), feasible-greedy g ok s spread count limit (t .0) (t .1) f))
+          fits-from (piecesAsked s asked) (s .first) (t .0) (omega arith) whole (start-first g ok s spread) (t .1)
+          (omega (arith, pieces-count (s .first) (t .0) (s .last), feasible-greedy g ok s spread asked limit (t .0) (t .1) f))
       go (inr n) = absurd (omega (arith, n (f .cuts) (f .divides), f .within))
 
-  pub unfit-infeasible : (count : ℕ) → fitsOf g s limit (piecesAsked s count) ≡ false → Feasible g s count limit → ⊥
-  unfit-infeasible count e f = unmet (sym e ∙ feasible-fits count f)
+  -- so what does not fit is not feasible
+  pub unfit-infeasible : (asked : ℕ) → fitsOf g s limit (piecesAsked s asked) ≡ false → Feasible g s asked limit → ⊥
+  unfit-infeasible asked e f = unmet (sym e ∙ feasible-fits asked f)
 
--- ---- as code tells it, with the pieces that are asked for
+  -- ---- as code tells it, with the pieces that are asked for
 
-module _ (x : Ground) (ss : List ℕ) (founded : Founded x ss) (count limit pieces : ℕ) (asked : pieces ≡ piecesAsked (spanIn x ss) count) (r : Bool)
-    (is : r ≡ fitsOf (x .grid) (spanIn x ss) limit pieces) where
-  same : fitsOf (x .grid) (spanIn x ss) limit (piecesAsked (spanIn x ss) count) ≡ r
-  same = sym (is ∙ ap (fitsOf (x .grid) (spanIn x ss) limit) asked)
+  module _ (asked pieces : ℕ) (number : pieces ≡ piecesAsked s asked) (r : Bool) (is : r ≡ fitsOf g s limit pieces) where
+    same : fitsOf g s limit (piecesAsked s asked) ≡ r
+    same = sym (is ∙ ap (fitsOf g s limit) number)
 
-  pub told-feasible : r ≡ true → Feasible (x .grid) (spanIn x ss) count limit
-  told-feasible e = fits-feasible (x .grid) (founded .accepted) (spanIn x ss) (founded .spread) limit count (same ∙ e)
+    pub told-feasible : r ≡ true → Feasible g s asked limit
+    told-feasible e = fits-feasible asked (same ∙ e)
 
-  pub told-infeasible : r ≡ false → Feasible (x .grid) (spanIn x ss) count limit → ⊥
-  told-infeasible e = unfit-infeasible (x .grid) (founded .accepted) (spanIn x ss) (founded .spread) limit count (same ∙ e)
+    pub told-infeasible : r ≡ false → Feasible g s asked limit → ⊥
+    told-infeasible e = unfit-infeasible asked (same ∙ e)

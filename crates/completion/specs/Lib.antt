@@ -1,8 +1,6 @@
 -- Completion: by count, how far a division can go at each step, whether a limit leaves few enough pieces, the reach, and the cuts that are added; by length, the points between neighbours.
 
--- Ground: the span that is divided, from the numbers that code holds (`spanIn`)
-pub mod Ground
--- GroundLaws: what is known of it (`Founded`); the pieces that are asked for (`asked-pieces`)
+-- GroundLaws: what is known of the span that code divides (`Founded`); the pieces that are asked for (`asked-pieces`)
 pub mod GroundLaws
 -- Reachable: the last boundary that a piece reaches within a limit (`reachableOf`)
 pub mod Reachable
@@ -33,11 +31,11 @@ pub mod CutsLaws
 pub mod Counted
 -- CountedLaws: the place with j kept frames before it is the one that is counted (`after-moved`, `place-of`), and what holds while code counts
 pub mod CountedLaws
--- Shares: what code that marks the cuts between equal shares asks (`Sharable`) and answers (`Parted`)
+-- Shares: what code that marks the cuts between equal shares asks (`Sharable`, `Partable`) and answers (`Parted`)
 pub mod Shares
 -- SharesLaws: what holds on its way (`Sharing`)
 pub mod SharesLaws
--- MarkingLaws: afterwards a boundary is marked where it was, or where a cut is (`marking-is`); what stands before the marks stays (`marking-stays`)
+-- MarkingLaws: afterwards a boundary is marked where it was, or where a cut is (`marking-is`); what stands before the marks stays (`marking-stays`); marks one after another (`marking-append`)
 pub mod MarkingLaws
 -- Bridge: by length, the points between a candidate and the next (`bridgeOf`)
 pub mod Bridge

@@ -4,12 +4,13 @@ use Prim.Native.Nat.{ℕ}
 use lib.Dec.{eqb}
 use Rattle.grid.specs.declared.boundary.FrameGrid.{FrameGrid}
 use Rattle.candidate_span.specs.Gaps.{Cut}
-use Rattle.division.specs.Division.{Span}
+use Rattle.candidate_span.specs.Span.{Span}
 use Rattle.completion.specs.declared.next.Next.{Next}
 use Rattle.completion.specs.declared.next.Next.the-variants.{Whole, Stuck, To}
 use Rattle.completion.specs.Reachable.{reachableOf}
 use Rattle.completion.specs.Place.{placeAt}
 
+-- the piece ends at a cut
 abbrev pub toCut : Cut → Next
 toCut k = To (k .left) (k .right)
 

@@ -11,7 +11,8 @@ use Rattle.grid.specs.BoundaryLaws.{Accepted, boundary-mono}
 use Rattle.grid.specs.declared.boundary.FrameGrid.{FrameGrid}
 use Rattle.candidate_span.specs.Gaps.{Cut, Spread}
 use Rattle.candidate_span.specs.KeptIn.{kept-in}
-use Rattle.division.specs.Division.{Span, Place, boundary, gap}
+use Rattle.candidate_span.specs.Span.{Span}
+use Rattle.division.specs.Division.{Place, boundary, gap}
 use Rattle.division.specs.Pieces.{pieceFrom, lengthOf}
 use Rattle.division.specs.PlacesLaws.{place-inside}
 use Rattle.division.specs.Greedy.{Farthest, NoneWithin}
@@ -97,7 +98,7 @@ module _ (g : FrameGrid) (ok : Accepted g) (s : Span) (spread : Spread (s .first
       go false true f f′ e e′ = (over (f′ refl), none-within (e refl))
       go false false f f′ e e′ = (over (f′ refl), farthest (moved (e′ refl)) (short (f′ refl)) (standing (s .gaps) k))
 
--- the step that is taken
+-- the step leads to the farthest place or to the end, or no place is within the limit
 pub next-stepped : (g : FrameGrid) → Accepted g → (s : Span) → Spread (s .first) (s .gaps) (s .last) → (limit a : ℕ) → s .first ≤ a → a < s .last → Start s a
     → Stepped g s limit a (nextOf g s limit a)
 next-stepped g ok s spread limit a from to start =

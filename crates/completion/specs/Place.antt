@@ -3,6 +3,7 @@ use mathlib.Core.Bool.{Bool, _&&_, cond}
 use mathlib.Core.List.{List, [], _∷_}
 use Prim.Native.Nat.{ℕ}
 use lib.Dec.{leb}
+use Rattle.candidate_span.specs.declared.padding.Padding.{Padding}
 use Rattle.candidate_span.specs.Bounds.{lowOf, highOf}
 use Rattle.candidate_span.specs.Gaps.{Cut, isGap}
 use Rattle.division.specs.Places.{cutAt}
@@ -18,8 +19,8 @@ placeAt [] k = cutAt k
 placeAt (g ∷ gs) k = cond (holds g k) g (placeAt gs k)
 
 -- a silence has a gap that holds boundary k
-unfoldable pub isHeld : ℕ → ℕ → ℕ → ℕ → ℕ → ℕ → Bool
-isHeld n pre tail start end k = isGap n pre tail start end && (leb (lowOf n tail start) k && leb k (highOf n pre end))
+unfoldable pub isHeld : Padding → ℕ → ℕ → ℕ → Bool
+isHeld p start end k = isGap p start end && (leb (lowOf p start) k && leb k (highOf p end))
 
 -- a cut as code holds it
 abbrev pub cutOf : Cut → lent.Cut

@@ -8,8 +8,9 @@ use native.Mathlib.Omega.{arith}
 use lib.Dec.{leb}
 use borrow.Author.Tests.{leb-true, leb-false, le-leb, lt-leb, lt-ltb, le-ltb, eq-eqb, ne-eqb}
 use Rattle.base_laws.specs.Tests.{both, lt-or-le, unmet}
-use Rattle.candidate_settings.specs.declared.config.Gap.the-variants.{Keep, Drop}
+use Rattle.plan_settings.specs.declared.config.Gap.the-variants.{Keep, Drop}
 use Rattle.candidate_span.specs.declared.bounds.Bounds.{Bounds}
+use Rattle.candidate_span.specs.declared.padding.Padding.{Padding}
 use Rattle.candidate_span.specs.Bounds.{lowOf, highOf, boundsOf, isInner}
 use Rattle.candidate_span.specs.BoundsLaws.{low-within, high-within}
 use Rattle.candidate_span.specs.Listed.{count, startAt, endAt}
@@ -19,6 +20,7 @@ use Rattle.candidate_span.specs.GapsFrom.{GapAt, gap-from, gap-in}
 use Rattle.candidate_span.specs.KeptIn.{Outside}
 use Rattle.candidates.specs.PauseLaws.{Ending}
 use Rattle.division.specs.Places.{cutAt}
+use Rattle.division.specs.PlacesLaws.{same-ends}
 use Rattle.completion.specs.declared.place.Cut as lent
 use Rattle.completion.specs.Place.{holds, placeAt, isHeld, cutOf}
 
@@ -39,6 +41,7 @@ pub data Standing (gs : List Cut) (k : ℕ) : Type 0 where
   held : (g : Cut) → List·Memᴰ g gs → g .left ≤ k → k ≤ g .right → placeAt gs k ≡ g → Standing gs k
   free : Outside gs k → placeAt gs k ≡ cutAt k → Standing gs k
 
+-- one of the two is so
 pub standing : (gs : List Cut) (k : ℕ) → Standing gs k
 unfolding placeAt
 standing [] k = free (λ g m. absurd (List·Memᴰ·not-nil m)) refl
@@ -55,64 +58,64 @@ standing (g ∷ gs) k = go (holds g k) refl (standing gs k)
 
 -- ---- whether the gap of one silence holds boundary k
 
-module _ (n pre tail start end k : ℕ) where
-  pub held-leading : start ≡ 0 → false ≡ isHeld n pre tail start end k
+module _ (p : Padding) (start end k : ℕ) where
+  pub held-leading : start ≡ 0 → false ≡ isHeld p start end k
   unfolding isHeld isGap isInner
   held-leading e = rw (eq-eqb start 0 e)
 
   module _ (inner : start ≡ 0 → ⊥) where
-    pub held-trailing : end ≡ n → false ≡ isHeld n pre tail start end k
+    pub held-trailing : end ≡ p .frames → false ≡ isHeld p start end k
     unfolding isHeld isGap isInner
-    held-trailing e = rw (ne-eqb start 0 inner, eq-eqb end n e)
+    held-trailing e = rw (ne-eqb start 0 inner, eq-eqb end (p .frames) e)
 
-    module _ (inner′ : end ≡ n → ⊥) (b : Bounds) (is : b ≡ boundsOf n pre tail start end) where
-      low : b .lo ≡ lowOf n tail start
+    module _ (inner′ : end ≡ p .frames → ⊥) (b : Bounds) (is : b ≡ boundsOf p start end) where
+      low : b .lo ≡ lowOf p start
       low = ap (λ (c : Bounds). c .lo) is
 
-      high : b .hi ≡ highOf n pre end
+      high : b .hi ≡ highOf p end
       high = ap (λ (c : Bounds). c .hi) is
 
-      pub held-narrow : b .hi ≤ b .lo → false ≡ isHeld n pre tail start end k
+      pub held-narrow : b .hi ≤ b .lo → false ≡ isHeld p start end k
       unfolding isHeld isGap isInner
-      held-narrow h = rw (ne-eqb start 0 inner, ne-eqb end n inner′, le-ltb (lowOf n tail start) (highOf n pre end) (omega (arith, h, low, high)))
+      held-narrow h = rw (ne-eqb start 0 inner, ne-eqb end (p .frames) inner′, le-ltb (lowOf p start) (highOf p end) (omega (arith, h, low, high)))
 
-      pub held-before : b .lo < b .hi → k < b .lo → false ≡ isHeld n pre tail start end k
+      pub held-before : b .lo < b .hi → k < b .lo → false ≡ isHeld p start end k
       unfolding isHeld isGap isInner
       held-before h l =
-          rw (ne-eqb start 0 inner, ne-eqb end n inner′, lt-ltb (lowOf n tail start) (highOf n pre end) (omega (arith, h, low, high)))
-          (rw (lt-leb (lowOf n tail start) k (omega (arith, l, low))))
+          rw (ne-eqb start 0 inner, ne-eqb end (p .frames) inner′, lt-ltb (lowOf p start) (highOf p end) (omega (arith, h, low, high)))
+          (rw (lt-leb (lowOf p start) k (omega (arith, l, low))))
 
-      pub held-from : b .lo < b .hi → b .lo ≤ k → leb k (b .hi) ≡ isHeld n pre tail start end k
+      pub held-from : b .lo < b .hi → b .lo ≤ k → leb k (b .hi) ≡ isHeld p start end k
       unfolding isHeld isGap isInner
       held-from h l =
-          rw (ne-eqb start 0 inner, ne-eqb end n inner′, lt-ltb (lowOf n tail start) (highOf n pre end) (omega (arith, h, low, high)))
-          (rw (le-leb (lowOf n tail start) k (omega (arith, l, low))) (ap (leb k) high))
+          rw (ne-eqb start 0 inner, ne-eqb end (p .frames) inner′, lt-ltb (lowOf p start) (highOf p end) (omega (arith, h, low, high)))
+          (rw (le-leb (lowOf p start) k (omega (arith, l, low))) (ap (leb k) high))
 
 -- ---- by the silence that was found
 
 -- g is the gap of silence i
-record GapOf (n pre tail : ℕ) (ss : List ℕ) (i : ℕ) (g : Cut) : Type 0 where
+record GapOf (p : Padding) (ss : List ℕ) (i : ℕ) (g : Cut) : Type 0 where
   pub listed : i < count ss
-  pub some : isGap n pre tail (startAt ss i) (endAt ss i) ≡ true
-  pub low : g .left ≡ lowOf n tail (startAt ss i)
-  pub high : g .right ≡ highOf n pre (endAt ss i)
+  pub some : isGap p (startAt ss i) (endAt ss i) ≡ true
+  pub low : g .left ≡ lowOf p (startAt ss i)
+  pub high : g .right ≡ highOf p (endAt ss i)
 
-module _ (n pre tail : ℕ) (ss : List ℕ) (k i : ℕ) (l : Listed n ss) (e : Ending ss k i) where
+module _ (p : Padding) (ss : List ℕ) (k i : ℕ) (l : Listed (p .frames) ss) (e : Ending ss k i) where
   -- a gap that holds k is that of silence i
-  only : (g : Cut) → List·Memᴰ g (innerGaps n pre tail ss) → g .left ≤ k → k ≤ g .right → GapOf n pre tail ss i g
-  only g m a b = go (gap-from n pre tail ss g m)
+  only : (g : Cut) → List·Memᴰ g (innerGaps p ss) → g .left ≤ k → k ≤ g .right → GapOf p ss i g
+  only g m a b = go (gap-from p ss g m)
     where
-      go : GapAt n pre tail ss g → GapOf n pre tail ss i g
-      go t = subst (λ (j : ℕ). GapOf n pre tail ss j g) same (record { listed = t .listed; some = t .left; low = low; high = high })
+      go : GapAt p ss g → GapOf p ss i g
+      go t = subst (λ (j : ℕ). GapOf p ss j g) same (record { listed = t .listed; some = t .left; low = low; high = high })
         where
-          low : g .left ≡ lowOf n tail (startAt ss (t .number))
+          low : g .left ≡ lowOf p (startAt ss (t .number))
           low = ap (λ (c : Cut). c .left) (t .is)
 
-          high : g .right ≡ highOf n pre (endAt ss (t .number))
+          high : g .right ≡ highOf p (endAt ss (t .number))
           high = ap (λ (c : Cut). c .right) (t .is)
 
           early : t .number < i → ⊥
-          early h = omega (arith, b, high, e .before (t .number) h, high-within n pre (endAt ss (t .number)))
+          early h = omega (arith, b, high, e .before (t .number) h, high-within p (endAt ss (t .number)))
 
           late : i < t .number → ⊥
           late h =
@@ -123,7 +126,7 @@ module _ (n pre tail : ℕ) (ss : List ℕ) (k i : ℕ) (l : Listed n ss) (e : E
                 low,
                 e .from i (omega arith) (omega (arith, h, t .listed)),
                 listed-apart l i (t .number) h (t .listed),
-                low-within n tail (startAt ss (t .number)) (omega (arith, own, listed-within l (t .number) (t .listed))) .0,
+                low-within p (startAt ss (t .number)) (omega (arith, own, listed-within l (t .number) (t .listed))) .0,
               )
 
           same : t .number ≡ i
@@ -132,70 +135,69 @@ module _ (n pre tail : ℕ) (ss : List ℕ) (k i : ℕ) (l : Listed n ss) (e : E
             | inr h ↦ elim (lt-or-le i (t .number)) [ inl h′ ↦ absurd (late h′) | inr h′ ↦ omega arith ]
           ]
 
-  cut-is : (c d : Cut) → c .left ≡ d .left → c .right ≡ d .right → c ≡ d
-  cut-is c d p q = λ j. record { left = p j; right = q j }
-
   -- no silence is left
-  pub place-none : count ss ≤ i → placeAt (gapsOf Drop n pre tail ss) k ≡ cutAt k
+  pub place-none : count ss ≤ i → placeAt (gapsOf Drop p ss) k ≡ cutAt k
   unfolding gapsOf
-  place-none h = go (standing (innerGaps n pre tail ss) k)
+  place-none h = go (standing (innerGaps p ss) k)
     where
-      go : Standing (innerGaps n pre tail ss) k → placeAt (innerGaps n pre tail ss) k ≡ cutAt k
+      go : Standing (innerGaps p ss) k → placeAt (innerGaps p ss) k ≡ cutAt k
       go (held g m a b q) = absurd (omega (arith, h, only g m a b .listed))
       go (free o q) = q
 
   -- its gap holds the boundary
-  pub place-held : i < count ss → isHeld n pre tail (startAt ss i) (endAt ss i) k ≡ true
-      → placeAt (gapsOf Drop n pre tail ss) k ≡ record { left = lowOf n tail (startAt ss i); right = highOf n pre (endAt ss i) }
+  pub place-held : i < count ss → isHeld p (startAt ss i) (endAt ss i) k ≡ true
+      → placeAt (gapsOf Drop p ss) k ≡ record { left = lowOf p (startAt ss i); right = highOf p (endAt ss i) }
   unfolding gapsOf isHeld
-  place-held h t = go (standing (innerGaps n pre tail ss) k)
+  place-held h t = go (standing (innerGaps p ss) k)
     where
       gap : Cut
-      gap = record { left = lowOf n tail (startAt ss i); right = highOf n pre (endAt ss i) }
+      gap = record { left = lowOf p (startAt ss i); right = highOf p (endAt ss i) }
 
-      parts : (isGap n pre tail (startAt ss i) (endAt ss i) ≡ true) × (holds gap k ≡ true)
-      parts = both (isGap n pre tail (startAt ss i) (endAt ss i)) (holds gap k) t
+      parts : (isGap p (startAt ss i) (endAt ss i) ≡ true) × (holds gap k ≡ true)
+      parts = both (isGap p (startAt ss i) (endAt ss i)) (holds gap k) t
 
-      go : Standing (innerGaps n pre tail ss) k → placeAt (innerGaps n pre tail ss) k ≡ gap
-      go (held g m a b q) = let o = only g m a b in q ∙ cut-is g gap (o .low) (o .high)
+      go : Standing (innerGaps p ss) k → placeAt (innerGaps p ss) k ≡ gap
+      go (held g m a b q) = let o = only g m a b in q ∙ same-ends g gap (o .low) (o .high)
       go (free o q) =
-          let p = holds-parts gap k (parts .1) in
-          elim (o gap (gap-in n pre tail ss i h (parts .0))) [ inl a ↦ absurd (omega (arith, a, p .0)) | inr a ↦ absurd (omega (arith, a, p .1)) ]
+          let inside = holds-parts gap k (parts .1) in
+          elim (o gap (gap-in p ss i h (parts .0))) [ inl a ↦ absurd (omega (arith, a, inside .0)) | inr a ↦ absurd (omega (arith, a, inside .1)) ]
 
   -- it does not, or there is none
-  pub place-unheld : isHeld n pre tail (startAt ss i) (endAt ss i) k ≡ false → placeAt (gapsOf Drop n pre tail ss) k ≡ cutAt k
+  pub place-unheld : isHeld p (startAt ss i) (endAt ss i) k ≡ false → placeAt (gapsOf Drop p ss) k ≡ cutAt k
   unfolding gapsOf isHeld
-  place-unheld t = go (standing (innerGaps n pre tail ss) k)
+  place-unheld t = go (standing (innerGaps p ss) k)
     where
-      yes : (g : Cut) → GapOf n pre tail ss i g → g .left ≤ k → k ≤ g .right
-          → (isGap n pre tail (startAt ss i) (endAt ss i) && (leb (lowOf n tail (startAt ss i)) k && leb k (highOf n pre (endAt ss i)))) ≡ true
+      yes : (g : Cut) → GapOf p ss i g → g .left ≤ k → k ≤ g .right
+          → (isGap p (startAt ss i) (endAt ss i) && (leb (lowOf p (startAt ss i)) k && leb k (highOf p (endAt ss i)))) ≡ true
       yes g o a b =
-          rw (o .some, le-leb (lowOf n tail (startAt ss i)) k (omega (arith, a, o .low)), le-leb k (highOf n pre (endAt ss i)) (omega (arith, b, o .high)))
+          rw (o .some, le-leb (lowOf p (startAt ss i)) k (omega (arith, a, o .low)), le-leb k (highOf p (endAt ss i)) (omega (arith, b, o .high)))
 
-      go : Standing (innerGaps n pre tail ss) k → placeAt (innerGaps n pre tail ss) k ≡ cutAt k
+      go : Standing (innerGaps p ss) k → placeAt (innerGaps p ss) k ≡ cutAt k
       go (held g m a b q) = unmet (sym t ∙ yes g (only g m a b) a b)
       go (free o q) = q
 
   -- as code has it: `start` and `end` are those of silence i, b its bounds
-  module _ (start end : ℕ) (begins : start ≡ startAt ss i) (stops : end ≡ endAt ss i) (r : Bool) (is : r ≡ isHeld n pre tail start end k) where
-    told : isHeld n pre tail (startAt ss i) (endAt ss i) k ≡ r
+  module _ (start end : ℕ) (begins : start ≡ startAt ss i) (stops : end ≡ endAt ss i) (r : Bool) (is : r ≡ isHeld p start end k) where
+    told : isHeld p (startAt ss i) (endAt ss i) k ≡ r
     told = sym (rw (← begins, ← stops) is)
 
-    pub dropped-held : i < count ss → r ≡ true → (b : Bounds) → b ≡ boundsOf n pre tail start end
-        → _≡_ {A = lent.Cut} (record { left = b .lo; right = b .hi }) (cutOf (placeAt (gapsOf Drop n pre tail ss) k))
+    -- its gap holds the boundary: the cut is the gap
+    pub dropped-held : i < count ss → r ≡ true → (b : Bounds) → b ≡ boundsOf p start end
+        → _≡_ {A = lent.Cut} (record { left = b .lo; right = b .hi }) (cutOf (placeAt (gapsOf Drop p ss) k))
     dropped-held h t b e =
         ap lentOf e ∙ ends ∙ ap cutOf (sym (place-held h (told ∙ t)))
       where
         lentOf : Bounds → lent.Cut
         lentOf c = record { left = c .lo; right = c .hi }
 
-        ends : lentOf (boundsOf n pre tail start end) ≡ cutOf (record { left = lowOf n tail (startAt ss i); right = highOf n pre (endAt ss i) })
-        ends = λ j. record { left = lowOf n tail (begins j); right = highOf n pre (stops j) }
+        ends : lentOf (boundsOf p start end) ≡ cutOf (record { left = lowOf p (startAt ss i); right = highOf p (endAt ss i) })
+        ends = λ j. record { left = lowOf p (begins j); right = highOf p (stops j) }
 
-    pub dropped-unheld : r ≡ false → cutOf (cutAt k) ≡ cutOf (placeAt (gapsOf Drop n pre tail ss) k)
+    -- it does not: the cut is at the boundary
+    pub dropped-unheld : r ≡ false → cutOf (cutAt k) ≡ cutOf (placeAt (gapsOf Drop p ss) k)
     dropped-unheld t = ap cutOf (sym (place-unheld (told ∙ t)))
 
 -- silence is kept
-pub place-keep : (n pre tail : ℕ) (ss : List ℕ) (k : ℕ) → placeAt (gapsOf Keep n pre tail ss) k ≡ cutAt k
+pub place-keep : (p : Padding) (ss : List ℕ) (k : ℕ) → placeAt (gapsOf Keep p ss) k ≡ cutAt k
 unfolding gapsOf placeAt
-place-keep n pre tail ss k = refl
+place-keep p ss k = refl

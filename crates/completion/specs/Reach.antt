@@ -3,7 +3,7 @@
 use mathlib.Core.Bool.{cond}
 use Prim.Native.Nat.{ℕ, zero, suc, _-_}
 use Rattle.grid.specs.declared.boundary.FrameGrid.{FrameGrid}
-use Rattle.division.specs.Division.{Span}
+use Rattle.candidate_span.specs.Span.{Span}
 use Rattle.division.specs.Pieces.{pieceFrom, lengthOf}
 use Rattle.division.specs.Divisions.{isFeasible}
 use Rattle.completion.specs.declared.reach.Sought.{Sought}
@@ -15,9 +15,9 @@ spanLength g s = lengthOf g (pieceFrom (s .first) (s .last))
 
 -- the least of n limits from `limit` on that a division keeps
 unfoldable pub leastFrom : FrameGrid → Span → ℕ → ℕ → ℕ → Sought
-leastFrom g s count limit zero = Nothing
-leastFrom g s count limit (suc n) = cond (isFeasible g s count limit) (Reach limit) (leastFrom g s count (suc limit) n)
+leastFrom g s asked limit zero = Nothing
+leastFrom g s asked limit (suc n) = cond (isFeasible g s asked limit) (Reach limit) (leastFrom g s asked (suc limit) n)
 
--- the maximum, or the least above it up to the span's length
+-- document 01's "reach": the maximum, or the least limit above it up to the span's length that a division keeps; or that there is none
 unfoldable pub reachOf : FrameGrid → Span → ℕ → ℕ → Sought
-reachOf g s count maximum = leastFrom g s count maximum (suc (spanLength g s - maximum))
+reachOf g s asked maximum = leastFrom g s asked maximum (suc (spanLength g s - maximum))

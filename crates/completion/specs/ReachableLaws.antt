@@ -19,6 +19,7 @@ pub record Reached (g : FrameGrid) (limit a n k : ℕ) : Type 0 where
   pub within : lengthOf g (pieceFrom a k) ≤ limit
   pub beyond : (j : ℕ) → k < j → j ≤ a + n → limit < lengthOf g (pieceFrom a j)
 
+-- what `reachableIn` gives is so
 pub reached : (g : FrameGrid) (limit a n : ℕ) → Reached g limit a n (reachableIn g limit a n)
 unfolding reachableIn
 reached g limit a zero = record { low = omega arith; high = omega arith; within = omega arith; beyond = λ (j : ℕ) (h : a < j) (l : j ≤ a + 0). absurd (omega arith) }
@@ -39,7 +40,7 @@ reached g limit a (suc n) =
           | inr q ↦ r .beyond j h q
         ]
 
--- there is one
+-- there is only one
 pub reached-one : (g : FrameGrid) (limit a n j k : ℕ) → Reached g limit a n j → Reached g limit a n k → j ≡ k
 reached-one g limit a n j k r t = elim (lt-or-le j k) [
   | inl h ↦ absurd (omega (arith, r .beyond k h (t .high), t .within))

@@ -1,22 +1,31 @@
 -- The cuts between equal shares, as code finds them: what it asks, and what it answers.
 use mathlib.Core.Path.{_≡_}
 use mathlib.Core.List.{List}
-use Prim.Native.Nat.{ℕ, _≤_}
+use Prim.Native.Nat.{ℕ, _+_, _≤_}
 use Rattle.grid.specs.Limits.{maxFrames}
+use Rattle.candidate_span.specs.ListedLaws.{Listed}
+use Rattle.candidate_span.specs.Gaps.{gapsOf, dropped}
+use Rattle.candidate_span.specs.Span.{spanIn}
 use Rattle.division.specs.Division.{keptIn}
 use Rattle.completion.specs.declared.ground.Ground.{Ground}
+use Rattle.completion.specs.declared.shares.Passed.{Passed}
 use Rattle.completion.specs.declared.shares.Share.{Share}
-use Rattle.completion.specs.Ground.{spanIn}
 use Rattle.completion.specs.Place.{placeAt, cutOf}
-use Rattle.completion.specs.Counted.{movedOn, CountingBy}
+use Rattle.completion.specs.Counted.{movedOn, Counting}
 
--- the cut at boundary `at`, counted over kept frames alone, and the gaps that are passed
+-- the gaps that are passed on the way to boundary `at`, counted over kept frames alone, and room for all of them
+pub record Partable (x : Ground) (ss : List ℕ) (at : ℕ) (passed : Passed) : Type 0 where
+  pub listed : Listed (x .padding .frames) ss
+  pub counting : Counting (x .gap) (x .padding) ss at passed
+  pub room : at + dropped (gapsOf (x .gap) (x .padding) ss) ≤ maxFrames
+
+-- the cut at that boundary, and the gaps that are passed before it
 pub record Parted (x : Ground) (ss : List ℕ) (at : ℕ) (r : Share) : Type 0 where
-  pub cut-is : r .cut ≡ cutOf (placeAt (spanIn x ss .gaps) (movedOn (spanIn x ss .gaps) at))
-  pub counting : CountingBy (x .gap) (x .grid .frames) (x .pre) (x .tail) ss at (r .passed)
+  pub cut-is : r .cut ≡ cutOf (placeAt (gapsOf (x .gap) (x .padding) ss) (movedOn (gapsOf (x .gap) (x .padding) ss) at))
+  pub counting : Counting (x .gap) (x .padding) ss at (r .passed)
 
 -- `frames` are kept, no fewer than the pieces, and the span lies within the most frames
 pub record Sharable (x : Ground) (frames pieces : ℕ) (ss : List ℕ) : Type 0 where
-  pub kept : frames ≡ keptIn (spanIn x ss)
+  pub kept : frames ≡ keptIn (spanIn (x .gap) (x .padding) (x .span) ss)
   pub fit : pieces ≤ frames
-  pub few : x .last ≤ maxFrames
+  pub few : x .span .last ≤ maxFrames

@@ -6,11 +6,11 @@ use native.Mathlib.Nat.{mul-le-mul}
 use native.Mathlib.Omega.{arith}
 use lib.ListN.{length, take}
 use Rattle.grid.specs.Limits.{maxFrames}
-use Rattle.candidate_span.specs.ListedLaws.{Listed}
-use Rattle.candidate_span.specs.Gaps.{Cut, dropped}
+use Rattle.candidate_span.specs.Gaps.{Cut, gapsOf, dropped}
 use Rattle.candidate_span.specs.Kept.{keptFrames}
 use Rattle.candidate_span.specs.KeptLaws.{dropped-less}
-use Rattle.division.specs.Division.{Span, keptIn, Place}
+use Rattle.candidate_span.specs.Span.{Span, spanIn}
+use Rattle.division.specs.Division.{keptIn, Place}
 use Rattle.division.specs.PlacesLaws.{place-inside}
 use Rattle.division.specs.Shares.{framesBefore, placeAfter, sharesFrom, sharesOf}
 use Rattle.division.specs.SharesLaws.{share-some, share-less, share-first, share-place}
@@ -18,53 +18,54 @@ use Rattle.completion.specs.declared.ground.Ground.{Ground}
 use Rattle.completion.specs.declared.place.Cut as lent
 use Rattle.completion.specs.declared.shares.Passed.{Passed}
 use Rattle.completion.specs.declared.shares.Share.{Share}
-use Rattle.completion.specs.Ground.{spanIn}
 use Rattle.completion.specs.Place.{placeAt, cutOf}
 use Rattle.completion.specs.Cuts.{markCut, marking}
 use Rattle.completion.specs.CutsLaws.{MarkRoom, mark-length, mark-stays}
-use Rattle.completion.specs.Counted.{CountingBy, CountedBy}
-use Rattle.completion.specs.Shares.{Parted, Sharable}
-use Rattle.completion.specs.CountedLaws.{by-start, by-later, after-moved, place-of}
+use Rattle.completion.specs.Counted.{Counting, Counted}
+use Rattle.completion.specs.Shares.{Partable, Parted, Sharable}
+use Rattle.completion.specs.CountedLaws.{after-moved, place-of, counting-start, counting-later}
 
 -- the cut where `pass` has come to
-pub parted : (x : Ground) (ss : List ℕ) (at : ℕ) (p : Passed) → CountedBy (x .gap) (x .grid .frames) (x .pre) (x .tail) ss at p
-    → (c : lent.Cut) → c ≡ cutOf (placeAt (spanIn x ss .gaps) (at + p .removed)) → Parted x ss at (record { cut = c; passed = p })
-parted x ss at p q c e =
-    record { cut-is = e ∙ ap (λ (k : ℕ). cutOf (placeAt (spanIn x ss .gaps) k)) (sym (q .here)); counting = q .counting }
+pub parted : (x : Ground) (ss : List ℕ) (at : ℕ) (passed : Passed) → Counted (x .gap) (x .padding) ss at passed
+    → (c : lent.Cut) → c ≡ cutOf (placeAt (gapsOf (x .gap) (x .padding) ss) (at + passed .removed)) → Parted x ss at (record { cut = c; passed = passed })
+parted x ss at passed q c e =
+    record { cut-is = e ∙ ap (λ (k : ℕ). cutOf (placeAt (gapsOf (x .gap) (x .padding) ss) k)) (sym (q .here)); counting = q .counting }
 
 -- the cuts from share i on are still to be marked
-pub record Sharing (x : Ground) (count base pieces : ℕ) (work₀ : List ℕ) (i : ℕ) (p : Passed) (work : List ℕ) : Type 0 where
+pub record Sharing (x : Ground) (base pieces : ℕ) (work₀ : List ℕ) (i : ℕ) (passed : Passed) (work : List ℕ) : Type 0 where
   pub some : 1 ≤ i
-  pub same : take (2 * count) work ≡ take (2 * count) work₀
+  pub same : take (2 * x .span .silences) work ≡ take (2 * x .span .silences) work₀
   pub size : length work ≡ length work₀
-  pub counting : CountingBy (x .gap) (x .grid .frames) (x .pre) (x .tail) (take (2 * count) work₀)
-      (x .first + framesBefore (keptIn (spanIn x (take (2 * count) work₀))) pieces i) p
-  pub ahead : marking base (sharesFrom (spanIn x (take (2 * count) work₀)) pieces i (pieces - i)) work
-      ≡ marking base (sharesOf (spanIn x (take (2 * count) work₀)) pieces) work₀
+  pub counting : Counting (x .gap) (x .padding) (take (2 * x .span .silences) work₀)
+      (x .span .first + framesBefore (keptIn (spanIn (x .gap) (x .padding) (x .span) (take (2 * x .span .silences) work₀))) pieces i) passed
+  pub ahead : marking base (sharesFrom (spanIn (x .gap) (x .padding) (x .span) (take (2 * x .span .silences) work₀)) pieces i (pieces - i)) work
+      ≡ marking base (sharesOf (spanIn (x .gap) (x .padding) (x .span) (take (2 * x .span .silences) work₀)) pieces) work₀
 
-module _ (x : Ground) (count base frames pieces : ℕ) (work₀ : List ℕ) (room : MarkRoom x count base work₀) (fit : Sharable x frames pieces (take (2 * count) work₀)) where
+module _ (x : Ground) (base frames pieces : ℕ) (work₀ : List ℕ) (room : MarkRoom x base work₀) (fit : Sharable x frames pieces (take (2 * x .span .silences) work₀)) where
   abbrev silences : List ℕ
-  silences = take (2 * count) work₀
+  silences = take (2 * x .span .silences) work₀
 
   abbrev span : Span
-  span = spanIn x (take (2 * count) work₀)
+  span = spanIn (x .gap) (x .padding) (x .span) (take (2 * x .span .silences) work₀)
 
-  pub sharing-start : Sharing x count base pieces work₀ 1 (record { silences = 0; removed = 0 }) work₀
+  -- before the first share nothing is passed, and all cuts are ahead
+  pub sharing-start : Sharing x base pieces work₀ 1 (record { silences = 0; removed = 0 }) work₀
   sharing-start =
       record {
         some = omega arith;
         same = refl;
         size = refl;
-        counting = by-start (x .grid .frames) (x .pre) (x .tail) silences (x .gap) (x .first + framesBefore (keptIn span) pieces 1);
+        counting = counting-start (x .gap) (x .padding) silences (x .span .first + framesBefore (keptIn span) pieces 1);
         ahead = refl;
       }
 
   -- the span's frames are those kept and those dropped
-  span-frames : x .first + keptIn span + dropped (span .gaps) ≡ x .last
+  span-frames : x .span .first + keptIn span + dropped (span .gaps) ≡ x .span .last
   unfolding keptFrames
   span-frames = omega (arith, dropped-less (span .first) (span .gaps) (span .last) (room .founded .spread))
 
-  module _ (i : ℕ) (p : Passed) (work : List ℕ) (w : Sharing x count base pieces work₀ i p work) where
+  module _ (i : ℕ) (passed : Passed) (work : List ℕ) (w : Sharing x base pieces work₀ i passed work) where
+    -- after the last share all cuts are marked
     pub sharing-done : pieces ≤ i → work ≡ marking base (sharesOf span pieces) work₀
     unfolding marking
     sharing-done h =
@@ -78,68 +79,69 @@ module _ (x : Ground) (count base frames pieces : ℕ) (work₀ : List ℕ) (roo
       less : framesBefore (keptIn span) pieces i < keptIn span
       less = share-less (keptIn span) pieces i (omega (arith, more)) most more
 
+      -- the kept frames are within the most frames
       pub frames-few : frames ≤ maxFrames
       frames-few = omega (arith, fit .kept, span-frames, fit .few)
 
+      -- so the product by which code tells the frames before a share stays small
       pub product-few : i * frames ≤ maxFrames * maxFrames
       product-few =
           let h : i ≤ maxFrames = omega (arith, more, fit .fit, frames-few) in
           mul-le-mul {n₂ = maxFrames} h frames-few
 
+      -- its quotient is the number of frames before the cut after share i
       pub share-at : i * frames / pieces ≡ framesBefore (keptIn span) pieces i
       share-at = ap (λ (n : ℕ). i * n / pieces) (fit .kept)
 
-      pub share-room : x .first + framesBefore (keptIn span) pieces i + dropped (span .gaps) ≤ maxFrames
+      -- and its boundary, moved on by all gaps, is within the most frames
+      pub share-room : x .span .first + framesBefore (keptIn span) pieces i + dropped (span .gaps) ≤ maxFrames
       share-room = omega (arith, less, span-frames, fit .few)
 
       -- what the share's cut is asked with
-      pub share-requires : Listed (x .grid .frames) (take (2 * count) work)
-          × (CountingBy (x .gap) (x .grid .frames) (x .pre) (x .tail) (take (2 * count) work) (x .first + i * frames / pieces) p
-          × (x .first + i * frames / pieces + dropped (spanIn x (take (2 * count) work) .gaps) ≤ maxFrames))
+      pub share-requires : Partable x (take (2 * x .span .silences) work) (x .span .first + i * frames / pieces) passed
       share-requires =
-          subst (λ (ss : List ℕ). Listed (x .grid .frames) ss
-          × (CountingBy (x .gap) (x .grid .frames) (x .pre) (x .tail) ss (x .first + i * frames / pieces) p × (x .first + i * frames / pieces + dropped (spanIn x ss .gaps) ≤ maxFrames)))
-          (sym (w .same))
-          (subst (λ (n : ℕ). Listed (x .grid .frames) silences
-          × (CountingBy (x .gap) (x .grid .frames) (x .pre) (x .tail) silences (x .first + n) p × (x .first + n + dropped (span .gaps) ≤ maxFrames)))
-          (sym share-at) (room .founded .listed, (w .counting, share-room)))
+          subst (λ (ss : List ℕ). Partable x ss (x .span .first + i * frames / pieces) passed) (sym (w .same))
+          (subst (λ (n : ℕ). Partable x silences (x .span .first + n) passed) (sym share-at)
+          (record { listed = room .founded .listed; counting = w .counting; room = share-room }))
 
       -- and answered
-      pub share-parted : (r : Share) → Parted x (take (2 * count) work) (x .first + i * frames / pieces) r → Parted x silences (x .first + framesBefore (keptIn span) pieces i) r
+      pub share-parted : (r : Share) → Parted x (take (2 * x .span .silences) work) (x .span .first + i * frames / pieces) r → Parted x silences (x .span .first + framesBefore (keptIn span) pieces i) r
       share-parted r q =
-          subst (λ (ss : List ℕ). Parted x ss (x .first + framesBefore (keptIn span) pieces i) r) (w .same)
-          (subst (λ (n : ℕ). Parted x (take (2 * count) work) (x .first + n) r) share-at q)
+          subst (λ (ss : List ℕ). Parted x ss (x .span .first + framesBefore (keptIn span) pieces i) r) (w .same)
+          (subst (λ (n : ℕ). Parted x (take (2 * x .span .silences) work) (x .span .first + n) r) share-at q)
 
       place : Place span (placeAfter span (framesBefore (keptIn span) pieces i))
       place = share-place span (room .founded .spread) pieces (omega (arith, more)) most i (omega (arith, w .some)) more
 
       -- the cut that code makes is that of the share
-      cut-of : (r : Share) → Parted x silences (x .first + framesBefore (keptIn span) pieces i) r → r .cut ≡ cutOf (placeAfter span (framesBefore (keptIn span) pieces i))
+      cut-of : (r : Share) → Parted x silences (x .span .first + framesBefore (keptIn span) pieces i) r → r .cut ≡ cutOf (placeAfter span (framesBefore (keptIn span) pieces i))
       cut-of r q =
           q .cut-is
           ∙ ap (λ (k : ℕ). cutOf (placeAt (span .gaps) k))
           (sym (after-moved span (room .founded .spread) (framesBefore (keptIn span) pieces i) (share-first span (room .founded .spread) pieces (omega (arith, more)) most i (omega (arith, w .some))) less))
           ∙ ap cutOf (place-of span (room .founded .spread) (placeAfter span (framesBefore (keptIn span) pieces i)) place)
 
-      module _ (r : Share) (q : Parted x silences (x .first + framesBefore (keptIn span) pieces i) r) where
+      module _ (r : Share) (q : Parted x silences (x .span .first + framesBefore (keptIn span) pieces i) r) where
         left-is : r .cut .left ≡ placeAfter span (framesBefore (keptIn span) pieces i) .left
         left-is = ap (λ (c : lent.Cut). c .left) (cut-of r q)
 
+        -- there is room for the mark of the share's cut
         pub sharing-room : base + r .cut .left < length work
         sharing-room =
             let o = place-inside span (room .founded .spread) (placeAfter span (framesBefore (keptIn span) pieces i)) place in
             omega (arith, left-is, o .1, o .2, room .room, w .size)
 
+        -- and with it the cuts from the next share on are ahead
         pub sharing-next : (work′ : List ℕ) → work′ ≡ markCut base (record { left = r .cut .left; right = r .cut .right }) work
-            → Sharing x count base pieces work₀ (i + 1) (r .passed) work′
+            → Sharing x base pieces work₀ (i + 1) (r .passed) work′
         unfolding marking
         sharing-next work′ e =
             record {
               some = omega (arith, w .some);
-              same = ap (take (2 * count)) is ∙ mark-stays base (2 * count) here work (room .apart) ∙ w .same;
+              same = ap (take (2 * x .span .silences)) is ∙ mark-stays base (2 * x .span .silences) here work (room .apart) ∙ w .same;
               size = ap length is ∙ mark-length base here work ∙ w .size;
-              counting = subst (λ (j : ℕ). CountingBy (x .gap) (x .grid .frames) (x .pre) (x .tail) silences (x .first + framesBefore (keptIn span) pieces j) (r .passed)) one
-                  (by-later (x .grid .frames) (x .pre) (x .tail) silences (x .gap) (x .first + framesBefore (keptIn span) pieces i) (x .first + framesBefore (keptIn span) pieces (suc i)) (r .passed)
+              counting = subst (λ (j : ℕ). Counting (x .gap) (x .padding) silences (x .span .first + framesBefore (keptIn span) pieces j) (r .passed)) one
+                  (counting-later (x .gap) (x .padding) silences (x .span .first + framesBefore (keptIn span) pieces i) (x .span .first + framesBefore (keptIn span) pieces (suc i)) (r .passed)
                   (omega (arith, share-some (keptIn span) pieces i (omega (arith, more)) most)) (q .counting));
               ahead = ap (marking base (sharesFrom span pieces (i + 1) (pieces - (i + 1)))) is ∙ step ∙ w .ahead;
             }

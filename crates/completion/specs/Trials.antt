@@ -6,7 +6,7 @@ use Rattle.grid.specs.Boundary.{boundaryOf, startOf}
 use Rattle.grid.specs.declared.boundary.FrameGrid.{FrameGrid}
 use Rattle.candidate_span.specs.Gaps.{dropped}
 use Rattle.candidate_span.specs.Kept.{keptFrames}
-use Rattle.division.specs.Division.{Span}
+use Rattle.candidate_span.specs.Span.{Span}
 use Rattle.division.specs.Places.{cutAt}
 use Rattle.division.specs.Divisions.{divisionsOf, keeps, anyOf, isFeasible}
 use Rattle.completion.specs.declared.reach.Sought.the-variants.{Reach, Nothing}

@@ -5,11 +5,12 @@ use crate::next::Next;
 ghost use mathlib.Core.Path.{_≡_};
 ghost use Prim.Native.Nat.{_+_, _*_, _<_};
 ghost use lib.ListN.{length, take};
-ghost use Rattle.completion.specs.Ground.{spanIn};
+ghost use Rattle.candidate_span.specs.Span.{spanIn};
 ghost use Rattle.completion.specs.Cuts.{cutsOf, markCut, marking};
 ghost use Rattle.completion.specs.CutsLaws.{MarkRoom};
 
-// Marks a cut from boundary `left` to boundary `right`, if it is at one boundary. A gap is a candidate already, and a point at its left end would compete with it.
+// Marks a cut from boundary `left` to boundary `right`, if it is at one boundary.
+// A gap is a candidate already, and a point at its left end would compete with it.
 pub fn mark_cut(base: usize, left: usize, right: usize, work: &mut [u32])
     requires { ⌜ base + left < length (now work) ⌝ }
     ensures { λ _. ⌜ now (work .exit) ≡ markCut base (record { left = left; right = right }) (now (work .entry)) ⌝ }
@@ -19,15 +20,18 @@ pub fn mark_cut(base: usize, left: usize, right: usize, work: &mut [u32])
     }
 }
 
-// Marks the cuts of at most `pieces` pieces. The silences are the first 2 × count entries of the list, the mark of boundary k stands at `base` + k.
-pub fn mark_far(x: Ground, count: usize, base: usize, pieces: usize, limit: u64, work: &mut [u32])
-    requires { ⌜ MarkRoom x count base (now work) ⌝ }
-    ensures { λ _. ⌜ now (work .exit) ≡ marking base (cutsOf (x .grid) (spanIn x (take (2 * count) (now (work .entry)))) limit pieces) (now (work .entry)) ⌝ }
+// Marks the cuts of at most `pieces` pieces.
+// The span's silences stand in front, two numbers each; the mark of boundary k stands at `base` + k.
+pub fn mark_far(x: Ground, base: usize, pieces: usize, limit: u64, work: &mut [u32])
+    requires { ⌜ MarkRoom x base (now work) ⌝ }
+    ensures { λ _. ⌜ now (work .exit) ≡ marking base
+        (cutsOf (x .grid) (spanIn (x .gap) (x .padding) (x .span) (take (2 * x .span .silences) (now (work .entry))))
+        limit pieces) (now (work .entry)) ⌝ }
 {
-    let mut at = x.first;
+    let mut at = x.span.first;
     let mut left = pieces;
     while 0 < left {
-        let step = next::next_cut(x, &work[..2 * count], at, limit);
+        let step = next::next_cut(x, &work[..2 * x.span.silences], at, limit);
         match step {
             Next::Whole => return,
             Next::Stuck => return,

@@ -1,14 +1,14 @@
-// What a division stands on, beside the list of silences: the frame grid, what is dropped, and the span's two ends.
-use candidate_settings::config::Gap;
+// What a division stands on, beside the list of silences: the frame grid, whether gaps are dropped, how much silence is
+// kept beside sound, and the span.
+use candidate_span::held::HeldSpan;
+use candidate_span::padding::Padding;
 use grid::FrameGrid;
+use plan_settings::config::Gap;
 
+// All of it, by value.
 pub struct Ground {
     pub grid: FrameGrid,
     pub gap: Gap,
-    // Frames of silence kept before sound, and after it.
-    pub pre: usize,
-    pub tail: usize,
-    // The span's first boundary, and its last.
-    pub first: usize,
-    pub last: usize,
+    pub padding: Padding,
+    pub span: HeldSpan,
 }

@@ -3,7 +3,7 @@ use crate::ground::Ground;
 use crate::place;
 use crate::reachable;
 ghost use mathlib.Core.Path.{_≡_};
-ghost use Rattle.completion.specs.Ground.{spanIn};
+ghost use Rattle.candidate_span.specs.Span.{spanIn};
 ghost use Rattle.completion.specs.GroundLaws.{Founded};
 ghost use Rattle.completion.specs.Next.{nextOf};
 
@@ -17,10 +17,10 @@ pub enum Next {
 // The farthest cut for a piece from boundary `at`, within `limit` samples.
 pub fn next_cut(x: Ground, silences: &[u32], at: usize, limit: u64) -> Next
     requires { ⌜ Founded x (now silences) ⌝ }
-    ensures { λ r. ⌜ r ≡ nextOf (x .grid) (spanIn x (now (silences .entry))) limit at ⌝ }
+    ensures { λ r. ⌜ r ≡ nextOf (x .grid) (spanIn (x .gap) (x .padding) (x .span) (now (silences .entry))) limit at ⌝ }
 {
-    let k = reachable::reachable(x.grid, at, x.last, limit);
-    if k == x.last {
+    let k = reachable::reachable(x.grid, at, x.span.last, limit);
+    if k == x.span.last {
         return Next::Whole;
     }
     if k == at {

@@ -1,13 +1,14 @@
 // The place that a boundary stands for.
 use crate::ground::Ground;
-use candidate_settings::config::Gap;
 use candidate_span::bounds;
 use candidate_span::listed;
+use candidate_span::padding::Padding;
 use candidates::pause;
+use plan_settings::config::Gap;
 ghost use mathlib.Core.Path.{_≡_};
 ghost use Rattle.candidate_span.specs.ListedLaws.{Listed};
 ghost use Rattle.candidate_span.specs.Gaps.{gapsOf};
-ghost use Rattle.candidate_settings.specs.declared.config.Gap.the-variants.{Drop};
+ghost use Rattle.plan_settings.specs.declared.config.Gap.the-variants.{Drop};
 ghost use Rattle.completion.specs.Place.{isHeld, placeAt, cutOf};
 
 // A piece ends at boundary `left`, the next starts at `right`.
@@ -17,16 +18,16 @@ pub struct Cut {
 }
 
 // Whether the silence from frame `start` to before frame `end` has a gap that holds boundary k, its edges included.
-fn is_held(n: usize, pre: usize, tail: usize, start: usize, end: usize, k: usize) -> bool
-    ensures { λ r. ⌜ r ≡ isHeld n pre tail start end k ⌝ }
+fn is_held(p: Padding, start: usize, end: usize, k: usize) -> bool
+    ensures { λ r. ⌜ r ≡ isHeld p start end k ⌝ }
 {
     if start == 0 {
         return false;
     }
-    if end == n {
+    if end == p.frames {
         return false;
     }
-    let b = bounds::silence_bounds(n, pre, tail, start, end);
+    let b = bounds::silence_bounds(p, start, end);
     if b.hi <= b.lo {
         return false;
     }
@@ -37,9 +38,9 @@ fn is_held(n: usize, pre: usize, tail: usize, start: usize, end: usize, k: usize
 }
 
 // With gaps dropped: the gap that holds boundary k, or the cut at k.
-fn dropped_place(n: usize, pre: usize, tail: usize, silences: &[u32], k: usize) -> Cut
-    requires { ⌜ Listed n (now silences) ⌝ }
-    ensures { λ r. ⌜ r ≡ cutOf (placeAt (gapsOf Drop n pre tail (now (silences .entry))) k) ⌝ }
+fn dropped_place(p: Padding, silences: &[u32], k: usize) -> Cut
+    requires { ⌜ Listed (p .frames) (now silences) ⌝ }
+    ensures { λ r. ⌜ r ≡ cutOf (placeAt (gapsOf Drop p (now (silences .entry))) k) ⌝ }
 {
     let i = pause::first_ending(silences, k);
     if silences.len() / 2 <= i {
@@ -47,8 +48,8 @@ fn dropped_place(n: usize, pre: usize, tail: usize, silences: &[u32], k: usize) 
     }
     let start = listed::start_at(silences, i);
     let end = listed::end_at(silences, i);
-    if is_held(n, pre, tail, start, end, k) {
-        let b = bounds::silence_bounds(n, pre, tail, start, end);
+    if is_held(p, start, end, k) {
+        let b = bounds::silence_bounds(p, start, end);
         return Cut {
             left: b.lo,
             right: b.hi,
@@ -59,13 +60,12 @@ fn dropped_place(n: usize, pre: usize, tail: usize, silences: &[u32], k: usize) 
 
 // The gap that holds boundary k, its edges included, or the cut at k.
 pub fn place_at(x: Ground, silences: &[u32], k: usize) -> Cut
-    requires { ⌜ Listed (x .grid .frames) (now silences) ⌝ }
-    ensures { λ r. ⌜ r ≡ cutOf (placeAt (gapsOf (x .gap) (x .grid .frames) (x .pre) (x .tail) (now (silences .entry))) k) ⌝ }
+    requires { ⌜ Listed (x .padding .frames) (now silences) ⌝ }
+    ensures { λ r. ⌜ r ≡ cutOf (placeAt (gapsOf (x .gap) (x .padding) (now (silences .entry))) k) ⌝ }
 {
-    let g = x.grid;
     let gap = x.gap;
     match gap {
         Gap::Keep => Cut { left: k, right: k },
-        Gap::Drop => dropped_place(g.frames, x.pre, x.tail, silences, k),
+        Gap::Drop => dropped_place(x.padding, silences, k),
     }
 }

@@ -3,7 +3,7 @@ use crate::fits;
 use crate::ground::Ground;
 use base_code::sizes;
 use candidate_span::kept;
-ghost use Rattle.completion.specs.Ground.{spanIn};
+ghost use Rattle.candidate_span.specs.Span.{spanIn};
 ghost use Rattle.completion.specs.GroundLaws.{Founded};
 ghost use Rattle.completion.specs.Reach.{reachOf};
 ghost use Rattle.completion.specs.ReachLaws.{Bracket};
@@ -21,15 +21,17 @@ pub enum Sought {
 fn bisect(
     x: Ground,
     silences: &[u32],
-    count: usize,
+    asked: usize,
     pieces: usize,
     maximum: u64,
     enough: u64,
 ) -> u64
     requires { ⌜ Founded x (now silences) ⌝ }
-    requires { ⌜ pieces ≡ piecesAsked (spanIn x (now silences)) count ⌝ }
-    requires { ⌜ Bracket (x .grid) (spanIn x (now silences)) count maximum maximum enough ⌝ }
-    ensures { λ r. ⌜ IsReach (x .grid) (spanIn x (now (silences .entry))) count maximum r ⌝ }
+    requires { ⌜ pieces ≡ piecesAsked (spanIn (x .gap) (x .padding) (x .span) (now silences)) asked ⌝ }
+    requires { ⌜ Bracket (x .grid) (spanIn (x .gap) (x .padding) (x .span) (now silences))
+        asked maximum maximum enough ⌝ }
+    ensures { λ r. ⌜ IsReach (x .grid) (spanIn (x .gap) (x .padding) (x .span) (now (silences .entry)))
+        asked maximum r ⌝ }
 {
     let mut low = maximum;
     let mut high = enough;
@@ -44,22 +46,23 @@ fn bisect(
     low
 }
 
-// The reach for the count that was asked for.
-pub fn reach(x: Ground, silences: &[u32], count: usize, maximum: u64) -> Sought
+// The reach for so many pieces as are asked for.
+pub fn reach(x: Ground, silences: &[u32], asked: usize, maximum: u64) -> Sought
     requires { ⌜ Founded x (now silences) ⌝ }
-    ensures { λ r. ⌜ r ≡ reachOf (x .grid) (spanIn x (now (silences .entry))) count maximum ⌝ }
+    ensures { λ r. ⌜ r
+        ≡ reachOf (x .grid) (spanIn (x .gap) (x .padding) (x .span) (now (silences .entry))) asked maximum ⌝ }
 {
     let g = x.grid;
     let gap = x.gap;
-    let frames = kept::kept_frames(gap, g.frames, x.pre, x.tail, x.first, x.last, silences);
-    let pieces = sizes::lesser(count, frames);
+    let frames = kept::kept_frames(gap, x.padding, x.span.first, x.span.last, silences);
+    let pieces = sizes::lesser(asked, frames);
     if fits::fits(x, silences, pieces, maximum) {
         return Sought::Reach(maximum);
     }
     // one piece at most is as long as the span
-    let whole = g.position(x.last) - g.position(x.first);
+    let whole = g.position(x.span.last) - g.position(x.span.first);
     if fits::fits(x, silences, pieces, whole) {
-        return Sought::Reach(bisect(x, silences, count, pieces, maximum, whole));
+        return Sought::Reach(bisect(x, silences, asked, pieces, maximum, whole));
     }
     Sought::Nothing
 }

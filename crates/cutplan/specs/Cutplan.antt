@@ -35,9 +35,11 @@ pub record Printed : Type 0 where
   pub size : ℕ
   pub listing : List ℕ
 
+-- what was printed, from its two parts
 abbrev pub printed : ℕ → List ℕ → Printed
 printed size listing = record { size = size; listing = listing }
 
+-- one of two, by a test
 abbrev pub pickPrinted : Bool → Printed → Printed → Printed
 pickPrinted test a b = cond test a b
 

@@ -5,7 +5,7 @@ use lib.Ieee.{Float}
 use lib.ListN.{replicate}
 use Rattle.grid.specs.declared.validate.Recording.{Recording}
 use Rattle.silence_list.specs.declared.config.SegmentConfig.{SegmentConfig}
-use Rattle.candidate_settings.specs.declared.config.PlanConfig.{PlanConfig}
+use Rattle.plan_settings.specs.declared.config.PlanConfig.{PlanConfig}
 use Rattle.plan_pieces.specs.Answer.{numberOf}
 use Rattle.plan_pieces.specs.Output.{Output, outputOf}
 use Rattle.plan_pieces.specs.declared.answer.Answer.{Answer}

@@ -12,7 +12,9 @@ use Rattle.grid.specs.declared.boundary.FrameGrid.{FrameGrid}
 use Rattle.path_pieces.specs.declared.mode.Mode.{Mode}
 use Rattle.path_pieces.specs.declared.mode.Mode.the-variants.{ByLength, ByCount}
 use Rattle.candidate_span.specs.Gaps.{Cut}
-use Rattle.division.specs.Division.{Span}
+use Rattle.candidate_span.specs.Span.{Span, spanOf}
+use Rattle.candidate_finder.specs.SpanIn.{paddingIn}
+use Rattle.silence_list.specs.Silences.{silencesIn}
 use Rattle.plan_tests.specs.PlanReady.{PlanReady, passed-ready}
 use Rattle.plan_tests.specs.RefusalLaws.{passed}
 use Rattle.plan_pieces.specs.Answer.{numberOf}
@@ -20,7 +22,6 @@ use Rattle.plan_pieces.specs.AnswerLaws.{answer-most}
 use Rattle.plan_pieces.specs.Output.{Output}
 use Rattle.plan_pieces.specs.declared.answer.Answer.{Answer}
 use Rattle.plan_pieces.specs.declared.answer.Answer.the-variants.{Planned, Refused, ShortParent, NoReach, ShortOutput}
-use Rattle.planner.specs.Operation.{spanOfPlan}
 use Rattle.plan_theorems.specs.Made.{startAt, endAt, Shows, Written}
 use Rattle.plan_theorems.specs.Theorems.{plan-made, plan-ended}
 use Rattle.job.specs.Job.{Asked, Outcome, asks, fails, jobOf}
@@ -43,7 +44,7 @@ module _ (job : List ℕ) (a : Asked) (read : jobOf job ≡ asks a) where
   g = gridOf (a .recording) (length (a .values))
 
   abbrev s : Span
-  s = spanOfPlan (a .recording) (a .segment) (a .settings) (a .values) (a .flags) (a .levels)
+  s = spanOf (a .settings .gap) (paddingIn (a .recording) (a .segment) (a .settings) (length (a .values))) (silencesIn (a .recording) (a .segment) (a .values) (a .flags))
 
   module _ (n : ℕ) (made : endFor job a read .answer ≡ Planned n) where
     written : Written n lentOutput out

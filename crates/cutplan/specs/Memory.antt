@@ -6,7 +6,7 @@ use lib.ListN.{replicate}
 use Rattle.base_terms.specs.Work.{Work, workOf}
 use Rattle.grid.specs.declared.validate.Recording.{Recording}
 use Rattle.silence_list.specs.declared.config.SegmentConfig.{SegmentConfig}
-use Rattle.candidate_settings.specs.declared.config.PlanConfig.{PlanConfig}
+use Rattle.plan_settings.specs.declared.config.PlanConfig.{PlanConfig}
 use Rattle.plan_pieces.specs.Output.{Output, Handed, handedOf}
 use Rattle.planner.specs.Operation.{End, planOf}
 
@@ -14,13 +14,14 @@ use Rattle.planner.specs.Operation.{End, planOf}
 abbrev pub lentWork : Work
 lentWork = workOf (replicate 8192 0) (replicate 8192 0) (replicate 8192 (ofBits binary64 0))
 
+-- document 01: "its parent list has 16,384 entries"
 abbrev pub lentParents : List ℕ
 lentParents = replicate 16384 0
 
-module _ (r : Recording) (segment : SegmentConfig) (plan : PlanConfig) (values : List Float) (flags : List ℕ) (levels : List Float) (out : Output) where
+module _ (r : Recording) (segment : SegmentConfig) (settings : PlanConfig) (values : List Float) (flags : List ℕ) (levels : List Float) (out : Output) where
   -- what the operation leaves
   abbrev pub endWithin : End
-  endWithin = planOf r segment plan values flags levels out lentWork lentParents
+  endWithin = planOf r segment settings values flags levels out lentWork lentParents
 
   -- its answer, and the output with it
   unfoldable pub handedWithin : Handed

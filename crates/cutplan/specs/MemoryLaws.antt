@@ -10,7 +10,7 @@ use lib.ListN.{length}
 use Rattle.base_terms.specs.Work.{workLength, workOk}
 use Rattle.grid.specs.declared.validate.Recording.{Recording}
 use Rattle.silence_list.specs.declared.config.SegmentConfig.{SegmentConfig}
-use Rattle.candidate_settings.specs.declared.config.PlanConfig.{PlanConfig}
+use Rattle.plan_settings.specs.declared.config.PlanConfig.{PlanConfig}
 use Rattle.plan_tests.specs.Fitting.{Fitting}
 use Rattle.plan_tests.specs.Refusal as tests
 use Rattle.plan_tests.specs.RefusalLaws.{never-work}
@@ -29,13 +29,13 @@ work-lent : (n : ℕ) → n ≤ mostFrames → workOk (n + 1) (length (lentWork 
 unfolding workOk
 work-lent n h = rw (le-leb (workLength (n + 1)) 8192 (omega (arith, h)))
 
-module _ (r : Recording) (segment : SegmentConfig) (plan : PlanConfig) (values : List Float) (flags : List ℕ) (levels : List Float) (out : Output) where
+module _ (r : Recording) (segment : SegmentConfig) (settings : PlanConfig) (values : List Float) (flags : List ℕ) (levels : List Float) (out : Output) where
   abbrev answer : Answer
-  answer = endWithin r segment plan values flags levels out .answer
+  answer = endWithin r segment settings values flags levels out .answer
 
   -- what is planned is written
   pub planned-room : (n : ℕ) → answer ≡ Planned n → HasRoom n out
-  planned-room n e = plan-made r segment plan values flags levels out lentWork lentParents n e .written .fits
+  planned-room n e = plan-made r segment settings values flags levels out lentWork lentParents n e .written .fits
 
   module _ (few : length values ≤ mostFrames) where
     -- the work lists are long enough
@@ -44,13 +44,13 @@ module _ (r : Recording) (segment : SegmentConfig) (plan : PlanConfig) (values :
       where
         go : (a : Answer) → answer ≡ a → numberOf a ≡ 13 → ⊥
         go (Planned n) e f = omega (arith, f)
-        go (Refused v) e f =
-            never-work r segment plan values flags levels (length (lentWork .u32s)) (length (lentWork .u64s)) (length (lentWork .f64s)) (work-lent (length values) few)
-            (rw (← plan-ended r segment plan values flags levels out lentWork lentParents .first-failed v e) f)
+        go (Refused x) e f =
+            never-work r segment settings values flags levels (length (lentWork .u32s)) (length (lentWork .u64s)) (length (lentWork .f64s)) x (work-lent (length values) few)
+            (plan-ended r segment settings values flags levels out lentWork lentParents .first-failed x e) f
         go ShortParent e f = omega (arith, f)
         go NoReach e f = omega (arith, f)
         go ShortOutput e f = omega (arith, f)
 
   -- the output is, where it has room for a piece at each frame
   pub never-12 : Fitting values levels → HasRoom (length values) out → numberOf answer ≡ 12 → ⊥
-  never-12 fits room e = plan-ended r segment plan values flags levels out lentWork lentParents .roomy fits room (number-output answer e)
+  never-12 fits room e = plan-ended r segment settings values flags levels out lentWork lentParents .roomy fits room (number-output answer e)

@@ -7,7 +7,7 @@ use lib.Ieee.{Float}
 use lib.ListN.{length}
 use Rattle.grid.specs.declared.validate.Recording.{Recording}
 use Rattle.silence_list.specs.declared.config.SegmentConfig.{SegmentConfig}
-use Rattle.candidate_settings.specs.declared.config.PlanConfig.{PlanConfig}
+use Rattle.plan_settings.specs.declared.config.PlanConfig.{PlanConfig}
 use Rattle.plan_pieces.specs.Answer.{numberOf}
 use Rattle.plan_pieces.specs.Output.{Output, Handed, handedOf}
 use Rattle.plan_pieces.specs.declared.answer.Answer.{Answer}
@@ -20,17 +20,17 @@ use Rattle.cutplan.specs.Lines.{linesFor, lentOutput, linesOfPlan, refus
 use Rattle.cutplan.specs.Roomy.{Roomy}
 
 -- what Plan leaves in the program's lists has room there
-pub roomy : (r : Recording) (segment : SegmentConfig) (plan : PlanConfig) (values : List Float) (flags : List ℕ) (levels : List Float) (a : Answer) (out : Output)
-    → handedOf a out ≡ handedWithin r segment plan values flags levels lentOutput → length (out .pieces) ≡ 1533 → length (out .cuts) ≡ 1533
+pub roomy : (r : Recording) (segment : SegmentConfig) (settings : PlanConfig) (values : List Float) (flags : List ℕ) (levels : List Float) (a : Answer) (out : Output)
+    → handedOf a out ≡ handedWithin r segment settings values flags levels lentOutput → length (out .pieces) ≡ 1533 → length (out .cuts) ≡ 1533
     → Roomy a (length (out .pieces)) (length (out .cuts))
 unfolding handedWithin
-roomy r segment plan values flags levels (Planned n) out e p c =
-    let room = planned-room r segment plan values flags levels lentOutput n (sym (ap (λ (h : Handed). h .answer) e)) in
+roomy r segment settings values flags levels (Planned n) out e p c =
+    let room = planned-room r segment settings values flags levels lentOutput n (sym (ap (λ (h : Handed). h .answer) e)) in
     (omega (arith, room .0, p), omega (arith, room .1, c), omega (arith, room .0))
-roomy r segment plan values flags levels (Refused v) out e p c = tt
-roomy r segment plan values flags levels ShortParent out e p c = tt
-roomy r segment plan values flags levels NoReach out e p c = tt
-roomy r segment plan values flags levels ShortOutput out e p c = tt
+roomy r segment settings values flags levels (Refused v) out e p c = tt
+roomy r segment settings values flags levels ShortParent out e p c = tt
+roomy r segment settings values flags levels NoReach out e p c = tt
+roomy r segment settings values flags levels ShortOutput out e p c = tt
 
 -- of a plan of n pieces
 pub planned-roomy : (a : Answer) (n pieces cuts : ℕ) → a ≡ Planned n → Roomy a pieces cuts → (3 * n ≤ pieces) × (3 * (n - 1) ≤ cuts) × (n ≤ mostFrames)
@@ -55,11 +55,11 @@ refused-lines ShortOutput out never = refl
 -- ---- of what was handed out
 
 -- its lines
-pub handed-lines : (r : Recording) (segment : SegmentConfig) (plan : PlanConfig) (values : List Float) (flags : List ℕ) (levels : List Float) (a : Answer) (out : Output)
-    → handedOf a out ≡ handedWithin r segment plan values flags levels lentOutput → linesFor a out ≡ linesOfPlan r segment plan values flags levels
-handed-lines r segment plan values flags levels a out e = ap (λ (h : Handed). linesFor (h .answer) (h .out)) e
+pub handed-lines : (r : Recording) (segment : SegmentConfig) (settings : PlanConfig) (values : List Float) (flags : List ℕ) (levels : List Float) (a : Answer) (out : Output)
+    → handedOf a out ≡ handedWithin r segment settings values flags levels lentOutput → linesFor a out ≡ linesOfPlan r segment settings values flags levels
+handed-lines r segment settings values flags levels a out e = ap (λ (h : Handed). linesFor (h .answer) (h .out)) e
 
 -- and its number
-pub handed-number : (r : Recording) (segment : SegmentConfig) (plan : PlanConfig) (values : List Float) (flags : List ℕ) (levels : List Float) (a : Answer) (out : Output)
-    → handedOf a out ≡ handedWithin r segment plan values flags levels lentOutput → numberOf a ≡ refusedOfPlan r segment plan values flags levels
-handed-number r segment plan values flags levels a out e = ap (λ (h : Handed). numberOf (h .answer)) e
+pub handed-number : (r : Recording) (segment : SegmentConfig) (settings : PlanConfig) (values : List Float) (flags : List ℕ) (levels : List Float) (a : Answer) (out : Output)
+    → handedOf a out ≡ handedWithin r segment settings values flags levels lentOutput → numberOf a ≡ refusedOfPlan r segment settings values flags levels
+handed-number r segment settings values flags levels a out e = ap (λ (h : Handed). numberOf (h .answer)) e

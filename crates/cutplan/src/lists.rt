@@ -2,8 +2,8 @@
 use crate::answer;
 use crate::answer::Answered;
 use crate::memory;
-use candidate_settings::config::PlanConfig;
 use grid::validate::Recording;
+use plan_settings::config::PlanConfig;
 use silence_list::config::SegmentConfig;
 ghost use mathlib.Core.Path.{_≡_};
 ghost use Prim.Native.Nat.{_≤_};

@@ -1,7 +1,7 @@
 // The operation Plan with work memory of its own.
-use candidate_settings::config::PlanConfig;
 use grid::validate::Recording;
 use plan_pieces::answer::Answer;
+use plan_settings::config::PlanConfig;
 use planner::operation;
 use silence_list::config::SegmentConfig;
 ghost use mathlib.Core.Path.{_≡_};
@@ -11,8 +11,10 @@ ghost use Rattle.cutplan.specs.Memory.{handedWithin};
 // 16 entries for each of 511 frames, and 16 more.
 const WORK: usize = 8_192;
 
+// As document 01 has it.
 const PARENTS: usize = 16_384;
 
+// What Plan answers with these lists.
 pub fn plan_within(
     r: Recording,
     segment: SegmentConfig,

@@ -65,8 +65,9 @@ pub fn list_job(job: &[u8], out: &mut [u8]) -> Answered
     }
 }
 
-// The same for a list of any length; answers how many bytes the listing has. Where `out` is shorter than some listings it
-// stays as it was, and the answer is 0. `Counts` lets a caller hand on the listing.
+// The same for a list of any length; answers how many bytes the listing has.
+// Where `out` is shorter than some listings it stays as it was, and the answer is 0.
+// `Counts` lets a caller hand on the listing.
 pub fn plan_job(job: &[u8], out: &mut [u8]) -> usize
     ensures { λ n. ⌜ printed n (now (out .exit)) ≡ printedInto (now (job .entry)) (now (out .entry)) ⌝ }
     ensures { λ n. ⌜ Counts n (now (out .exit)) ⌝ }

@@ -1,3 +1,5 @@
+-- The program over its input and output: how input is read, and what it ends with.
+
 -- Input: what one answer of `read` says (`stepOf`), and how input is read to its end (`Reads`)
 pub mod Input
 -- InputLaws: how a reading goes on, and what it leaves (`reads-fit`, `reads-length`, `reads-kept`)

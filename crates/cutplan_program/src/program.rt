@@ -35,8 +35,8 @@ fn list_input(got: Input, job: &[u8], out: &mut [u8]) -> Answered
     }
 }
 
-// The program's status: 0, or 1 where the listing was not written whole. `refused` is then the number of the refusal that
-// the listing says, 0 where it has a plan.
+// The program's status: 0, or 1 where the listing was not written whole.
+// `refused` is then the number of the refusal that the listing says, 0 where it has a plan.
 #[no_mangle]
 pub extern "C" fn buchawzer_cutplan_program(refused: &mut u32) -> i32
     ensures { λ status. ⌜ Ran status (now (refused .exit)) ⌝ }

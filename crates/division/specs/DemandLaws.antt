@@ -10,7 +10,8 @@ use Rattle.grid.specs.BoundaryLaws.{Accepted}
 use Rattle.grid.specs.declared.boundary.FrameGrid.{FrameGrid}
 use Rattle.candidate_span.specs.Gaps.{Cut, Spread}
 use Rattle.candidate_span.specs.KeptLaws.{spread-some}
-use Rattle.division.specs.Division.{Span, keptIn, piecesAsked, Division, Among}
+use Rattle.candidate_span.specs.Span.{Span}
+use Rattle.division.specs.Division.{keptIn, piecesAsked, Division, Among}
 use Rattle.division.specs.Pieces.{Piece, pieceFrom, piecesFrom, piecesOf, IsSingle, lengthOf, longest}
 use Rattle.division.specs.PiecesLaws.{longest-most, longest-one}
 use Rattle.division.specs.Refine.{Refined}
@@ -34,23 +35,23 @@ has-longest g a (k ∷ ks) z n h =
 module _ (g : FrameGrid) (s : Span) where
   -- ---- by count
 
-  -- a division within the reach
-  pub demand-reach : (count maximum reach : ℕ) (cuts : List Cut) → IsReach g s count maximum reach → Division s cuts
-      → length (piecesOf s cuts) ≡ piecesAsked s count → longest g (piecesOf s cuts) ≤ reach → DemandByCount g s count maximum cuts
-  demand-reach count maximum reach cuts r d n w = record { divides = d; number = omega (arith, n); least = least }
+  -- a division into min(N, kept frames) pieces within the reach meets demand 3
+  pub demand-reach : (asked maximum reach : ℕ) (cuts : List Cut) → IsReach g s asked maximum reach → Division s cuts
+      → length (piecesOf s cuts) ≡ piecesAsked s asked → longest g (piecesOf s cuts) ≤ reach → DemandByCount g s asked maximum cuts
+  demand-reach asked maximum reach cuts r d n w = record { divides = d; number = omega (arith, n); least = least }
     where
       least : (p : Piece) → List·Memᴰ p (piecesOf s cuts) → maximum < lengthOf g p
-          → (others : List Cut) → Division s others → length (piecesOf s others) ≤ piecesAsked s count
+          → (others : List Cut) → Division s others → length (piecesOf s others) ≤ piecesAsked s asked
           → HasPiece g (longest g (piecesOf s cuts)) (piecesOf s others)
       least p m over others e few =
           let limit = max maximum (longest g (piecesOf s others)) in
           let h = r .least limit (omega arith) (record { cuts = others; divides = e; few = few; within = omega arith }) in
           has-longest g (s .first) others (s .last) (longest g (piecesOf s cuts)) (omega (arith, w, h, over, longest-most g (piecesOf s cuts) p m))
 
-  -- a division into N pieces within the maximum, where no reach is sought
-  pub demand-maximum : Spread (s .first) (s .gaps) (s .last) → (count maximum : ℕ) (cuts : List Cut) → Division s cuts
-      → length (piecesOf s cuts) ≡ count → longest g (piecesOf s cuts) ≤ maximum → DemandByCount g s count maximum cuts
-  demand-maximum spread count maximum cuts d n w =
+  -- so does one into N pieces within the maximum, where no reach is sought
+  pub demand-maximum : Spread (s .first) (s .gaps) (s .last) → (asked maximum : ℕ) (cuts : List Cut) → Division s cuts
+      → length (piecesOf s cuts) ≡ asked → longest g (piecesOf s cuts) ≤ maximum → DemandByCount g s asked maximum cuts
+  demand-maximum spread asked maximum cuts d n w =
       record {
         divides = d;
         number = omega (arith, n, at-most-kept s spread cuts d);
@@ -59,7 +60,7 @@ module _ (g : FrameGrid) (s : Span) where
 
   -- ---- by length
 
-  -- a division of which each piece is within the maximum or a single frame
+  -- a division of which each piece is within the maximum or a single frame meets demand 3
   pub demand-length : (maximum : ℕ) (cuts : List Cut) → Division s cuts → ((p : Piece) → List·Memᴰ p (piecesOf s cuts) → (lengthOf g p ≤ maximum) ⊎ IsSingle p)
       → DemandByLength g s maximum cuts
   demand-length maximum cuts d each =
@@ -67,26 +68,26 @@ module _ (g : FrameGrid) (s : Span) where
 
 -- ---- what completion by count leaves: cuts at places, among them those of the greedy division within the reach and those of equal shares
 
-module _ (g : FrameGrid) (ok : Accepted g) (s : Span) (spread : Spread (s .first) (s .gaps) (s .last)) (count : ℕ) (asked : 0 < count)
-    (all : List Cut) (divides : Division s all) (shares : Among (sharesOf s (piecesAsked s count)) all) where
-  some : 0 < piecesAsked s count
-  some = omega (arith, asked, spread-some (s .first) (s .gaps) (s .last) spread)
+module _ (g : FrameGrid) (ok : Accepted g) (s : Span) (spread : Spread (s .first) (s .gaps) (s .last)) (asked : ℕ) (some : 0 < asked)
+    (all : List Cut) (divides : Division s all) (shares : Among (sharesOf s (piecesAsked s asked)) all) where
+  pieces-some : 0 < piecesAsked s asked
+  pieces-some = omega (arith, some, spread-some (s .first) (s .gaps) (s .last) spread)
 
   -- they suffice for min(N, kept frames) pieces
-  pub shares-suffice : piecesAsked s count ≤ length (piecesOf s all)
+  pub shares-suffice : piecesAsked s asked ≤ length (piecesOf s all)
   shares-suffice =
-      let fit : piecesAsked s count ≤ keptIn s = omega arith in
-      subst (λ (n : ℕ). n ≤ length (piecesOf s all)) (shares-count s spread (piecesAsked s count) some fit)
-      (fewer-cuts s (sharesOf s (piecesAsked s count)) all (shares-divide s spread (piecesAsked s count) some fit) divides shares)
+      let fit : piecesAsked s asked ≤ keptIn s = omega arith in
+      subst (λ (n : ℕ). n ≤ length (piecesOf s all)) (shares-count s spread (piecesAsked s asked) pieces-some fit)
+      (fewer-cuts s (sharesOf s (piecesAsked s asked)) all (shares-divide s spread (piecesAsked s asked) pieces-some fit) divides shares)
 
   -- so a path over them by count has as many
-  pub pieces-asked : min count (length (piecesOf s all)) ≡ piecesAsked s count
+  pub pieces-asked : min asked (length (piecesOf s all)) ≡ piecesAsked s asked
   pieces-asked = omega (arith, shares-suffice, at-most-kept s spread all divides)
 
   -- and one of those paths keeps the reach
-  pub reach-kept : (maximum reach : ℕ) (far : List Cut) → IsReach g s count maximum reach → Greedy g s reach far → Among far all
-      → (r : Refined s far all (piecesAsked s count)) × (longest g (piecesOf s (r .cuts)) ≤ reach)
+  pub reach-kept : (maximum reach : ℕ) (far : List Cut) → IsReach g s asked maximum reach → Greedy g s reach far → Among far all
+      → (r : Refined s far all (piecesAsked s asked)) × (longest g (piecesOf s (r .cuts)) ≤ reach)
   reach-kept maximum reach far r greedy held =
       let d = greedy-divides g ok s spread reach far greedy in
-      let t = refine s far all d divides held (piecesAsked s count) (feasible-greedy g ok s spread count reach far greedy (r .feasible)) shares-suffice in
+      let t = refine s far all d divides held (piecesAsked s asked) (feasible-greedy g ok s spread asked reach far greedy (r .feasible)) shares-suffice in
       (t, omega (arith, more-cuts g ok s far (t .cuts) d (t .divides) (t .over), greedy-within g ok s spread reach far greedy))

@@ -3,28 +3,17 @@
 use mathlib.Core.Path.{_≡_}
 use mathlib.Core.List.{List, [], _∷_, List·Memᴰ}
 use Prim.Native.Nat.{ℕ, _≤_, _<_, min}
-use Rattle.candidate_settings.specs.declared.config.Gap.{Gap}
-use Rattle.candidate_span.specs.Span.{firstOf, lastOf}
-use Rattle.candidate_span.specs.Gaps.{Cut, gapsOf}
+use Rattle.candidate_span.specs.Gaps.{Cut}
+use Rattle.candidate_span.specs.Span.{Span}
 use Rattle.candidate_span.specs.Kept.{keptFrames, keptBoundaries}
 
--- document 01's "span": it lies between its two ends, and the dropped gaps lie in it
-pub record Span : Type 0 where
-  pub first : ℕ
-  pub gaps : List Cut
-  pub last : ℕ
-
--- the span of a recording of n frames whose silences are ss, with padding `pre` before sound and `tail` after it
-abbrev pub spanOf : Gap → ℕ → ℕ → ℕ → List ℕ → Span
-spanOf gap n pre tail ss = record { first = firstOf gap pre ss; gaps = gapsOf gap n pre tail ss; last = lastOf gap n tail ss }
-
--- how many kept frames a span has
+-- document 01's "kept frames" of a span, counted
 abbrev pub keptIn : Span → ℕ
 keptIn s = keptFrames (s .first) (s .gaps) (s .last)
 
--- document 01's min(N, kept frames), where N is the count asked for
+-- document 01's min(N, kept frames), where N is `asked`
 abbrev pub piecesAsked : Span → ℕ → ℕ
-piecesAsked s count = min count (keptIn s)
+piecesAsked s asked = min asked (keptIn s)
 
 -- where a division may be cut: at a kept frame boundary, where one piece ends and the next starts, or at a whole dropped gap
 pub data Place (s : Span) : Cut → Type 0 where

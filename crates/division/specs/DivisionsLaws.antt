@@ -10,7 +10,8 @@ use borrow.Author.Tests.{leb-true, le-leb}
 use Rattle.base_laws.specs.Tests.{both, unmet}
 use Rattle.grid.specs.declared.boundary.FrameGrid.{FrameGrid}
 use Rattle.candidate_span.specs.Gaps.{Cut, Spread}
-use Rattle.division.specs.Division.{Span, piecesAsked, Division}
+use Rattle.candidate_span.specs.Span.{Span}
+use Rattle.division.specs.Division.{piecesAsked, Division}
 use Rattle.division.specs.Pieces.{piecesOf, longest}
 use Rattle.division.specs.RefineLaws.{Part, none, keep, skip, part-row, part-among, divisions-part}
 use Rattle.division.specs.Places.{placesOf}
@@ -51,11 +52,12 @@ true-any {A} p (x ∷ xs) h = go (p x) refl (λ e. true-any p xs (rw e at h))
     go false e f = let r = f e in (r .0, List·Memᴰ·tail (r .1), r .2)
 
 module _ (s : Span) (spread : Spread (s .first) (s .gaps) (s .last)) where
-  -- a list of cuts is among the divisions exactly where it is a division
+  -- every division is listed
   pub division-listed : (cuts : List Cut) → Division s cuts → List·Memᴰ cuts (divisionsOf s)
   unfolding divisionsOf
   division-listed cuts d = part-chosen (divisions-part s cuts (placesOf s) d (places-divide s spread) (λ k m. place-in s spread k (d .placed k m)))
 
+  -- and what is listed is a division
   pub listed-divides : (cuts : List Cut) → List·Memᴰ cuts (divisionsOf s) → Division s cuts
   unfolding divisionsOf
   listed-divides cuts m =
@@ -65,21 +67,22 @@ module _ (s : Span) (spread : Spread (s .first) (s .gaps) (s .last)) where
         placed = λ k i. in-place s spread k (part-among p k i);
       }
 
-  -- and a limit is feasible exactly where going through them says so
-  pub feasible-true : (g : FrameGrid) (count limit : ℕ) → Feasible g s count limit → isFeasible g s count limit ≡ true
+  -- where a limit is feasible, going through them says so
+  pub feasible-true : (g : FrameGrid) (asked limit : ℕ) → Feasible g s asked limit → isFeasible g s asked limit ≡ true
   unfolding isFeasible keeps
-  feasible-true g count limit f =
-      any-true (keeps g s count limit) (divisionsOf s) (f .cuts) (division-listed (f .cuts) (f .divides))
-      (rw (le-leb (length (piecesOf s (f .cuts))) (piecesAsked s count) (f .few), le-leb (longest g (piecesOf s (f .cuts))) limit (f .within)))
+  feasible-true g asked limit f =
+      any-true (keeps g s asked limit) (divisionsOf s) (f .cuts) (division-listed (f .cuts) (f .divides))
+      (rw (le-leb (length (piecesOf s (f .cuts))) (piecesAsked s asked) (f .few), le-leb (longest g (piecesOf s (f .cuts))) limit (f .within)))
 
-  pub true-feasible : (g : FrameGrid) (count limit : ℕ) → isFeasible g s count limit ≡ true → Feasible g s count limit
+  -- and only there
+  pub true-feasible : (g : FrameGrid) (asked limit : ℕ) → isFeasible g s asked limit ≡ true → Feasible g s asked limit
   unfolding isFeasible keeps
-  true-feasible g count limit h =
-      let t = true-any (keeps g s count limit) (divisionsOf s) h in
-      let b = both (leb (length (piecesOf s (t .0))) (piecesAsked s count)) (leb (longest g (piecesOf s (t .0))) limit) (t .2) in
+  true-feasible g asked limit h =
+      let t = true-any (keeps g s asked limit) (divisionsOf s) h in
+      let b = both (leb (length (piecesOf s (t .0))) (piecesAsked s asked)) (leb (longest g (piecesOf s (t .0))) limit) (t .2) in
       record {
         cuts = t .0;
         divides = listed-divides (t .0) (t .1);
-        few = leb-true (length (piecesOf s (t .0))) (piecesAsked s count) (b .0);
+        few = leb-true (length (piecesOf s (t .0))) (piecesAsked s asked) (b .0);
         within = leb-true (longest g (piecesOf s (t .0))) limit (b .1);
       }

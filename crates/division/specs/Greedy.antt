@@ -3,7 +3,8 @@ use mathlib.Core.List.{List, [], _∷_}
 use Prim.Native.Nat.{ℕ, _≤_, _<_}
 use Rattle.grid.specs.declared.boundary.FrameGrid.{FrameGrid}
 use Rattle.candidate_span.specs.Gaps.{Cut}
-use Rattle.division.specs.Division.{Span, Place}
+use Rattle.candidate_span.specs.Span.{Span}
+use Rattle.division.specs.Division.{Place}
 use Rattle.division.specs.Pieces.{pieceFrom, lengthOf}
 
 -- k is the farthest place for a piece that starts at boundary a: the piece is within the limit, and no place farther on is

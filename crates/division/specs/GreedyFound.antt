@@ -9,7 +9,8 @@ use Rattle.grid.specs.BoundaryLaws.{Accepted, boundary-mono}
 use Rattle.grid.specs.declared.boundary.FrameGrid.{FrameGrid}
 use Rattle.candidate_span.specs.Gaps.{Cut, Spread}
 use Rattle.candidate_span.specs.GapsLaws.{spread-ends}
-use Rattle.division.specs.Division.{Span, Place, Row, Division}
+use Rattle.candidate_span.specs.Span.{Span}
+use Rattle.division.specs.Division.{Place, Row, Division}
 use Rattle.division.specs.Pieces.{pieceFrom, piecesFrom, piecesOf, lengthOf, longest}
 use Rattle.division.specs.PiecesLaws.{row-inside}
 use Rattle.division.specs.Places.{placesOf}

@@ -10,7 +10,8 @@ use Rattle.grid.specs.BoundaryLaws.{Accepted, boundary-mono}
 use Rattle.grid.specs.declared.boundary.FrameGrid.{FrameGrid}
 use Rattle.candidate_span.specs.Gaps.{Cut, Spread}
 use Rattle.candidate_span.specs.GapsLaws.{spread-ends}
-use Rattle.division.specs.Division.{Span, Place, Row, Division}
+use Rattle.candidate_span.specs.Span.{Span}
+use Rattle.division.specs.Division.{Place, Row, Division}
 use Rattle.division.specs.Pieces.{pieceFrom, piecesFrom, piecesOf, lengthOf, longest}
 use Rattle.division.specs.PiecesLaws.{pieces-count}
 use Rattle.division.specs.PlacesLaws.{place-inside, places-apart}
@@ -33,15 +34,18 @@ abbrev pub Start : Span → ℕ → Type 0
 Start s a = (k : Cut) → Place s k → k .left ≤ a → k .right ≤ a
 
 module _ (g : FrameGrid) (ok : Accepted g) (s : Span) (spread : Spread (s .first) (s .gaps) (s .last)) where
+  -- a place that does not start behind another's end has both its ends no farther on
   pub ends-order : (j k : Cut) → Place s j → Place s k → j .left ≤ k .right → (j .left ≤ k .left) × (j .right ≤ k .right)
   ends-order j k p q h = elim (places-apart s spread j k p q h) [
     | inl l ↦ (omega (arith, place-inside s spread j p .1), omega (arith, place-inside s spread k q .1))
     | inr e ↦ (omega (arith, ap (λ (i : Cut). i .left) e), omega (arith, ap (λ (i : Cut). i .right) e))
   ]
 
+  -- a piece may start with the span
   pub start-first : Start s (s .first)
   start-first k p h = absurd (omega (arith, place-inside s spread k p .0))
 
+  -- and at the right end of each place
   pub start-right : (k : Cut) → Place s k → Start s (k .right)
   start-right k p j q h = ends-order j k q p h .1
 

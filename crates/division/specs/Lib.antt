@@ -1,6 +1,6 @@
 -- What a division of a span is, and what demand 3 stands on. No code. Definitions stand in files that import no laws; each has its laws beside it.
 
--- Division: the span of a recording (`Span`, `spanOf`), where it may be cut (`Place`), cuts in rising order (`Row`), a division (`Division`), min(N, kept frames) (`piecesAsked`)
+-- Division: where a span may be cut (`Place`), cuts in rising order (`Row`), a division (`Division`), min(N, kept frames) (`piecesAsked`)
 pub mod Division
 -- SpanLaws: a recording's span that is not empty has its gaps strictly inside and apart (`span-spread`), ends within the frames (`span-within`), keeps a frame (`span-kept`)
 pub mod SpanLaws

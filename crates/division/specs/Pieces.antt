@@ -8,13 +8,14 @@ use lib.Dec.{ltb}
 use Rattle.grid.specs.Boundary.{boundaryOf}
 use Rattle.grid.specs.declared.boundary.FrameGrid.{FrameGrid}
 use Rattle.candidate_span.specs.Gaps.{Cut}
-use Rattle.division.specs.Division.{Span}
+use Rattle.candidate_span.specs.Span.{Span}
 
 -- a piece, from one boundary to another
 pub record Piece : Type 0 where
   pub start : ℕ
   pub end : ℕ
 
+-- the piece from boundary a to boundary z
 abbrev pub pieceFrom : ℕ → ℕ → Piece
 pieceFrom a z = record { start = a; end = z }
 

@@ -12,11 +12,13 @@ use Rattle.base_laws.specs.Tests.{lt-or-le}
 use Rattle.grid.specs.BoundaryLaws.{Accepted, boundary-mono, boundary-above}
 use Rattle.grid.specs.declared.boundary.FrameGrid.{FrameGrid}
 use Rattle.candidate_span.specs.Gaps.{Cut}
-use Rattle.division.specs.Division.{Span, Row, Division}
+use Rattle.candidate_span.specs.Span.{Span}
+use Rattle.division.specs.Division.{Row, Division}
 use Rattle.division.specs.Pieces.{Piece, pieceFrom, piecesFrom, piecesOf, lengthOf, longest, overs, total, between, InOrder}
 
 -- ---- rows
 
+-- a row has a frame at least from its start to its end
 pub row-ends : (a : ℕ) (ks : List Cut) (z : ℕ) → Row a ks z → a < z
 row-ends a [] z r = r
 row-ends a (k ∷ ks) z r = omega (arith, row-ends (k .right) ks z (r .2))
@@ -65,11 +67,12 @@ over-none limit x h = rw (le-ltb limit x h)
 over-one : (limit x : ℕ) → limit < x → _≡_ {A = ℕ} (cond (ltb limit x) 1 0) 1
 over-one limit x h = rw (lt-ltb limit x h)
 
--- none is over a limit exactly where the longest is not
+-- where the longest is within a limit, none is over it
 pub overs-none : (g : FrameGrid) (limit : ℕ) (ps : List Piece) → longest g ps ≤ limit → overs g limit ps ≡ 0
 overs-none g limit [] h = refl
 overs-none g limit (p ∷ ps) h = omega (arith, over-none limit (lengthOf g p) (omega arith), overs-none g limit ps (omega arith))
 
+-- and where none is over it, the longest is within it
 pub none-over : (g : FrameGrid) (limit : ℕ) (ps : List Piece) → overs g limit ps ≡ 0 → longest g ps ≤ limit
 none-over g limit [] h = omega arith
 none-over g limit (p ∷ ps) h = omega (arith, here (lt-or-le limit (lengthOf g p)), none-over g limit ps (omega arith))

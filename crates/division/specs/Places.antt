@@ -2,7 +2,7 @@
 use mathlib.Core.List.{List, [], _∷_}
 use Prim.Native.Nat.{ℕ, zero, suc, _-_}
 use Rattle.candidate_span.specs.Gaps.{Cut}
-use Rattle.division.specs.Division.{Span}
+use Rattle.candidate_span.specs.Span.{Span}
 
 -- the cut at a boundary
 abbrev pub cutAt : ℕ → Cut
@@ -13,6 +13,7 @@ abbrev pub points : ℕ → ℕ → List Cut → List Cut
 points a zero ks = ks
 points a (suc n) ks = cutAt (suc a) ∷ points (suc a) n ks
 
+-- the cuts at all places between boundary a and boundary z, with gaps gs between
 abbrev pub placesFrom : ℕ → List Cut → ℕ → List Cut
 placesFrom a [] z = points a (z - suc a) []
 placesFrom a (g ∷ gs) z = points a (g .left - suc a) (g ∷ placesFrom (g .right) gs z)

@@ -12,7 +12,8 @@ use Rattle.candidate_span.specs.GapsLaws.{spread-ends, spread-inside}
 use Rattle.candidate_span.specs.Kept.{keptFrames}
 use Rattle.candidate_span.specs.KeptLaws.{dropped-less}
 use Rattle.candidate_span.specs.KeptIn.{Outside, kept-in, kept-of}
-use Rattle.division.specs.Division.{Span, keptIn, Place, boundary, gap, Row, Division}
+use Rattle.candidate_span.specs.Span.{Span}
+use Rattle.division.specs.Division.{keptIn, Place, boundary, gap, Row, Division}
 use Rattle.division.specs.Pieces.{Piece, piecesFrom, piecesOf, IsSingle}
 use Rattle.division.specs.PiecesLaws.{row-from, row-inside, pieces-count}
 use Rattle.division.specs.RefineLaws.{fewer-cuts}
@@ -43,14 +44,15 @@ points-single a zero b ks z h f =
     subst (λ (c : ℕ). Singles c ks z) e f
 points-single a (suc n) b ks z h f = single-more a (cutAt (suc a)) (points (suc a) n ks) z refl (points-single (suc a) n b ks z (omega arith) f)
 
-cut-is : (j k : Cut) → j .left ≡ k .left → j .right ≡ k .right → j ≡ k
-cut-is j k p q = λ i. record { left = p i; right = q i }
+-- cuts with the same ends are one
+pub same-ends : (j k : Cut) → j .left ≡ k .left → j .right ≡ k .right → j ≡ k
+same-ends j k p q = λ i. record { left = p i; right = q i }
 
 in-points : (a n : ℕ) (ks : List Cut) (k : Cut) → k .left ≡ k .right → a < k .left → k .left ≤ a + n → List·Memᴰ k (points a n ks)
 in-points a zero ks k e h l = absurd (omega arith)
 in-points a (suc n) ks k e h l = elim (lt-or-le (suc a) (k .left)) [
   | inl q ↦ List·Memᴰ·tail (in-points (suc a) n ks k e q (omega arith))
-  | inr q ↦ List·Memᴰ·head (cut-is k (cutAt (suc a)) (omega arith) (omega arith))
+  | inr q ↦ List·Memᴰ·head (same-ends k (cutAt (suc a)) (omega arith) (omega arith))
 ]
 
 after-points : (a n : ℕ) (ks : List Cut) (k : Cut) → List·Memᴰ k ks → List·Memᴰ k (points a n ks)
@@ -164,14 +166,17 @@ row-apart a (c ∷ cs) z r j k (List·Memᴰ·tail m) (List·Memᴰ·head q) h =
     absurd (omega (arith, h, ap (λ (i : Cut). i .right) q, row-inside (c .right) cs z j (r .2) m .0))
 row-apart a (c ∷ cs) z r j k (List·Memᴰ·tail m) (List·Memᴰ·tail n) h = row-apart (c .right) cs z (r .2) j k m n h
 
+-- ---- all places in order
+
 module _ (s : Span) (spread : Spread (s .first) (s .gaps) (s .last)) where
-  -- the list has just the places
+  -- every place is in the list
   pub place-in : (k : Cut) → Place s k → List·Memᴰ k (placesOf s)
   place-in k (boundary e m) =
       let i = kept-of (s .first) (s .gaps) (s .last) (k .left) m in
       inner-in (s .first) (s .gaps) (s .last) k (record { point = e; after = i .0; before = i .1; outside = i .2 })
   place-in k (gap m) = gap-in (s .first) (s .gaps) (s .last) k m
 
+  -- and every cut of the list is a place
   pub in-place : (k : Cut) → List·Memᴰ k (placesOf s) → Place s k
   in-place k m = elim (of-places (s .first) (s .gaps) (s .last) k spread m) [
     | inl i ↦ boundary (i .point) (kept-in (s .first) (s .gaps) (s .last) (k .left) (i .after) (i .before) (i .outside))

@@ -9,7 +9,8 @@ use Rattle.base_laws.specs.Tests.{lt-or-le}
 use Rattle.grid.specs.BoundaryLaws.{Accepted, boundary-mono}
 use Rattle.grid.specs.declared.boundary.FrameGrid.{FrameGrid}
 use Rattle.candidate_span.specs.Gaps.{Cut}
-use Rattle.division.specs.Division.{Span, Row, Division, Among}
+use Rattle.candidate_span.specs.Span.{Span}
+use Rattle.division.specs.Division.{Row, Division, Among}
 use Rattle.division.specs.Pieces.{pieceFrom, piecesFrom, piecesOf, lengthOf, longest}
 use Rattle.division.specs.PiecesLaws.{row-from, row-inside, pieces-count}
 use Rattle.division.specs.Refine.{Refined}
@@ -33,11 +34,13 @@ part-length none = omega arith
 part-length (keep p) = omega (arith, part-length p)
 part-length (skip p) = omega (arith, part-length p)
 
+-- a row with some cuts left out is a row
 pub part-row : {ks cs : List Cut} (a z : ℕ) → Part ks cs → Row a cs z → Row a ks z
 part-row a z none r = r
 part-row a z (keep {k = k} p) r = (r .0, r .1, part-row (k .right) z p (r .2))
 part-row a z (skip {k = k} {ks = ks} p) r = row-from a (k .right) ks z (omega arith) (part-row (k .right) z p (r .2))
 
+-- and has no other cuts
 pub part-among : {ks cs : List Cut} → Part ks cs → Among ks cs
 part-among none k m = m
 part-among (keep p) k (List·Memᴰ·head e) = List·Memᴰ·head e
@@ -71,6 +74,7 @@ part-of a b (k ∷ ks) (c ∷ cs) z r s m =
         let q = row-inside (c .right) cs z k (r .2) i in
         skip (f′ (q .0, s .1, s .2) (past (c .right) (k ∷ ks) z c cs (omega (arith, r .1)) (q .0, s .1, s .2) m))
 
+-- a division whose cuts another has is that other with some left out
 pub divisions-part : (s : Span) (ks cs : List Cut) → Division s ks → Division s cs → Among ks cs → Part ks cs
 divisions-part s ks cs d e m = part-of (s .first) (s .first) ks cs (s .last) (e .rises) (d .rises) m
 
@@ -131,7 +135,7 @@ refine s ks cs d e m n h l =
     record {
       cuts = b .list;
       divides = record { rises = part-row (s .first) (s .last) (b .under) (e .rises); placed = λ k i. e .placed k (part-among (b .under) k i) };
-      count = omega (arith, pieces-count (s .first) (b .list) (s .last), b .size);
+      number = omega (arith, pieces-count (s .first) (b .list) (s .last), b .size);
       over = part-among (b .over);
       under = part-among (b .under);
     }

@@ -3,7 +3,8 @@ use mathlib.Core.List.{List, [], _∷_}
 use Prim.Native.Nat.{ℕ, zero, suc, _-_, _*_, _/_}
 use lib.ListN.{getD}
 use Rattle.candidate_span.specs.Gaps.{Cut}
-use Rattle.division.specs.Division.{Span, keptIn}
+use Rattle.candidate_span.specs.Span.{Span}
+use Rattle.division.specs.Division.{keptIn}
 use Rattle.division.specs.Places.{cutAt, placesOf}
 
 -- how many of the frames lie before the cut after share i

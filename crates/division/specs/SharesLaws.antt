@@ -7,7 +7,8 @@ use native.Mathlib.Omega.{arith}
 use lib.ListN.{length, getD}
 use Rattle.candidate_span.specs.Gaps.{Cut, Spread}
 use Rattle.candidate_span.specs.GapsLaws.{spread-ends}
-use Rattle.division.specs.Division.{Span, keptIn, Place, Row, Division}
+use Rattle.candidate_span.specs.Span.{Span}
+use Rattle.division.specs.Division.{keptIn, Place, Row, Division}
 use Rattle.division.specs.Pieces.{piecesOf}
 use Rattle.division.specs.PiecesLaws.{row-inside, pieces-count}
 use Rattle.division.specs.Places.{cutAt, placesOf}
@@ -16,11 +17,13 @@ use Rattle.division.specs.Shares.{framesBefore, placeAfter, sharesFrom, 
 
 -- ---- shares of a number of frames
 
+-- each share has a frame at least
 pub share-some : (frames shares i : ℕ) → 0 < shares → shares ≤ frames → framesBefore frames shares i < framesBefore frames shares (suc i)
 share-some frames shares i h l =
     le-div-iff-mul-le h .1
     (omega (arith, suc-mul (framesBefore frames shares i) shares, suc-mul i frames, mul-div-le (i * frames) shares, mul-comm shares (framesBefore frames shares i)))
 
+-- and before the last one not all frames are shared out
 pub share-less : (frames shares i : ℕ) → 0 < shares → shares ≤ frames → i < shares → framesBefore frames shares i < frames
 share-less frames shares i h l k = div-lt-iff-lt-mul h .1 (go (shares - suc i) (omega arith))
   where
@@ -58,11 +61,12 @@ module _ (s : Span) (spread : Spread (s .first) (s .gaps) (s .last)) where
       (omega (arith, pieces-count (s .first) (placesOf s) (s .last), places-count s spread))
 
   module _ (shares : ℕ) (some : 0 < shares) (fit : shares ≤ keptIn s) where
-    -- each share has a frame, and the shares before the last do not have all of them
+    -- before the cut after a share lies a frame at least
     pub share-first : (i : ℕ) → 0 < i → 0 < framesBefore (keptIn s) shares i
     share-first zero h = absurd (omega arith)
     share-first (suc i) h = omega (arith, share-some (keptIn s) shares i some fit)
 
+    -- so between a share and the next stands a place
     pub share-place : (i : ℕ) → 0 < i → i < shares → Place s (placeAfter s (framesBefore (keptIn s) shares i))
     share-place i h l = after-place (framesBefore (keptIn s) shares i) (share-first i h) (share-less (keptIn s) shares i some fit l)
 

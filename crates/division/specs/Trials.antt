@@ -5,12 +5,13 @@ use mathlib.Core.List.{[], _∷_}
 use native.Mathlib.Omega.{arith}
 use Rattle.grid.specs.Boundary.{boundaryOf, startOf}
 use Rattle.grid.specs.declared.boundary.FrameGrid.{FrameGrid}
-use Rattle.candidate_settings.specs.declared.config.Gap.the-variants.{Keep, Drop}
+use Rattle.plan_settings.specs.declared.config.Gap.the-variants.{Keep, Drop}
+use Rattle.candidate_span.specs.declared.padding.Padding.{Padding}
 use Rattle.candidate_span.specs.Bounds.{lowOf, highOf, isInner}
-use Rattle.candidate_span.specs.Span.{isLeading, isTrailing, firstOf, lastOf}
+use Rattle.candidate_span.specs.Span.{Span, spanOf, isLeading, isTrailing, firstOf, lastOf}
 use Rattle.candidate_span.specs.Gaps.{Cut, isGap, innerGaps, gapsOf, dropped}
 use Rattle.candidate_span.specs.Kept.{keptFrames}
-use Rattle.division.specs.Division.{Span, spanOf, keptIn}
+use Rattle.division.specs.Division.{keptIn}
 use Rattle.division.specs.Pieces.{pieceFrom, piecesOf, longest, overs}
 use Rattle.division.specs.Places.{cutAt, placesOf}
 use Rattle.division.specs.Divisions.{divisionsOf, keeps, anyOf, isFeasible}
@@ -20,12 +21,16 @@ use Rattle.division.specs.Demand.{DemandByCount}
 grid : FrameGrid
 grid = record { «sample_rate» = 1000; «frame_rate» = 10; hop = 1; len = 700; frames = 7 }
 
+-- no padding
+abbrev bare : Padding
+bare = record { frames = 7; pre = 0; tail = 0 }
+
 -- the span with gaps kept, and with gaps dropped
 abbrev whole : Span
-whole = spanOf Keep 7 0 0 (2 ∷ 5 ∷ [])
+whole = spanOf Keep bare (2 ∷ 5 ∷ [])
 
 abbrev parted : Span
-parted = spanOf Drop 7 0 0 (2 ∷ 5 ∷ [])
+parted = spanOf Drop bare (2 ∷ 5 ∷ [])
 
 abbrev silence : Cut
 silence = record { left = 2; right = 5 }

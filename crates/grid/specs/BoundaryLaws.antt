@@ -24,6 +24,7 @@ pub record Accepted (g : FrameGrid) : Type 0 where
 step : (k h f : ℕ) → 0 < f → f ≤ h → k * h / f < suc k * h / f
 step k h f F l = le-div-iff-mul-le F .1 (rw (suc-mul (k * h / f) f, suc-mul k h) (add-le-add (div-mul-le-self (k * h) f) l))
 
+-- each frame of an accepted grid starts after the one before
 pub start-rises : (g : FrameGrid) → Accepted g → (k : ℕ) → startOf g k < startOf g (k + 1)
 unfolding startOf
 start-rises g a k = rw add-one (step k (g .hop * g .«sample_rate») (g .«frame_rate») (a .bounded .divisor) (a .spans))
@@ -38,18 +39,22 @@ last-first n start len next h = go (eqb len 0)
     go true t = absurd (not-le-of-lt h (le-of-eq (eqb→eq n 0 t)))
     go false t = ltb→lt start len (and-r (ltb 0 n) (ltb start len) (and-l (ltb 0 n && ltb start len) (ltb len next) t))
 
+-- the last frame of an accepted grid starts before the length
 pub last-start : (g : FrameGrid) → Accepted g → 0 < g .frames → startOf g (g .frames - 1) < g .len
 unfolding covers
 last-start g a h = last-first (g .frames) (startOf g (g .frames - 1)) (g .len) (startOf g (g .frames + 1)) h (a .covered)
 
+-- a boundary below the frame count is the start of its frame
 pub boundary-inner : (g : FrameGrid) (k : ℕ) → k < g .frames → boundaryOf g k ≡ startOf g k
 unfolding boundaryOf
 boundary-inner g k h = rw (lt-ltb k (g .frames) h)
 
+-- every other boundary is the length
 pub boundary-last : (g : FrameGrid) (k : ℕ) → g .frames ≤ k → boundaryOf g k ≡ g .len
 unfolding boundaryOf
 boundary-last g k h = rw (le-ltb k (g .frames) h)
 
+-- the first is 0, where there is a frame
 pub boundary-zero : (g : FrameGrid) → 0 < g .frames → boundaryOf g 0 ≡ 0
 unfolding startOf
 boundary-zero g h = boundary-inner g 0 h ∙ rw (zero-mul, zero-div)

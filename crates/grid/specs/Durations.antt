@@ -22,37 +22,38 @@ pub record InSamples (sampleRate ns : ℕ) : Type 0 where
   pub rate : sampleRate ≤ maxRate
   pub time : ns ≤ maxDuration
 
--- a duration counted in frames is the fraction ns × frame rate / (hop × 10^9)
+-- counted in frames a duration is the fraction ns × frame rate / (hop × 10^9): its numerator
 abbrev pub framesNum : ℕ → ℕ → ℕ
 framesNum frameRate ns = ns * frameRate
 
+-- its denominator
 abbrev pub framesDen : ℕ → ℕ
 framesDen hop = hop * nanosPerSec
 
--- in whole frames, rounded half up
+-- document 01's frames "rounded half up"
 unfoldable pub framesIn : ℕ → ℕ → ℕ → ℕ
 framesIn frameRate hop ns = (framesNum frameRate ns + framesDen hop / 2) / framesDen hop
 
--- in whole frames, rounded up
+-- document 01's frames rounded up
 unfoldable pub framesCeil : ℕ → ℕ → ℕ → ℕ
 framesCeil frameRate hop ns = (framesNum frameRate ns + (framesDen hop - 1)) / framesDen hop
 
--- in whole frames, rounded down
+-- document 01's frames rounded down
 unfoldable pub framesFloor : ℕ → ℕ → ℕ → ℕ
 framesFloor frameRate hop ns = framesNum frameRate ns / framesDen hop
 
--- in whole samples, rounded down
+-- document 01's "samples rounded down"
 unfoldable pub samplesFloor : ℕ → ℕ → ℕ
 samplesFloor rate ns = ns * rate / nanosPerSec
 
 abbrev float : ℕ → Float
 float n = ofInt binary64 (pos n)
 
--- in samples as a float: the whole product rounded to the nearest f64 (ties to even), then divided by 10^9
+-- document 01's samples as a float: "the whole product rounded to the nearest f64 (ties to even), then divided by 10^9"
 unfoldable pub samplesIn : ℕ → ℕ → Float
 samplesIn rate ns = div binary64 (float (ns * rate)) (float nanosPerSec)
 
--- in seconds, as `as_secs_f64` does it: whole seconds plus (remaining nanoseconds / 10^9)
+-- document 01's seconds, "as `as_secs_f64` does it: whole seconds plus (remaining nanoseconds / 10^9), in f64"
 unfoldable pub secondsOf : ℕ → Float
 secondsOf ns = add binary64 (float (ns / nanosPerSec)) (div binary64 (float (ns % nanosPerSec)) (float nanosPerSec))
 

@@ -1,6 +1,6 @@
 -- The frame grid of a recording: limits, boundaries, durations, and the tests 1 to 6.
 
--- Limits: document 01's limits on a recording (`maxRate`, `maxFrameRate`, `maxHop`, `maxFrames`, `maxLen`, `maxDuration`)
+-- Limits: document 01's limits on a recording (`maxRate`, `maxFrameRate`, `maxHop`, `maxFrames`, `maxDuration`); the greatest length is in base_terms
 pub mod Limits
 -- Boundary: where frames start (`startOf`), boundary k (`boundaryOf`), which grids cover a length (`covers`); `Bounded`: the products fit in 64 bits
 pub mod Boundary

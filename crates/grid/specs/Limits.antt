@@ -5,10 +5,11 @@ use Prim.Native.Nat.{ℕ}
 abbrev pub maxRate : ℕ
 maxRate = 192000
 
--- refusal 3: the highest frame rate, and the longest hop
+-- refusal 3: the highest frame rate
 abbrev pub maxFrameRate : ℕ
 maxFrameRate = 192000
 
+-- refusal 3: the longest hop
 abbrev pub maxHop : ℕ
 maxHop = 1048576
 

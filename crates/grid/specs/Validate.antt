@@ -39,11 +39,12 @@ frameStepOk frameRate hop = isWithin frameRate maxFrameRate && isWithin hop maxH
 unfoldable pub framesOk : ℕ → ℕ → ℕ → Bool
 framesOk rate frameRate hop = frameStepOk frameRate hop && leb frameRate (hop * rate)
 
--- 4: not too many frames, a flag for each, and a level for each frame of decibels or none at all for scores
+-- 4: how many levels go with so many frames: one for each frame of decibels, none for scores
 abbrev pub levelCount : Domain → ℕ → ℕ
 levelCount Decibels frames = frames
 levelCount Scores frames = 0
 
+-- 4: not too many frames, a flag for each, and as many levels as go with them
 unfoldable pub listsOk : Domain → ℕ → ℕ → ℕ → Bool
 listsOk domain frames flags levels = leb frames maxFrames && eqb flags frames && eqb levels (levelCount domain frames)
 
@@ -63,6 +64,7 @@ abbrev pub gridOf : Recording → ℕ → FrameGrid
 gridOf r frames =
     record { «sample_rate» = r .«sample_rate»; «frame_rate» = r .«frame_rate»; hop = r .hop; len = r .len; frames = frames }
 
+-- the rest of the chain where a test passes, its refusal where it does not
 abbrev pub orElse : Bool → Validity → Validity → Validity
 orElse passes refusal rest = cond passes rest refusal
 

@@ -32,14 +32,17 @@ pub record AcceptedRecording (r : Recording) (values : List Float) (flags : List
 
 -- ---- what a test that passed says of the numbers
 
+-- a number within its limit is at most that
 pub within-most : (x most : ℕ) → isWithin x most ≡ true → x ≤ most
 unfolding isWithin
 within-most x most e = leb→le x most (and-r (ltb 0 x) (leb x most) (holds e))
 
+-- and it is above 0
 pub within-pos : (x most : ℕ) → isWithin x most ≡ true → 0 < x
 unfolding isWithin
 within-pos x most e = ltb→lt 0 x (and-l (ltb 0 x) (leb x most) (holds e))
 
+-- test 3 of frame rate and hop, taken apart
 pub step-parts : (frameRate hop : ℕ) → frameStepOk frameRate hop ≡ true → (isWithin frameRate maxFrameRate ≡ true) × (isWithin hop maxHop ≡ true)
 unfolding frameStepOk
 step-parts frameRate hop e = both (isWithin frameRate maxFrameRate) (isWithin hop maxHop) e
@@ -74,6 +77,7 @@ length-parts g e = both (leb (g .len) maxLen) (covers g) e
 
 -- ---- the number 0
 
+-- only `Valid` accepts
 pub valid-is : (v : Validity) → isValid v ≡ true → v ≡ Valid
 valid-is Valid e = refl
 valid-is BadSampleRate e = unmet e
@@ -158,6 +162,8 @@ module _ (r : Recording) (values : List Float) (flags : List ℕ) (levels : List
   unfolding validityOf
   passes p = rw (p .rate, p .channels, p .frames, p .lists, p .within, p .length)
 
+  -- ---- and back: what an accepted recording has passed
+
   -- only a recording that has passed all six is accepted
   pub passed : validityOf r values flags levels ≡ Valid → AcceptedRecording r values flags levels
   unfolding validityOf
@@ -170,9 +176,10 @@ module _ (r : Recording) (values : List Float) (flags : List ℕ) (levels : List
       let v = step (lengthOk (gridOf r (length values))) NotCovered tt (u .1) in
       record { rate = p .0; channels = q .0; frames = s .0; lists = t .0; within = u .0; length = v .0 }
 
-  -- so its grid is accepted, and document 01's "in an accepted recording each boundary up to the frame count is above the one before"
+  -- so its grid is accepted
   pub valid-accepted : validityOf r values flags levels ≡ Valid → Accepted (gridOf r (length values))
   valid-accepted e = passed-accepted (passed e)
 
+  -- document 01: "in an accepted recording each boundary up to the frame count is above the one before"
   pub valid-rises : validityOf r values flags levels ≡ Valid → (k : ℕ) → k < length values → boundaryOf (gridOf r (length values)) k < boundaryOf (gridOf r (length values)) (k + 1)
   valid-rises e k h = boundary-rises (gridOf r (length values)) (valid-accepted e) k h

@@ -3,7 +3,8 @@ ghost use mathlib.Core.Path.{_≡_};
 ghost use Rattle.grid.specs.Boundary.{Bounded, boundaryOf, startOf, covers};
 ghost use Prim.Native.Nat.{_≤_, _+_};
 
-// The numbers of a recording that its frame grid stands on. Frame k holds the samples from boundary k up to boundary k + 1.
+// The numbers of a recording that its frame grid stands on.
+// Frame k holds the samples from boundary k up to boundary k + 1.
 pub struct FrameGrid {
     pub sample_rate: u32,
     pub frame_rate: u32,

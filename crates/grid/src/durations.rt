@@ -2,7 +2,8 @@
 ghost use mathlib.Core.Path.{_≡_};
 ghost use Prim.Native.Nat.{_*_, _≤_};
 ghost use Rattle.grid.specs.Limits.{maxRate, maxDuration};
-ghost use Rattle.grid.specs.Durations.{durationOk, InFrames, InSamples, framesIn, framesCeil, framesFloor, samplesFloor, samplesIn, secondsOf, frameSecs};
+ghost use Rattle.grid.specs.Durations.{durationOk, InFrames, InSamples, framesIn, framesCeil, framesFloor};
+ghost use Rattle.grid.specs.Durations.{samplesFloor, samplesIn, secondsOf, frameSecs};
 
 pub const NANOS_PER_SEC: u64 = 1_000_000_000;
 // 24 hours.

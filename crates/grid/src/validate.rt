@@ -2,12 +2,9 @@
 use crate::boundary::FrameGrid;
 use crate::values;
 ghost use mathlib.Core.Path.{_≡_};
-ghost use Prim.Native.Nat.{_≤_};
-ghost use lib.Dec.{T};
-ghost use lib.ListN.{length};
 ghost use Rattle.grid.specs.Boundary.{Bounded};
-ghost use Rattle.grid.specs.Validate.{isWithin, rateOk, channelsOk, frameStepOk, framesOk, levelCount, listsOk, valuesOk, lengthOk};
-ghost use Rattle.grid.specs.Validate.{gridOf, validityOf, isValid, refusalOf};
+ghost use Rattle.grid.specs.Validate.{isWithin, rateOk, channelsOk, frameStepOk, framesOk, levelCount};
+ghost use Rattle.grid.specs.Validate.{listsOk, valuesOk, lengthOk, gridOf, validityOf, isValid, refusalOf};
 
 pub const MAX_RATE: u32 = 192_000;
 

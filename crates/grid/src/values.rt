@@ -1,6 +1,6 @@
 // Tests of the values, levels and flags of a recording, one list each. A NaN is outside every range.
-// A loop goes through its whole list, with `&` and no early exit, so that it works on several elements at a time: almost
-// every list that is lent passes.
+// A loop goes through its whole list, with `&` and no early exit, so that it works on several elements at a time:
+// almost every list that is lent passes.
 ghost use mathlib.Core.Path.{_≡_};
 ghost use Rattle.base_terms.specs.Lists.{allOf};
 ghost use Rattle.grid.specs.Values.{isScore, isFinite, isFlag, isUnflagged};

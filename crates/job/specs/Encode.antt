@@ -18,11 +18,11 @@ use Rattle.silence_list.specs.declared.config.SegmentConfig.{SegmentConfig}
 use Rattle.path_pieces.specs.declared.mode.Mode.{Mode}
 use Rattle.path_pieces.specs.declared.mode.Mode.the-variants.{ByLength, ByCount}
 use Rattle.path_pieces.specs.declared.weights.Weights.{Weights}
-use Rattle.candidate_settings.specs.declared.config.Gap.{Gap}
-use Rattle.candidate_settings.specs.declared.config.Gap.the-variants.{Keep, Drop}
-use Rattle.candidate_settings.specs.declared.config.Placement.{Placement}
-use Rattle.candidate_settings.specs.declared.config.Placement.the-variants.{Quietest, Center, Ratio}
-use Rattle.candidate_settings.specs.declared.config.PlanConfig.{PlanConfig}
+use Rattle.plan_settings.specs.declared.config.Gap.{Gap}
+use Rattle.plan_settings.specs.declared.config.Gap.the-variants.{Keep, Drop}
+use Rattle.plan_settings.specs.declared.config.Placement.{Placement}
+use Rattle.plan_settings.specs.declared.config.Placement.the-variants.{Quietest, Center, Ratio}
+use Rattle.plan_settings.specs.declared.config.PlanConfig.{PlanConfig}
 use Rattle.job.specs.Limits.{mostBytes, mostFrames}
 use Rattle.job.specs.Job.{Asked}
 
@@ -67,6 +67,7 @@ thresholdThen (BelowRef level) rest = 2 ∷ (f32Bytes level ++ rest)
 abbrev pub durationsThen : SegmentConfig → List ℕ → List ℕ
 durationsThen c rest = bytesOf 8 (c .«min_silence») ++ (bytesOf 8 (c .«min_sound») ++ (bytesOf 8 (c .pre) ++ (bytesOf 8 (c .tail) ++ rest)))
 
+-- the domain: 0 scores, 1 decibels
 abbrev pub domainByte : Domain → ℕ
 domainByte Scores = 0
 domainByte Decibels = 1
@@ -82,6 +83,7 @@ abbrev pub flagsAndLevels : Domain → List ℕ → List Float → List ℕ
 flagsAndLevels Decibels flags levels = allBytes (bytesOf 1) flags ++ allBytes f64Bytes levels
 flagsAndLevels Scores flags levels = []
 
+-- the values, and for decibels the flags and levels
 abbrev pub listsBytes : Asked → List ℕ
 listsBytes j = allBytes f32Bytes (j .values) ++ flagsAndLevels (j .recording .domain) (j .flags) (j .levels)
 
@@ -93,41 +95,50 @@ fieldsBytes j =
     (thresholdThen (j .segment .threshold) (durationsThen (j .segment)
     (recordedThen (j .recording) (length (j .values)) (listsBytes j)))))))
 
+-- a whole job: the map and every field
 unfoldable pub encode : Asked → List ℕ
 encode j = bytesOf 2 (mapOf (j .settings .mode)) ++ fieldsBytes j
 
 -- ---- the jobs that can be written
 
--- numbers of 32 and 16 bits
+-- a number of 32 bits
 abbrev pub isU32 : ℕ → Type 0
 isU32 n = n < 4294967296
 
+-- of 16 bits
 abbrev pub isU16 : ℕ → Type 0
 isU16 n = n < 65536
 
+-- a byte
 abbrev pub isByte : ℕ → Bool
 isByte n = ltb n 256
 
+-- a float of 32 bits
 abbrev pub isF32 : Float → Type 0
 isF32 x = T (fits binary32 x)
 
+-- of 64 bits
 abbrev pub isF64 : Float → Type 0
 isF64 x = T (fits binary64 x)
 
+-- the count fits its field, where there is one
 abbrev pub countFits : Mode → Type 0
 countFits ByLength = Unit {0}
 countFits (ByCount count) = isU32 count
 
+-- the ratio, where there is one
 abbrev pub placementFits : Placement → Type 0
 placementFits Quietest = Unit {0}
 placementFits Center = Unit {0}
 placementFits (Ratio ratio) = isF32 ratio
 
+-- the level, where there is one
 abbrev pub thresholdFits : Threshold → Type 0
 thresholdFits Auto = Unit {0}
 thresholdFits (Abs level) = isF32 level
 thresholdFits (BelowRef level) = isF32 level
 
+-- every number of the settings fits its field
 pub record SettingsFit (p : PlanConfig) : Type 0 where
   pub min-fits : isU64 (p .min)
   pub target-fits : isU64 (p .target)
@@ -135,6 +146,7 @@ pub record SettingsFit (p : PlanConfig) : Type 0 where
   pub count-fits : countFits (p .mode)
   pub placement-fits : placementFits (p .placement)
 
+-- every number of the weights fits its field
 pub record WeightsFit (w : Weights) : Type 0 where
   pub cut-fits : isF64 (w .cut)
   pub level-fits : isF64 (w .level)
@@ -143,6 +155,7 @@ pub record WeightsFit (w : Weights) : Type 0 where
   pub target-fits : isF64 (w .target)
   pub short-fits : isF64 (w .short)
 
+-- every number of the segment settings fits its field
 pub record SegmentFits (c : SegmentConfig) : Type 0 where
   pub threshold-fits : thresholdFits (c .threshold)
   pub silence-fits : isU64 (c .«min_silence»)
@@ -150,6 +163,7 @@ pub record SegmentFits (c : SegmentConfig) : Type 0 where
   pub pre-fits : isU64 (c .pre)
   pub tail-fits : isU64 (c .tail)
 
+-- every number of the recording fits its field
 pub record RecordingFits (r : Recording) : Type 0 where
   pub rate-fits : isU32 (r .«sample_rate»)
   pub channels-fit : isU16 (r .channels)

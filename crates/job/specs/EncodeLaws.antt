@@ -20,16 +20,19 @@ use Rattle.silence_list.specs.declared.config.SegmentConfig.{SegmentConfig}
 use Rattle.path_pieces.specs.declared.mode.Mode.{Mode}
 use Rattle.path_pieces.specs.declared.mode.Mode.the-variants.{ByLength, ByCount}
 use Rattle.path_pieces.specs.declared.weights.Weights.{Weights}
-use Rattle.candidate_settings.specs.declared.config.Gap.{Gap}
-use Rattle.candidate_settings.specs.declared.config.Gap.the-variants.{Keep, Drop}
-use Rattle.candidate_settings.specs.declared.config.Placement.{Placement}
-use Rattle.candidate_settings.specs.declared.config.Placement.the-variants.{Quietest, Center, Ratio}
-use Rattle.candidate_settings.specs.declared.config.PlanConfig.{PlanConfig}
+use Rattle.plan_settings.specs.declared.config.Gap.{Gap}
+use Rattle.plan_settings.specs.declared.config.Gap.the-variants.{Keep, Drop}
+use Rattle.plan_settings.specs.declared.config.Placement.{Placement}
+use Rattle.plan_settings.specs.declared.config.Placement.the-variants.{Quietest, Center, Ratio}
+use Rattle.plan_settings.specs.declared.config.PlanConfig.{PlanConfig}
 use Rattle.job.specs.Limits.{mostFrames}
 use Rattle.job.specs.Fields.{stands, u64Field, f32Field, kindField, firstUnknown}
-use Rattle.job.specs.Settings.{lengthsAt, modeAt, gapOf, placementOf, placementAt, shapeAt, weightsIn, weightsAt, settingsAt}
-use Rattle.job.specs.Segment.{thresholdOf, thresholdAt, durationsAt, segmentAt}
-use Rattle.job.specs.Recorded.{domainOf, recordedAt}
+use Rattle.kinds.specs.Flagged.{domainOf, gapOf}
+use Rattle.kinds.specs.Numbered.{thresholdOf, placementOf}
+use Rattle.kinds.specs.NumberedLaws.{threshold-auto, threshold-absolute, threshold-below, placement-quietest, placement-center, placement-ratio}
+use Rattle.job.specs.Settings.{lengthsAt, modeAt, placementAt, shapeAt, weightsIn, weightsAt, settingsAt}
+use Rattle.job.specs.Segment.{thresholdAt, durationsAt, segmentAt}
+use Rattle.job.specs.Recorded.{recordedAt}
 use Rattle.job.specs.Encode.{mapOf, lengthsThen, countThen, gapByte, placementThen, weightsThen, thresholdThen, durationsThen, domainByte, recordedThen}
 use Rattle.job.specs.Encode.{isF32, countFits, placementFits, thresholdFits, SettingsFit, WeightsFit, SegmentFits, RecordingFits}
 use Rattle.job.specs.declared.fields.Kinds.{Kinds}
@@ -49,6 +52,7 @@ pub record Bits (map : ℕ) : Type 0 where
   pub bit10 : stands map 10 ≡ true
   pub bit11 : stands map 11 ≡ true
 
+-- as they do in the map of either mode
 pub bits-of : (mode : Mode) → Bits (mapOf mode)
 bits-of ByLength =
     record { bit0 = refl; bit1 = refl; bit2 = refl; bit4 = refl; bit5 = refl; bit6 = refl; bit7 = refl; bit8 = refl; bit9 = refl; bit10 = refl; bit11 = refl }
@@ -77,7 +81,7 @@ module _ (s : List ℕ) where
   f32-absent at present rest p e = rw p e
 
   kind-field : (kind at most : ℕ) (present : Bool) (rest : List ℕ) → present ≡ true → kind ≤ most → drop at s ≡ kind ∷ rest
-      → (kindField s at present most .kind ≡ kind) × (kindField s at present most .kinds ≡ Known) × (drop (kindField s at present most .next) s ≡ rest)
+      → (kindField s at present most .number ≡ kind) × (kindField s at present most .kinds ≡ Known) × (drop (kindField s at present most .next) s ≡ rest)
   unfolding kindField
   kind-field kind at most present rest p h e =
       let b = byte-ahead s kind at rest e in
@@ -98,20 +102,20 @@ module _ (s : List ℕ) where
 
     placement : (place : Placement) (at : ℕ) (rest : List ℕ) → placementFits place → drop at s ≡ placementThen place rest
         → (placementAt s map at .placement ≡ place) × (placementAt s map at .kinds ≡ Known) × (drop (placementAt s map at .next) s ≡ rest)
-    unfolding placementAt placementOf
+    unfolding placementAt
     placement Quietest at rest f e =
         let k = kind-field 0 at 2 (stands map 5) rest (bits .bit5) (omega arith) e in
-        (rw (k .0), k .1, f32-absent _ _ rest (rw (k .0)) (k .2))
+        (rw (k .0) (placement-quietest _), k .1, f32-absent _ _ rest (rw (k .0)) (k .2))
     placement Center at rest f e =
         let k = kind-field 1 at 2 (stands map 5) rest (bits .bit5) (omega arith) e in
-        (rw (k .0), k .1, f32-absent _ _ rest (rw (k .0)) (k .2))
+        (rw (k .0) (placement-center _), k .1, f32-absent _ _ rest (rw (k .0)) (k .2))
     placement (Ratio ratio) at rest f e =
         let k = kind-field 2 at 2 (stands map 5) (f32Bytes ratio ++ rest) (bits .bit5) (omega arith) e in
         let x = f32-field ratio _ _ rest (ap (λ (n : ℕ). eqb n 2) (k .0)) f (k .2) in
         (ratio-is _ _ ratio (k .0) (x .0), k .1, x .1)
       where
         ratio-is : (n : ℕ) (x r : Float) → n ≡ 2 → x ≡ r → placementOf n x ≡ Ratio r
-        ratio-is n x r a b = rw (a, b)
+        ratio-is n x r a b = rw (a, b) (placement-ratio r)
 
     -- the count stands where the mode has one
     mode : (asked : Mode) (at : ℕ) (rest : List ℕ) → map ≡ mapOf asked → countFits asked → drop at s ≡ countThen asked rest
@@ -120,8 +124,7 @@ module _ (s : List ℕ) where
     mode ByLength at rest m f e = rw m (refl, e)
     mode (ByCount count) at rest m f e = let n = u32-ahead s count at rest f e in rw m (ap ByCount (n .0), n .1)
 
-    gap-is : (gap : Gap) → gapOf (gapByte gap) ≡ gap
-    unfolding gapOf
+    gap-is : (gap : Gap) → gapOf (ltb 0 (gapByte gap)) ≡ gap
     gap-is Keep = refl
     gap-is Drop = refl
 
@@ -151,7 +154,7 @@ module _ (s : List ℕ) where
         let k = kind-field (gapByte (p .gap)) _ 1 (stands map 4) _ (bits .bit4) (gap-known (p .gap)) (a .1) in
         let b = placement (p .placement) _ _ (f .placement-fits) (k .2) in
         let w = weights (p .weights) _ rest g (b .2) in
-        (same p (l .0) (l .1) (l .2) (a .0) (ap gapOf (k .0) ∙ gap-is (p .gap)) (b .0) (w .0), both-known _ _ (k .1) (b .1), w .1)
+        (same p (l .0) (l .1) (l .2) (a .0) (ap (λ (n : ℕ). gapOf (ltb 0 n)) (k .0) ∙ gap-is (p .gap)) (b .0) (w .0), both-known _ _ (k .1) (b .1), w .1)
       where
         same : (p : PlanConfig) {least target most : ℕ} {asked : Mode} {gap : Gap} {place : Placement} {costs : Weights}
             → least ≡ p .min → target ≡ p .target → most ≡ p .max → asked ≡ p .mode → gap ≡ p .gap → place ≡ p .placement → costs ≡ p .weights
@@ -165,24 +168,24 @@ module _ (s : List ℕ) where
 
     threshold : (t : Threshold) (at : ℕ) (rest : List ℕ) → thresholdFits t → drop at s ≡ thresholdThen t rest
         → (thresholdAt s map at .threshold ≡ t) × (thresholdAt s map at .kinds ≡ Known) × (drop (thresholdAt s map at .next) s ≡ rest)
-    unfolding thresholdAt thresholdOf
+    unfolding thresholdAt
     threshold Auto at rest f e =
         let k = kind-field 0 at 2 (stands map 7) rest (bits .bit7) (omega arith) e in
-        (rw (k .0), k .1, f32-absent _ _ rest (rw (k .0)) (k .2))
+        (rw (k .0) (threshold-auto _), k .1, f32-absent _ _ rest (rw (k .0)) (k .2))
     threshold (Abs level) at rest f e =
         let k = kind-field 1 at 2 (stands map 7) (f32Bytes level ++ rest) (bits .bit7) (omega arith) e in
         let x = f32-field level _ _ rest (ap (λ (n : ℕ). ltb 0 n) (k .0)) f (k .2) in
         (abs-is _ _ level (k .0) (x .0), k .1, x .1)
       where
         abs-is : (n : ℕ) (x v : Float) → n ≡ 1 → x ≡ v → thresholdOf n x ≡ Abs v
-        abs-is n x v a b = rw (a, b)
+        abs-is n x v a b = rw (a, b) (threshold-absolute v)
     threshold (BelowRef level) at rest f e =
         let k = kind-field 2 at 2 (stands map 7) (f32Bytes level ++ rest) (bits .bit7) (omega arith) e in
         let x = f32-field level _ _ rest (ap (λ (n : ℕ). ltb 0 n) (k .0)) f (k .2) in
         (below-is _ _ level (k .0) (x .0), k .1, x .1)
       where
         below-is : (n : ℕ) (x v : Float) → n ≡ 2 → x ≡ v → thresholdOf n x ≡ BelowRef v
-        below-is n x v a b = rw (a, b)
+        below-is n x v a b = rw (a, b) (threshold-below v)
 
     pub segment : (g : SegmentConfig) (at : ℕ) (rest : List ℕ) → SegmentFits g → drop at s ≡ thresholdThen (g .threshold) (durationsThen g rest)
         → (segmentAt s map at .segment ≡ g) × (segmentAt s map at .kinds ≡ Known) × (drop (segmentAt s map at .next) s ≡ rest)
@@ -202,8 +205,7 @@ module _ (s : List ℕ) where
 
   -- ---- the recording
 
-  domain-is : (d : Domain) → domainOf (domainByte d) ≡ d
-  unfolding domainOf
+  domain-is : (d : Domain) → domainOf (ltb 0 (domainByte d)) ≡ d
   domain-is Scores = refl
   domain-is Decibels = refl
 
@@ -225,7 +227,7 @@ module _ (s : List ℕ) where
       let n = byte-ahead s (domainByte (r .domain)) (at + 22) _ (on (at + 14 + 8) (at + 22) (omega arith) (l .1)) in
       let behind = on (at + 22 + 1) (at + 23) (omega arith) (n .1) in
       let g = u32-ahead s frames (at + 23) rest (omega arith) behind in (
-        rw (a .0, b .0, c .0, d .0, l .0) (rw (ap domainOf (k .0) ∙ domain-is (r .domain))),
+        rw (a .0, b .0, c .0, d .0, l .0) (rw (ap (λ (n : ℕ). domainOf (ltb 0 n)) (k .0) ∙ domain-is (r .domain))),
         k .1,
         g .0,
         behind,

@@ -32,7 +32,7 @@ kindAt job at present = cond present (byteAt job at) 0
 unfoldable pub kindField : (job : List ℕ) (at : ℕ) (present : Bool) (most : ℕ) → KindField
 kindField job at present most =
     record {
-      kind = kindAt job at present;
+      number = kindAt job at present;
       kinds = cond (leb (kindAt job at present) most) Known (Unknown at);
       next = cond present (at + 1) at;
     }

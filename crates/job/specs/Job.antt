@@ -12,7 +12,7 @@ use Rattle.grid.specs.declared.validate.Domain.{Domain}
 use Rattle.grid.specs.declared.validate.Domain.the-variants.{Decibels, Scores}
 use Rattle.grid.specs.declared.validate.Recording.{Recording}
 use Rattle.silence_list.specs.declared.config.SegmentConfig.{SegmentConfig}
-use Rattle.candidate_settings.specs.declared.config.PlanConfig.{PlanConfig}
+use Rattle.plan_settings.specs.declared.config.PlanConfig.{PlanConfig}
 use Rattle.job.specs.Limits.{mostBytes, mostFrames}
 use Rattle.job.specs.Fields.{firstUnknown}
 use Rattle.job.specs.Settings.{settingsAt}
@@ -86,6 +86,7 @@ pub record Within (job : List ℕ) (h : Head) : Type 0 where
   pub few-frames : h .frames ≤ mostFrames
   pub to-the-end : endOf h ≡ length job
 
+-- a value for each frame, one behind another where the lists begin
 unfoldable pub valuesIn : List ℕ → Head → List Float
 valuesIn job h = tabulate (λ (i : ℕ). f32At job (h .lists + 4 * i)) (h .frames)
 
@@ -94,6 +95,7 @@ abbrev pub flagsFor : List ℕ → Domain → ℕ → ℕ → List ℕ
 flagsFor job Decibels at frames = tabulate (λ (i : ℕ). byteAt job (at + 4 * frames + i)) frames
 flagsFor job Scores at frames = replicate frames 0
 
+-- the flags of a job that was read
 unfoldable pub flagsIn : List ℕ → Head → List ℕ
 flagsIn job h = flagsFor job (h .recording .domain) (h .lists) (h .frames)
 
@@ -102,6 +104,7 @@ abbrev pub levelsFor : List ℕ → Domain → ℕ → ℕ → List Float
 levelsFor job Decibels at frames = tabulate (λ (i : ℕ). f64At job (at + 5 * frames + 8 * i)) frames
 levelsFor job Scores at frames = []
 
+-- its levels
 unfoldable pub levelsIn : List ℕ → Head → List Float
 levelsIn job h = levelsFor job (h .recording .domain) (h .lists) (h .frames)
 
@@ -121,6 +124,7 @@ pub data Outcome : Type 0 where
   asks : Asked → Outcome
   fails : Fault → ℕ → Outcome
 
+-- what was read, with its lists
 unfoldable pub withLists : List ℕ → Reading → Outcome
 withLists job (Job h) =
     asks (record {
@@ -133,5 +137,6 @@ withLists job (Job h) =
     })
 withLists job (Refused fault at) = fails fault at
 
+-- what bytes say as a job
 unfoldable pub jobOf : List ℕ → Outcome
 jobOf job = withLists job (readOf job)

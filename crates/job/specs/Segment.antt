@@ -1,25 +1,19 @@
 -- Bits 7 to 11 of the map: how frame values become silence and sound.
 use Prim.Native.Nat.{ℕ}
-use mathlib.Core.Bool.{cond}
 use mathlib.Core.List.{List}
-use lib.Dec.{ltb, eqb}
-use lib.Ieee.{Float}
-use Rattle.silence_levels.specs.declared.threshold.Threshold.{Threshold}
-use Rattle.silence_levels.specs.declared.threshold.Threshold.the-variants.{Auto, Abs, BelowRef}
+use lib.Dec.{ltb}
+use Rattle.kinds.specs.Numbered.{thresholdOf}
 use Rattle.job.specs.Fields.{stands, u64Field, f32Field, kindField}
 use Rattle.job.specs.declared.segment.ThresholdField.{ThresholdField}
 use Rattle.job.specs.declared.segment.Durations.{Durations}
 use Rattle.job.specs.declared.segment.Segment.{Segment}
 
 -- 7 threshold: 0 auto, 1 absolute, 2 below reference, the last two with an f32
-unfoldable pub thresholdOf : ℕ → Float → Threshold
-thresholdOf kind level = cond (eqb kind 0) Auto (cond (eqb kind 1) (Abs level) (BelowRef level))
-
 unfoldable pub thresholdAt : (job : List ℕ) (map at : ℕ) → ThresholdField
 thresholdAt job map at =
     let kind = kindField job at (stands map 7) 2 in
-    let level = f32Field job (kind .next) (ltb 0 (kind .kind)) in
-    record { threshold = thresholdOf (kind .kind) (level .value); kinds = kind .kinds; next = level .next }
+    let level = f32Field job (kind .next) (ltb 0 (kind .number)) in
+    record { threshold = thresholdOf (kind .number) (level .value); kinds = kind .kinds; next = level .next }
 
 -- 8 to 11 min silence, min sound, pre, tail: u64, else 250, 100, 100, 200 ms, the Rust's `SegmentConfig::default` (segment.rs)
 unfoldable pub durationsAt : (job : List ℕ) (map at : ℕ) → Durations

@@ -2,15 +2,12 @@
 use Prim.Native.Nat.{ℕ, _+_}
 use mathlib.Core.Bool.{false, cond}
 use mathlib.Core.List.{List}
-use lib.Dec.{eqb}
-use lib.Ieee.{Float, binary64, round}
+use lib.Dec.{ltb, eqb}
+use lib.Ieee.{binary64, round}
 use Rattle.numbers_in.specs.Numbers.{u32At, u64At, f64At}
-use Rattle.candidate_settings.specs.declared.config.Gap.{Gap}
-use Rattle.candidate_settings.specs.declared.config.Gap.the-variants.{Keep, Drop}
-use Rattle.candidate_settings.specs.declared.config.Placement.{Placement}
-use Rattle.candidate_settings.specs.declared.config.Placement.the-variants.{Quietest, Center, Ratio}
-use Rattle.path_pieces.specs.declared.mode.Mode.the-variants.{ByLength, ByCount}
 use Rattle.path_pieces.specs.declared.weights.Weights.{Weights}
+use Rattle.kinds.specs.Flagged.{gapOf, modeOf}
+use Rattle.kinds.specs.Numbered.{placementOf}
 use Rattle.job.specs.Fields.{stands, u64Field, f32Field, kindField, firstUnknown}
 use Rattle.job.specs.declared.settings.Lengths.{Lengths}
 use Rattle.job.specs.declared.settings.ModeField.{ModeField}
@@ -30,23 +27,16 @@ lengthsAt job map at =
 -- 3 count: u32, else by length
 unfoldable pub modeAt : (job : List ℕ) (map at : ℕ) → ModeField
 modeAt job map at =
-    record { mode = cond (stands map 3) (ByCount (u32At job at)) ByLength; next = cond (stands map 3) (at + 4) at }
-
--- 4 gap: 0 keep, 1 drop
-unfoldable pub gapOf : ℕ → Gap
-gapOf kind = cond (eqb kind 0) Keep Drop
+    record { mode = modeOf (stands map 3) (u32At job at); next = cond (stands map 3) (at + 4) at }
 
 -- 5 placement: 0 quietest, 1 center, 2 ratio with an f32
-unfoldable pub placementOf : ℕ → Float → Placement
-placementOf kind ratio = cond (eqb kind 0) Quietest (cond (eqb kind 1) Center (Ratio ratio))
-
 unfoldable pub placementAt : (job : List ℕ) (map at : ℕ) → PlacementField
 placementAt job map at =
     let kind = kindField job at (stands map 5) 2 in
-    let ratio = f32Field job (kind .next) (eqb (kind .kind) 2) in
-    record { placement = placementOf (kind .kind) (ratio .value); kinds = kind .kinds; next = ratio .next }
+    let ratio = f32Field job (kind .next) (eqb (kind .number) 2) in
+    record { placement = placementOf (kind .number) (ratio .value); kinds = kind .kinds; next = ratio .next }
 
--- 3 to 5
+-- 3 to 5, with 4 gap: 0 keep, 1 drop
 unfoldable pub shapeAt : (job : List ℕ) (map at : ℕ) → Shape
 shapeAt job map at =
     let asked = modeAt job map at in
@@ -54,7 +44,7 @@ shapeAt job map at =
     let placed = placementAt job map (gap .next) in
     record {
       mode = asked .mode;
-      gap = gapOf (gap .kind);
+      gap = gapOf (ltb 0 (gap .number));
       placement = placed .placement;
       kinds = firstUnknown (gap .kinds) (placed .kinds);
       next = placed .next;

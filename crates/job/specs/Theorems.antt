@@ -15,7 +15,7 @@ use Rattle.grid.specs.declared.validate.Domain.{Domain}
 use Rattle.grid.specs.declared.validate.Domain.the-variants.{Decibels, Scores}
 use Rattle.grid.specs.declared.validate.Recording.{Recording}
 use Rattle.silence_list.specs.declared.config.SegmentConfig.{SegmentConfig}
-use Rattle.candidate_settings.specs.declared.config.PlanConfig.{PlanConfig}
+use Rattle.plan_settings.specs.declared.config.PlanConfig.{PlanConfig}
 use Rattle.path_pieces.specs.declared.mode.Mode.{Mode}
 use Rattle.path_pieces.specs.declared.mode.Mode.the-variants.{ByLength, ByCount}
 use Rattle.job.specs.Answer.{faultNumber}
@@ -36,6 +36,7 @@ use Rattle.job.specs.declared.fields.Kinds.the-variants.{Known}
 
 -- ---- refusals
 
+-- every fault has document 01's number, 19
 pub fault-number : (fault : Fault) → faultNumber fault ≡ 19
 fault-number TooLong = refl
 fault-number UnknownBit = refl

@@ -11,12 +11,13 @@ use Rattle.numbers_in.specs.Numbers.{numberOf}
 use Rattle.grid.specs.declared.validate.Domain.the-variants.{Scores}
 use Rattle.silence_levels.specs.declared.threshold.Threshold.the-variants.{Auto}
 use Rattle.path_pieces.specs.declared.mode.Mode.the-variants.{ByLength}
-use Rattle.candidate_settings.specs.declared.config.Gap.the-variants.{Keep}
-use Rattle.candidate_settings.specs.declared.config.Placement.the-variants.{Quietest}
+use Rattle.plan_settings.specs.declared.config.Gap.the-variants.{Keep}
+use Rattle.plan_settings.specs.declared.config.Placement.the-variants.{Quietest}
+use Rattle.kinds.specs.Numbered.{thresholdOf, placementOf}
 use Rattle.job.specs.Fields.{u64Field, f32Field, kindField, firstUnknown}
-use Rattle.job.specs.Settings.{lengthsAt, modeAt, gapOf, placementOf, placementAt, shapeAt, defaultWeights, weightsAt, settingsAt}
-use Rattle.job.specs.Segment.{thresholdOf, thresholdAt, durationsAt, segmentAt}
-use Rattle.job.specs.Recorded.{domainOf, recordedAt}
+use Rattle.job.specs.Settings.{lengthsAt, modeAt, placementAt, shapeAt, defaultWeights, weightsAt, settingsAt}
+use Rattle.job.specs.Segment.{thresholdAt, durationsAt, segmentAt}
+use Rattle.job.specs.Recorded.{recordedAt}
 use Rattle.job.specs.Job.{numbersOf, fitted, known, readOf, valuesIn, flagsIn, levelsIn, asks, fails, withLists, jobOf}
 use Rattle.job.specs.declared.answer.Fault.the-variants.{TooLong, UnknownBit, UnknownKind, CutShort, TooManyFrames, BytesAfter}
 
@@ -66,7 +67,7 @@ pub reads-R : jobOf jobR
       flags = 0 ∷ 0 ∷ 0 ∷ 0 ∷ 0 ∷ 0 ∷ 0 ∷ [];
       levels = [];
     })
-unfolding jobOf withLists readOf known numbersOf fitted settingsAt lengthsAt shapeAt modeAt gapOf placementOf placementAt weightsAt segmentAt thresholdOf thresholdAt durationsAt domainOf recordedAt u64Field f32Field kindField firstUnknown valuesIn flagsIn levelsIn tabulate numberOf ofBits
+unfolding jobOf withLists readOf known numbersOf fitted settingsAt lengthsAt shapeAt modeAt placementOf placementAt weightsAt segmentAt thresholdOf thresholdAt durationsAt recordedAt u64Field f32Field kindField firstUnknown valuesIn flagsIn levelsIn tabulate numberOf ofBits
 reads-R = refl
 
 -- a byte more, a byte fewer in the lists and in the numbers, bit 12, domain 2, 512 frames, 8,193 bytes
@@ -77,5 +78,5 @@ pub damaged : (jobOf (jobR ++ (0 ∷ [])) ≡ fails BytesAfter 81)
     × (jobOf (set jobR 48 2) ≡ fails UnknownKind 48)
     × (jobOf (set (set jobR 49 0) 50 2) ≡ fails TooManyFrames 49)
     × (jobOf (replicate 8193 0) ≡ fails TooLong 8192)
-unfolding jobOf withLists readOf known numbersOf fitted settingsAt lengthsAt shapeAt modeAt gapOf placementOf placementAt weightsAt segmentAt thresholdOf thresholdAt durationsAt domainOf recordedAt u64Field f32Field kindField firstUnknown valuesIn flagsIn levelsIn tabulate numberOf ofBits
+unfolding jobOf withLists readOf known numbersOf fitted settingsAt lengthsAt shapeAt modeAt placementOf placementAt weightsAt segmentAt thresholdOf thresholdAt durationsAt recordedAt u64Field f32Field kindField firstUnknown valuesIn flagsIn levelsIn tabulate numberOf ofBits
 damaged = (refl, refl, refl, refl, refl, refl, refl)

@@ -1,6 +1,6 @@
 // What the reader answers.
-use candidate_settings::config::PlanConfig;
 use grid::validate::Recording;
+use plan_settings::config::PlanConfig;
 use silence_list::config::SegmentConfig;
 ghost use mathlib.Core.Path.{_≡_};
 ghost use Rattle.job.specs.Answer.{faultNumber};

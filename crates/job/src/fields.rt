@@ -24,9 +24,9 @@ pub enum Kinds {
     Unknown(usize),
 }
 
-// A kind, whether there is one of this number, and the place behind it.
+// The number of a kind, whether there is one of this number, and the place behind it.
 pub struct KindField {
-    pub kind: u8,
+    pub number: u8,
     pub kinds: Kinds,
     pub next: usize,
 }
@@ -39,6 +39,7 @@ pub fn stands(map: u16, weight: u16) -> bool
     map / weight % 2 == 1
 }
 
+// A number, or what it is where it is absent.
 pub fn u64_field(job: &[u8], at: usize, present: bool, absent: u64) -> NumberField
     requires { ⌜ at ≤ 1000 ⌝ }
     ensures { λ r. ⌜ r .next ≤ at + 8 ⌝ }
@@ -82,21 +83,21 @@ pub fn kind_field(job: &[u8], at: usize, present: bool, most: u8) -> KindField
 {
     if !present {
         return KindField {
-            kind: 0,
+            number: 0,
             kinds: Kinds::Known,
             next: at,
         };
     }
-    let kind = number::byte_at(job, at);
-    if kind <= most {
+    let number = number::byte_at(job, at);
+    if number <= most {
         return KindField {
-            kind,
+            number,
             kinds: Kinds::Known,
             next: at + 1,
         };
     }
     KindField {
-        kind,
+        number,
         kinds: Kinds::Unknown(at),
         next: at + 1,
     }

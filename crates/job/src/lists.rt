@@ -1,13 +1,14 @@
-// The lists of a job that was read, put where Plan can take them: at the front of lists that have an entry for each frame.
+// The lists of a job that was read, put where Plan can take them: at the front of lists with an entry for each frame.
 use crate::answer::Head;
 use grid::validate::Domain;
 use numbers_in::lists;
 ghost use mathlib.Core.Path.{_≡_};
 ghost use Prim.Native.Nat.{_≤_};
-ghost use lib.ListN.{length, replicate};
+ghost use lib.ListN.{length};
 ghost use Rattle.base_terms.specs.Lists.{onto};
 ghost use Rattle.job.specs.Job.{valuesIn, flagsIn, levelsIn, Within};
 
+// A value for each frame.
 pub fn put_values(job: &[u8], head: Head, values: &mut [f32])
     requires { ⌜ Within (now job) head ⌝ }
     requires { ⌜ head .frames ≤ length (now values) ⌝ }
@@ -17,15 +18,6 @@ pub fn put_values(job: &[u8], head: Head, values: &mut [f32])
 }
 
 // No frame of scores has a flag.
-fn put_no_flags(frames: usize, flags: &mut [u8])
-    requires { ⌜ frames ≤ length (now flags) ⌝ }
-    ensures { λ _. ⌜ now (flags .exit) ≡ onto (replicate frames 0) (now (flags .entry)) ⌝ }
-{
-    for i in 0..frames {
-        flags[i] = 0;
-    }
-}
-
 pub fn put_flags(job: &[u8], head: Head, flags: &mut [u8])
     requires { ⌜ Within (now job) head ⌝ }
     requires { ⌜ head .frames ≤ length (now flags) ⌝ }
@@ -40,7 +32,7 @@ pub fn put_flags(job: &[u8], head: Head, flags: &mut [u8])
             head.frames,
             flags,
         ),
-        Domain::Scores => put_no_flags(head.frames, flags),
+        Domain::Scores => lists::put_zeros(head.frames, flags),
     }
 }
 

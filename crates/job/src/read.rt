@@ -26,6 +26,7 @@ pub struct Numbers {
     pub kinds: Kinds,
 }
 
+// Settings, segment settings and recording, one behind another.
 fn numbers_of(job: &[u8], map: u16) -> Numbers
     ensures { λ r. ⌜ 4 ≤ r .head .lists ⌝ }
     ensures { λ r. ⌜ r .head .lists ≤ 148 ⌝ }
@@ -90,6 +91,7 @@ fn fit(len: usize, head: Head) -> Reading
     Reading::Job(head)
 }
 
+// The job that bytes say, or the first reason why they say none.
 pub fn read(job: &[u8]) -> Reading
     ensures { λ r. ⌜ r ≡ readOf (now (job .entry)) ⌝ }
 {

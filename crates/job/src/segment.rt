@@ -1,18 +1,21 @@
 // How frame values become silence and sound: bits 7 to 11 of the map.
 use crate::fields;
 use crate::fields::Kinds;
+use kinds::numbered;
 use silence_levels::threshold::Threshold;
 use silence_list::config::SegmentConfig;
 ghost use mathlib.Core.Path.{_≡_};
 ghost use Prim.Native.Nat.{_+_, _≤_};
-ghost use Rattle.job.specs.Segment.{thresholdOf, thresholdAt, durationsAt, segmentAt};
+ghost use Rattle.job.specs.Segment.{thresholdAt, durationsAt, segmentAt};
 
+// The threshold, whether its kind is known, and the place behind it.
 pub struct ThresholdField {
     pub threshold: Threshold,
     pub kinds: Kinds,
     pub next: usize,
 }
 
+// Four durations, and the place behind them.
 pub struct Durations {
     pub min_silence: u64,
     pub min_sound: u64,
@@ -21,32 +24,22 @@ pub struct Durations {
     pub next: usize,
 }
 
+// The segment settings, whether their kind is known, and the place behind them.
 pub struct Segment {
     pub segment: SegmentConfig,
     pub kinds: Kinds,
     pub next: usize,
 }
 
-fn threshold_of(kind: u8, level: f32) -> Threshold
-    ensures { λ r. ⌜ r ≡ thresholdOf kind level ⌝ }
-{
-    if kind == 0 {
-        return Threshold::Auto;
-    }
-    if kind == 1 {
-        return Threshold::Abs(level);
-    }
-    Threshold::BelowRef(level)
-}
-
+// 7: the kind, and its level where it has one.
 fn threshold_at(job: &[u8], map: u16, at: usize) -> ThresholdField
     requires { ⌜ at ≤ 900 ⌝ }
     ensures { λ r. ⌜ r .next ≤ at + 5 ⌝ }
     ensures { λ r. ⌜ r ≡ thresholdAt (now (job .entry)) map at ⌝ }
 {
     let kind = fields::kind_field(job, at, fields::stands(map, 128), 2);
-    let level = fields::f32_field(job, kind.next, 0 < kind.kind);
-    let threshold = threshold_of(kind.kind, level.value);
+    let level = fields::f32_field(job, kind.next, 0 < kind.number);
+    let threshold = numbered::threshold_of(kind.number, level.value);
     let kinds = kind.kinds;
     ThresholdField {
         threshold,
@@ -55,6 +48,7 @@ fn threshold_at(job: &[u8], map: u16, at: usize) -> ThresholdField
     }
 }
 
+// 8 to 11: each, or the Rust's default.
 fn durations_at(job: &[u8], map: u16, at: usize) -> Durations
     requires { ⌜ at ≤ 900 ⌝ }
     ensures { λ r. ⌜ r .next ≤ at + 32 ⌝ }
@@ -73,6 +67,7 @@ fn durations_at(job: &[u8], map: u16, at: usize) -> Durations
     }
 }
 
+// 7 to 11.
 pub fn segment_at(job: &[u8], map: u16, at: usize) -> Segment
     requires { ⌜ at ≤ 800 ⌝ }
     ensures { λ r. ⌜ r .next ≤ at + 37 ⌝ }

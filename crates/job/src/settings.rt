@@ -1,15 +1,17 @@
 // The settings of a plan: bits 0 to 6 of the map.
 use crate::fields;
 use crate::fields::Kinds;
-use candidate_settings::config::Gap;
-use candidate_settings::config::Placement;
-use candidate_settings::config::PlanConfig;
+use kinds::flagged;
+use kinds::numbered;
 use numbers_in::number;
 use path_pieces::mode::Mode;
 use path_pieces::weights::Weights;
+use plan_settings::config::Gap;
+use plan_settings::config::Placement;
+use plan_settings::config::PlanConfig;
 ghost use mathlib.Core.Path.{_≡_};
 ghost use Prim.Native.Nat.{_+_, _≤_};
-ghost use Rattle.job.specs.Settings.{lengthsAt, modeAt, gapOf, placementOf, placementAt, shapeAt};
+ghost use Rattle.job.specs.Settings.{lengthsAt, modeAt, placementAt, shapeAt};
 ghost use Rattle.job.specs.Settings.{weightsIn, defaultWeights, weightsAt, settingsAt};
 
 // How long pieces should be, and the place behind these fields.
@@ -20,11 +22,13 @@ pub struct Lengths {
     pub next: usize,
 }
 
+// The mode, and the place behind it.
 pub struct ModeField {
     pub mode: Mode,
     pub next: usize,
 }
 
+// The placement, whether its kind is known, and the place behind it.
 pub struct PlacementField {
     pub placement: Placement,
     pub kinds: Kinds,
@@ -40,17 +44,20 @@ pub struct Shape {
     pub next: usize,
 }
 
+// The weights, and the place behind them.
 pub struct WeightsField {
     pub weights: Weights,
     pub next: usize,
 }
 
+// The settings of a plan, whether their kinds are known, and the place behind them.
 pub struct Settings {
     pub settings: PlanConfig,
     pub kinds: Kinds,
     pub next: usize,
 }
 
+// 0 to 2: each, or the Rust's default.
 fn lengths_at(job: &[u8], map: u16, at: usize) -> Lengths
     requires { ⌜ at ≤ 900 ⌝ }
     ensures { λ r. ⌜ r .next ≤ at + 24 ⌝ }
@@ -67,59 +74,37 @@ fn lengths_at(job: &[u8], map: u16, at: usize) -> Lengths
     }
 }
 
+// 3: by count where there is a count.
 fn mode_at(job: &[u8], map: u16, at: usize) -> ModeField
     requires { ⌜ at ≤ 900 ⌝ }
     ensures { λ r. ⌜ r .next ≤ at + 4 ⌝ }
     ensures { λ r. ⌜ r ≡ modeAt (now (job .entry)) map at ⌝ }
 {
-    if fields::stands(map, 8) {
-        return ModeField {
-            mode: Mode::ByCount(number::u32_at(job, at)),
-            next: at + 4,
-        };
+    let by_count = fields::stands(map, 8);
+    let mode = flagged::mode_of(by_count, number::u32_at(job, at));
+    if by_count {
+        return ModeField { mode, next: at + 4 };
     }
-    ModeField {
-        mode: Mode::ByLength,
-        next: at,
-    }
+    ModeField { mode, next: at }
 }
 
-fn gap_of(kind: u8) -> Gap
-    ensures { λ r. ⌜ r ≡ gapOf kind ⌝ }
-{
-    if kind == 0 {
-        return Gap::Keep;
-    }
-    Gap::Drop
-}
-
-fn placement_of(kind: u8, ratio: f32) -> Placement
-    ensures { λ r. ⌜ r ≡ placementOf kind ratio ⌝ }
-{
-    if kind == 0 {
-        return Placement::Quietest;
-    }
-    if kind == 1 {
-        return Placement::Center;
-    }
-    Placement::Ratio(ratio)
-}
-
+// 5: the kind, and its ratio where it has one.
 fn placement_at(job: &[u8], map: u16, at: usize) -> PlacementField
     requires { ⌜ at ≤ 900 ⌝ }
     ensures { λ r. ⌜ r .next ≤ at + 5 ⌝ }
     ensures { λ r. ⌜ r ≡ placementAt (now (job .entry)) map at ⌝ }
 {
     let kind = fields::kind_field(job, at, fields::stands(map, 32), 2);
-    let ratio = fields::f32_field(job, kind.next, kind.kind == 2);
+    let ratio = fields::f32_field(job, kind.next, kind.number == 2);
     let kinds = kind.kinds;
     PlacementField {
-        placement: placement_of(kind.kind, ratio.value),
+        placement: numbered::placement_of(kind.number, ratio.value),
         kinds,
         next: ratio.next,
     }
 }
 
+// 3 to 5.
 fn shape_at(job: &[u8], map: u16, at: usize) -> Shape
     requires { ⌜ at ≤ 800 ⌝ }
     ensures { λ r. ⌜ r .next ≤ at + 10 ⌝ }
@@ -130,7 +115,7 @@ fn shape_at(job: &[u8], map: u16, at: usize) -> Shape
     let placed = placement_at(job, map, kind.next);
     let mode = asked.mode;
     let placement = placed.placement;
-    let gap = gap_of(kind.kind);
+    let gap = flagged::gap_of(0 < kind.number);
     let earlier = kind.kinds;
     let later = placed.kinds;
     let kinds = fields::first_unknown(earlier, later);
@@ -143,6 +128,7 @@ fn shape_at(job: &[u8], map: u16, at: usize) -> Shape
     }
 }
 
+// The weights that stand at a place.
 fn weights_in(job: &[u8], at: usize) -> Weights
     requires { ⌜ at ≤ 900 ⌝ }
     ensures { λ r. ⌜ r ≡ weightsIn (now (job .entry)) at ⌝ }
@@ -157,6 +143,7 @@ fn weights_in(job: &[u8], at: usize) -> Weights
     }
 }
 
+// The Rust's `Weights::default`.
 fn default_weights() -> Weights
     ensures { λ r. ⌜ r ≡ defaultWeights ⌝ }
 {
@@ -170,6 +157,7 @@ fn default_weights() -> Weights
     }
 }
 
+// 6: all weights, or their defaults.
 fn weights_at(job: &[u8], map: u16, at: usize) -> WeightsField
     requires { ⌜ at ≤ 900 ⌝ }
     ensures { λ r. ⌜ r .next ≤ at + 48 ⌝ }
@@ -186,6 +174,7 @@ fn weights_at(job: &[u8], map: u16, at: usize) -> WeightsField
     WeightsField { weights, next: at }
 }
 
+// 0 to 6.
 pub fn settings_at(job: &[u8], map: u16, at: usize) -> Settings
     requires { ⌜ at ≤ 700 ⌝ }
     ensures { λ r. ⌜ r .next ≤ at + 82 ⌝ }

@@ -52,7 +52,7 @@ cut-fits : (end start reason : ℕ) → isU64 end → isU64 start → length (cu
 unfolding cutLine joined
 cut-fits end start reason h k = simp length-append (omega (arith, numbers-fit (bytesOf "cut ") end start h k, reason-fits reason))
 
--- a refusal's number has 32 bits
+-- the line of a refusal, whose number has 32 bits, takes no more than `refusalRoom`
 pub refusal-fits : (number : ℕ) → number < 4294967296 → length (refusalLine number) ≤ refusalRoom
 unfolding refusalLine joined
 refusal-fits number h = simp length-append (omega (arith, decimal-fits 9 number (lt-of-lt-of-le h (lit≤ tt))))
@@ -66,6 +66,7 @@ module _ (line : ℕ → ℕ → ℕ → List ℕ) (room : ℕ) (fits : (a b c :
       rw (lines-more line numbers n, length-append)
       (omega (arith, lines-fit n numbers w, fits (row .from) (row .to) (row .mark) (w .at (3 * n)) (w .at (3 * n + 1))))
 
+-- a listing of n pieces takes no more than `roomFor n`
 pub listing-fits : (n : ℕ) (pieces cuts : List ℕ) → isU64 n → AllWide pieces → AllWide cuts
     → length (listingOf n pieces cuts) ≤ roomFor n
 unfolding listingOf listed joined

@@ -12,7 +12,7 @@ pub mod Parse
 pub mod Written
 -- TextLaws: the fewest digits that hold a number are those of `decimalOf`, how many there are (`decimal-fits`), and none is a leading zero
 pub mod TextLaws
--- WrittenLaws: texts written one behind another (`Rooms`, `Wrote`), and the bytes of one text (`Writing`)
+-- WrittenLaws: texts written one behind another (`Rooms`, `Wrote`), and the bytes of one text (`BytesWritten`)
 pub mod WrittenLaws
 -- LineLaws: the lines as the texts that they are made of
 pub mod LineLaws

@@ -10,6 +10,8 @@ use Rattle.listing.specs.Listing.{flagsWord, reasonWord, numbersLine, pl
 use Rattle.listing.specs.Written.{Room, Written}
 use Rattle.listing.specs.WrittenLaws.{Rooms, Wrote}
 
+-- ---- lines: where there is room for one, there is room for the texts that it is made of
+
 module _ {list : List ℕ} {at : ℕ} where
   pub numbers-rooms : (word : List ℕ) (a b : ℕ) → Room (length (numbersLine word a b)) list at
       → Rooms (word ∷ decimalOf a ∷ bytesOf " " ∷ decimalOf b ∷ []) list at
@@ -34,13 +36,16 @@ module _ {list : List ℕ} {at : ℕ} where
   unfolding refusalLine
   refusal-rooms number r = record { all = r }
 
--- the listing of a plan of n pieces and m cuts
+-- ---- the listing of a plan of n pieces and m cuts
+
 module _ (n m : ℕ) (pieces cuts : List ℕ) (counts : m ≡ n - 1) {list : List ℕ} {at : ℕ} where
+  -- where there is room for it, there is room for its lines
   pub listing-rooms : Room (length (listingOf n pieces cuts)) list at
       → Rooms (planLine n m ∷ linesOf pieceLine (rowsOf n pieces) ∷ linesOf cutLine (rowsOf m cuts) ∷ []) list at
   unfolding listingOf listed
   listing-rooms r = rw counts (record { all = rw (tabulate-length (rowAt pieces) n, tabulate-length (rowAt cuts) (n - 1)) at r })
 
+  -- its lines, one behind another, are the listing
   pub listing-wrote : {after : List ℕ} {next : ℕ}
       → Wrote (planLine n m ∷ linesOf pieceLine (rowsOf n pieces) ∷ linesOf cutLine (rowsOf m cuts) ∷ []) list at after next
       → Written (listingOf n pieces cuts) list at after next

@@ -21,6 +21,7 @@ module _ (line : ℕ → ℕ → ℕ → List ℕ) where
   lines-snoc [] row = append-nil (lineOf line row)
   lines-snoc (first ∷ rows) row = rw (lines-snoc rows row, append-assoc)
 
+  -- the lines of one row more: its line stands behind the others
   pub lines-more : (numbers : List ℕ) (i : ℕ) → linesOf line (rowsOf (suc i) numbers) ≡ linesOf line (rowsOf i numbers) ++ lineOf line (rowAt numbers i)
   unfolding tabulate
   lines-more numbers i = lines-snoc (rowsOf i numbers) (rowAt numbers i)
@@ -39,6 +40,7 @@ pub record Lines (line : ℕ → ℕ → ℕ → List ℕ) (n : ℕ) (numbers be
   pub same : length now ≡ length before
   pub written : Written (linesOf line (rowsOf i numbers)) before at now next
 
+-- no line is written yet
 pub lines-start : {line : ℕ → ℕ → ℕ → List ℕ} {n : ℕ} {numbers before : List ℕ} {at : ℕ} → Room (length (linesOf line (rowsOf n numbers))) before at
     → Lines line n numbers before at before at 0
 unfolding linesOf joined tabulate

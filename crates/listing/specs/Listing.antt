@@ -31,10 +31,11 @@ pieceLine start end flags = joined (numbersLine (bytesOf "piece ") start end ∷
 unfoldable pub cutLine : ℕ → ℕ → ℕ → List ℕ
 cutLine end start reason = joined (numbersLine (bytesOf "cut ") end start ∷ bytesOf " " ∷ reasonWord reason ∷ bytesOf "\n" ∷ [])
 
--- a line for each row
+-- the line of a row
 abbrev pub lineOf : (ℕ → ℕ → ℕ → List ℕ) → Row → List ℕ
 lineOf line row = line (row .from) (row .to) (row .mark)
 
+-- a line for each row
 unfoldable pub linesOf : (ℕ → ℕ → ℕ → List ℕ) → List Row → List ℕ
 linesOf line rows = joined (map (lineOf line) rows)
 
@@ -52,15 +53,19 @@ refusalLine number = joined (bytesOf "refused " ∷ decimalOf number ∷ bytesOf
 
 -- ---- the most bytes, where no number has more than 20 digits, and a refusal's no more than 10
 
+-- the first line: `plan `, two numbers, a space and the line feed
 abbrev pub planLineRoom : ℕ
 planLineRoom = 47
 
+-- a piece's line: `piece `, two numbers, two spaces, `sl` and the line feed
 abbrev pub pieceLineRoom : ℕ
 pieceLineRoom = 51
 
+-- a cut's line: `cut `, two numbers, two spaces, `silence` and the line feed
 abbrev pub cutLineRoom : ℕ
 cutLineRoom = 54
 
+-- a refusal's line: `refused `, a number and the line feed
 abbrev pub refusalRoom : ℕ
 refusalRoom = 19
 

@@ -32,6 +32,7 @@ pub record Read (A : Type 0) : Type 0 where
   pub value : A
   pub rest : List ℕ
 
+-- what was read, from its two parts
 abbrev pub readOf : {A : Type 0} → A → List ℕ → Read A
 readOf value rest = record { value = value; rest = rest }
 
@@ -53,6 +54,7 @@ wordIn [] bytes = some bytes
 wordIn (b ∷ word) [] = none
 wordIn (b ∷ word) (c ∷ bytes) = cond (eqb b c) (wordIn word bytes) none
 
+-- a byte is one of the ten digits
 abbrev pub isDigit : ℕ → Bool
 isDigit b = leb (digitOf 0) b && leb b (digitOf 9)
 

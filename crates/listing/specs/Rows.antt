@@ -11,6 +11,7 @@ pub record Row : Type 0 where
   pub to : ℕ
   pub mark : ℕ
 
+-- row i of the numbers
 abbrev pub rowAt : List ℕ → ℕ → Row
 rowAt numbers i = record { from = getD numbers (3 * i) 0; to = getD numbers (3 * i + 1) 0; mark = getD numbers (3 * i + 2) 0 }
 

@@ -16,6 +16,7 @@ pub empty-plan : listingOf 0 [] [] ≡ bytesOf "plan 0 0\n"
 unfolding listingOf listed linesOf planLine numbersLine decimalOf decimalWithin joined tabulate
 empty-plan = refl
 
+-- a refusal, as it is printed
 pub refusal-19 : refusalLine 19 ≡ bytesOf "refused 19\n"
 unfolding refusalLine decimalOf decimalWithin joined
 refusal-19 = refl

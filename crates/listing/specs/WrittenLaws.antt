@@ -15,6 +15,7 @@ sets-append : (a b list : List ℕ) (at : ℕ) → sets list at (a ++ b) ≡ set
 sets-append [] b list at = ap (λ (k : ℕ). sets list k b) (omega arith)
 sets-append (x ∷ a) b list at = sets-append a b (set list at x) (suc at) ∙ ap (λ (k : ℕ). sets (sets (set list at x) (suc at) a) k b) (omega arith)
 
+-- an empty text changes nothing
 pub written-none : (list : List ℕ) (at : ℕ) → Written [] list at list at
 written-none list at = record { bytes = refl; behind = omega arith }
 
@@ -32,11 +33,12 @@ written-then {a} {list₀} {list₁} {list₂} {at₀} b v w = record {
 pub record Rooms (parts : List (List ℕ)) (list : List ℕ) (at : ℕ) : Type 0 where
   pub all : Room (length (joined parts)) list at
 
--- there is room for the first, and behind it for the others
+-- there is room for the first
 pub room-first : {a : List ℕ} {parts : List (List ℕ)} {list : List ℕ} {at : ℕ} → Rooms (a ∷ parts) list at → Room (length a) list at
 unfolding joined
 room-first {a} {parts} r = record { enough = omega (arith, length-append a (joined parts), r .all .enough) }
 
+-- once the first is written, there is room for the others behind it
 pub room-then : {a : List ℕ} {parts : List (List ℕ)} {list₀ list₁ : List ℕ} {at₀ at₁ : ℕ} → Rooms (a ∷ parts) list₀ at₀ → Written a list₀ at₀ list₁ at₁
     → Rooms parts list₁ at₁
 unfolding joined
@@ -48,10 +50,12 @@ room-then {a} {parts} {list₀} {list₁} {at₀} r w =
 pub record Wrote (parts : List (List ℕ)) (before : List ℕ) (at : ℕ) (after : List ℕ) (next : ℕ) : Type 0 where
   pub all : Written (joined parts) before at after next
 
+-- of no texts nothing is written
 pub wrote-none : {list : List ℕ} {at : ℕ} → Wrote [] list at list at
 unfolding joined
 wrote-none {list} {at} = record { all = written-none list at }
 
+-- a text, and behind it the others
 pub wrote-then : {a : List ℕ} {parts : List (List ℕ)} {list₀ list₁ list₂ : List ℕ} {at₀ at₁ at₂ : ℕ} → Written a list₀ at₀ list₁ at₁
     → Wrote parts list₁ at₁ list₂ at₂ → Wrote (a ∷ parts) list₀ at₀ list₂ at₂
 unfolding joined
@@ -73,19 +77,22 @@ written-counts {text} {before} {after} {next} r w =
 
 -- ---- a loop that ends at `end` and writes one byte after another; i are written
 
-pub record Writing (text before : List ℕ) (at end : ℕ) (now : List ℕ) (i : ℕ) : Type 0 where
+-- the first i bytes stand there, and there is room for all
+pub record BytesWritten (text before : List ℕ) (at end : ℕ) (now : List ℕ) (i : ℕ) : Type 0 where
   pub within : i ≤ length text
   pub ends : end ≡ length text
   pub room : at + length text ≤ length before
   pub same : length now ≡ length before
   pub bytes : now ≡ sets before at (take i text)
 
-pub writing-start : {text before : List ℕ} {at : ℕ} → Room (length text) before at → Writing text before at (length text) before 0
-writing-start r = record { within = omega arith; ends = refl; room = r .enough; same = refl; bytes = refl }
+-- none is written yet
+pub bytes-start : {text before : List ℕ} {at : ℕ} → Room (length text) before at → BytesWritten text before at (length text) before 0
+bytes-start r = record { within = omega arith; ends = refl; room = r .enough; same = refl; bytes = refl }
 
-module _ {text before : List ℕ} {at end : ℕ} {now : List ℕ} {i : ℕ} (w : Writing text before at end now i) where
-  pub writing-next : i < end → Writing text before at end (set now (at + i) (getD text i 0)) (i + 1)
-  writing-next l =
+module _ {text before : List ℕ} {at end : ℕ} {now : List ℕ} {i : ℕ} (w : BytesWritten text before at end now i) where
+  -- one more is written
+  pub bytes-next : i < end → BytesWritten text before at end (set now (at + i) (getD text i 0)) (i + 1)
+  bytes-next l =
       let below : i < length text = omega (arith, w .ends) in
       let put : set now (at + i) (getD text i 0) ≡ sets before at (take (suc i) text) =
       rw (w .bytes, take-suc text i 0 below, sets-append (take i text) (getD text i 0 ∷ []) before at, length-take-le i text (w .within)) in
@@ -97,5 +104,6 @@ module _ {text before : List ℕ} {at end : ℕ} {now : List ℕ} {i : ℕ} (w :
         bytes = rw add-one put;
       }
 
-  pub writing-done : end ≤ i → Written text before at now (at + length text)
-  writing-done l = record { bytes = w .bytes ∙ ap (sets before at) (take-all i text (omega (arith, w .ends))); behind = refl }
+  -- all are written
+  pub bytes-done : end ≤ i → Written text before at now (at + length text)
+  bytes-done l = record { bytes = w .bytes ∙ ap (sets before at) (take-all i text (omega (arith, w .ends))); behind = refl }

@@ -15,6 +15,7 @@ fn put_numbers(word: &[u8], a: u64, b: u64, at: usize, out: &mut [u8]) -> usize
     put::put_number(b, at, &mut *out)
 }
 
+// The first line: how many pieces, and how many cuts.
 pub fn put_plan(pieces: u64, cuts: u64, at: usize, out: &mut [u8]) -> usize
     requires { ⌜ Room (length (planLine pieces cuts)) (now out) at ⌝ }
     ensures { λ r. ⌜ Written (planLine pieces cuts) (now (out .entry)) at (now (out .exit)) r ⌝ }
@@ -23,6 +24,7 @@ pub fn put_plan(pieces: u64, cuts: u64, at: usize, out: &mut [u8]) -> usize
     put::put_text(b"\n", at, &mut *out)
 }
 
+// The line of a piece: its start, its end and its flags.
 pub fn put_piece(start: u64, end: u64, flags: u64, at: usize, out: &mut [u8]) -> usize
     requires { ⌜ Room (length (pieceLine start end flags)) (now out) at ⌝ }
     ensures { λ r. ⌜ Written (pieceLine start end flags) (now (out .entry)) at (now (out .exit)) r ⌝ }
@@ -33,6 +35,7 @@ pub fn put_piece(start: u64, end: u64, flags: u64, at: usize, out: &mut [u8]) ->
     put::put_text(b"\n", at, &mut *out)
 }
 
+// The line of a cut: the previous piece's end, the next one's start, and the reason.
 pub fn put_cut(end: u64, start: u64, reason: u64, at: usize, out: &mut [u8]) -> usize
     requires { ⌜ Room (length (cutLine end start reason)) (now out) at ⌝ }
     ensures { λ r. ⌜ Written (cutLine end start reason) (now (out .entry)) at (now (out .exit)) r ⌝ }
@@ -43,6 +46,7 @@ pub fn put_cut(end: u64, start: u64, reason: u64, at: usize, out: &mut [u8]) -> 
     put::put_text(b"\n", at, &mut *out)
 }
 
+// The line of a refusal: its number.
 pub fn put_refusal(number: u64, at: usize, out: &mut [u8]) -> usize
     requires { ⌜ Room (length (refusalLine number)) (now out) at ⌝ }
     ensures { λ r. ⌜ Written (refusalLine number) (now (out .entry)) at (now (out .exit)) r ⌝ }

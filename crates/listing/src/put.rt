@@ -4,6 +4,7 @@ ghost use Rattle.listing.specs.Text.{decimalOf};
 ghost use Rattle.listing.specs.Listing.{flagsWord, reasonWord};
 ghost use Rattle.listing.specs.Written.{Room, Written};
 
+// A text, byte by byte.
 pub fn put_text(text: &[u8], at: usize, out: &mut [u8]) -> usize
     requires { ⌜ Room (length (now text)) (now out) at ⌝ }
     ensures { λ r. ⌜ Written (now (text .entry)) (now (out .entry)) at (now (out .exit)) r ⌝ }
@@ -14,6 +15,7 @@ pub fn put_text(text: &[u8], at: usize, out: &mut [u8]) -> usize
     at + text.len()
 }
 
+// A number in decimal: one of 64 bits has 20 digits at most.
 pub fn put_number(n: u64, at: usize, out: &mut [u8]) -> usize
     requires { ⌜ Room (length (decimalOf n)) (now out) at ⌝ }
     ensures { λ r. ⌜ Written (decimalOf n) (now (out .entry)) at (now (out .exit)) r ⌝ }
@@ -23,6 +25,7 @@ pub fn put_number(n: u64, at: usize, out: &mut [u8]) -> usize
     put_text(&digits[..k], at, out)
 }
 
+// A piece's flags: none, short, long or both.
 pub fn put_flags(flags: u64, at: usize, out: &mut [u8]) -> usize
     requires { ⌜ Room (length (flagsWord flags)) (now out) at ⌝ }
     ensures { λ r. ⌜ Written (flagsWord flags) (now (out .entry)) at (now (out .exit)) r ⌝ }
@@ -39,6 +42,7 @@ pub fn put_flags(flags: u64, at: usize, out: &mut [u8]) -> usize
     put_text(b"sl", at, out)
 }
 
+// A cut's reason: silence, quiet or forced.
 pub fn put_reason(reason: u64, at: usize, out: &mut [u8]) -> usize
     requires { ⌜ Room (length (reasonWord reason)) (now out) at ⌝ }
     ensures { λ r. ⌜ Written (reasonWord reason) (now (out .entry)) at (now (out .exit)) r ⌝ }

@@ -7,14 +7,17 @@ ghost use lib.ListN.{length};
 ghost use Rattle.base_terms.specs.Lists.{onto};
 ghost use Rattle.io.specs.Counts.{Counts};
 ghost use Rattle.listing.specs.Rows.{rowsOf};
-ghost use Rattle.listing.specs.Listing.{pieceLine, cutLine, linesOf, listingOf, refusalLine, roomFor, refusalRoom};
+ghost use Rattle.listing.specs.Listing.{pieceLine, cutLine, linesOf, listingOf, refusalLine};
+ghost use Rattle.listing.specs.Listing.{roomFor, refusalRoom};
 ghost use Rattle.listing.specs.Written.{Room, Written};
 
 // A line for each of n pieces: start, end and flags of piece i at pieces[3 i ..].
 fn put_pieces(n: usize, pieces: &[u64], at: usize, out: &mut [u8]) -> usize
     requires { ⌜ 3 * n ≤ length (now pieces) ⌝ }
     requires { ⌜ Room (length (linesOf pieceLine (rowsOf n (now pieces)))) (now out) at ⌝ }
-    ensures { λ r. ⌜ Written (linesOf pieceLine (rowsOf n (now (pieces .entry)))) (now (out .entry)) at (now (out .exit)) r ⌝ }
+    ensures { λ r. ⌜
+        Written (linesOf pieceLine (rowsOf n (now (pieces .entry)))) (now (out .entry)) at (now (out .exit)) r
+        ⌝ }
 {
     let mut next = at;
     for i in 0..n {
@@ -33,7 +36,9 @@ fn put_pieces(n: usize, pieces: &[u64], at: usize, out: &mut [u8]) -> usize
 fn put_cuts(n: usize, cuts: &[u64], at: usize, out: &mut [u8]) -> usize
     requires { ⌜ 3 * n ≤ length (now cuts) ⌝ }
     requires { ⌜ Room (length (linesOf cutLine (rowsOf n (now cuts)))) (now out) at ⌝ }
-    ensures { λ r. ⌜ Written (linesOf cutLine (rowsOf n (now (cuts .entry)))) (now (out .entry)) at (now (out .exit)) r ⌝ }
+    ensures { λ r. ⌜
+        Written (linesOf cutLine (rowsOf n (now (cuts .entry)))) (now (out .entry)) at (now (out .exit)) r
+        ⌝ }
 {
     let mut next = at;
     for i in 0..n {
@@ -48,13 +53,17 @@ fn put_cuts(n: usize, cuts: &[u64], at: usize, out: &mut [u8]) -> usize
     next
 }
 
-// Writes the listing of a plan of n pieces to the front of `out`, and answers how many bytes it has. `Counts` lets a caller hand on that front.
+// Writes the listing of a plan of n pieces to the front of `out`, and answers how many bytes it has.
+// `Counts` lets a caller hand on that front.
 pub fn write_plan(n: usize, pieces: &[u64], cuts: &[u64], out: &mut [u8]) -> usize
     requires { ⌜ 3 * n ≤ length (now pieces) ⌝ }
     requires { ⌜ 3 * (n - 1) ≤ length (now cuts) ⌝ }
     requires { ⌜ roomFor n ≤ length (now out) ⌝ }
     ensures { λ r. ⌜ r ≡ length (listingOf n (now (pieces .entry)) (now (cuts .entry))) ⌝ }
-    ensures { λ _. ⌜ now (out .exit) ≡ onto (listingOf n (now (pieces .entry)) (now (cuts .entry))) (now (out .entry)) ⌝ }
+    ensures { λ _. ⌜
+        now (out .exit)
+        ≡ onto (listingOf n (now (pieces .entry)) (now (cuts .entry))) (now (out .entry))
+        ⌝ }
     ensures { λ r. ⌜ Counts r (now (out .exit)) ⌝ }
 {
     let m = sizes::less(n, 1);

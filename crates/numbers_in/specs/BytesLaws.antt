@@ -13,7 +13,7 @@ use lib.Seq.{take-at, drop-at, drop-drop, getD-drop}
 use Rattle.base_laws.specs.Tests.{both, holds}
 use Rattle.base_terms.specs.Lists.{tabulate, allOf}
 use Rattle.base_code.specs.FrontLaws.{tabulate-first}
-use Rattle.numbers_in.specs.Numbers.{numberOf, numberAt, byteAt, u16At, u32At, u64At, f32At, f64At}
+use Rattle.numbers_in.specs.Numbers.{sevenBytes, numberOf, numberAt, byteAt, u16At, u32At, u64At, f32At, f64At}
 use Rattle.numbers_in.specs.Bytes.{bytesOf, f32Bytes, f64Bytes, allBytes}
 
 -- ---- one number
@@ -23,6 +23,7 @@ abbrev beyond : ℕ → ℕ
 beyond zero = 1
 beyond (suc size) = 256 * beyond size
 
+-- there are as many as were asked for
 pub bytes-length : (size n : ℕ) → length (bytesOf size n) ≡ size
 unfolding bytesOf
 bytes-length zero n = refl
@@ -34,7 +35,7 @@ number-bytes zero n b h = omega arith
 number-bytes (suc size) n b h = step (beyond size) (numberOf (bytesOf size (n / 256))) b h (λ x y. number-bytes size (n / 256) x y)
   where
     step : (m w : ℕ) → 256 * m ≤ 18446744073709551616 → n < 256 * m → (m ≤ 18446744073709551616 → n / 256 < m → w ≡ n / 256)
-        → w % 72057594037927936 * 256 + n % 256 ≡ n
+        → w % sevenBytes * 256 + n % 256 ≡ n
     step m w x y f = let e : w ≡ n / 256 = f (omega arith) (omega arith) in rw e (omega arith)
 
 module _ (s : List ℕ) where
@@ -45,6 +46,8 @@ module _ (s : List ℕ) where
     ap (λ (xs : List ℕ). numberOf (take size xs)) e ∙ ap numberOf (take-at (bytesOf size n) rest size (bytes-length size n)) ∙ number-bytes size n b h,
     sym (drop-drop size at s) ∙ ap (drop size) e ∙ drop-at (bytesOf size n) rest size (bytes-length size n),
   )
+
+  -- ---- a number that stands ahead of a place is read there, and what is behind it stands ahead of the next place
 
   pub u64-ahead : (n at : ℕ) (rest : List ℕ) → n < 18446744073709551616 → drop at s ≡ bytesOf 8 n ++ rest → (u64At s at ≡ n) × (drop (at + 8) s ≡ rest)
   u64-ahead n at rest h e = number-ahead 8 n at rest (omega arith) h e
@@ -97,6 +100,7 @@ module _ {A : Type 0} (s : List ℕ) (size : ℕ) (read : ℕ → A) (write : A 
         ap (λ (k : ℕ). drop k s) (one-on at size (length xs)) ∙ others .1,
       )
 
+-- elements of one size: so many bytes in all
 pub all-bytes-length : {A : Type 0} (write : A → List ℕ) (size : ℕ) → ((x : A) → length (write x) ≡ size) → (xs : List A) → length (allBytes write xs) ≡ size * length xs
 unfolding allBytes
 all-bytes-length write size h [] = sym (mul-zero size)

@@ -8,35 +8,37 @@ use borrow.Rule.Slice.PartMut.{putMid}
 use lib.Ieee.{Float, binary64, ofBits}
 use lib.ListN.{length, getD, set}
 use Rattle.base_laws.specs.Nonneg.{nought-is}
+use Rattle.base_terms.specs.Layout.{behindTree, endByCount}
 use Rattle.base_terms.specs.Lists.{onto}
 use Rattle.base_code.specs.FrontLaws.{onto-nil, onto-next}
 use Rattle.path_pieces.specs.declared.lengths.Lengths.{Lengths}
 use Rattle.path_pieces.specs.declared.score.Score.{Score}
-use Rattle.path_by_length.specs.Paths.{piecesOf, lastOf}
-use Rattle.path_by_length.specs.ByCount.{bestWith, wayWith, bestPathByCount, bestScoreByCount}
+use Rattle.path_rules.specs.Paths.{piecesOf, lastOf}
+use Rattle.path_by_count.specs.Table.{bestWith, wayWith, bestPathByCount, bestScoreByCount}
 use Rattle.path_by_count_search.specs.Tree.{Leaves}
 use Rattle.path_by_count_rows.specs.First.{FirstStarts}
 use Rattle.path_by_count_rows.specs.Rows.{Laid, leafScore}
-use Rattle.path_by_count.specs.Table.{RowsFilled}
-use Rattle.path_by_count.specs.TableLaws.{put-part}
+use Rattle.path_by_count.specs.Filled.{RowsFilled}
+use Rattle.path_by_count.specs.FilledLaws.{put-part}
 use Rattle.path_by_count.specs.Walk.{wayIn}
 use Rattle.path_by_count.specs.WalkLaws.{way-length, rows-back, rows-way}
 use Rattle.path_by_count.specs.Counted.{TreeRoom, Sought, SolutionByCount}
 
 module _ {l : Lengths} {left right : List ℕ} where
   -- the first starts written behind the tree
-  pub room-laid : {over : List ℕ} {cost : List Float} {leaves : ℕ} (first : List ℕ) → TreeRoom l left right over cost → Leaves (length left) leaves
-      → FirstStarts (l .limit) left right first → length (putMid (length left * 4) (length left * 5 - length left * 4) over first) ≡ length over
-      → Laid l left right leaves (putMid (length left * 4) (length left * 5 - length left * 4) over first) cost
-  room-laid {over} {cost} {leaves} first r t f e =
+  pub room-laid : {over : List ℕ} {cost : List Float} {leaves from to : ℕ} (first : List ℕ) → TreeRoom l left right over cost → Leaves (length left) leaves
+      → from ≡ behindTree (length left) → to ≡ endByCount (length left) → FirstStarts (l .limit) left right first
+      → length (putMid from (to - from) over first) ≡ length over → Laid l left right leaves (putMid from (to - from) over first) cost
+  room-laid {over} {cost} {leaves} {from} {to} first r t ef et f e =
       let n = length left in
-      let d : n * 5 - n * 4 ≡ n = omega arith in
+      let d : to - from ≡ n = omega (arith, ef, et) in
       record {
         domain = r .domain;
         tree = t;
         overs = omega (arith, r .overs, e);
         costs = r .costs;
-        firsts = λ j h. ap (λ (w : ℕ). getD (putMid (n * 4) w over first) (n * 4 + j) 0) d ∙ put-part over first (n * 4) n 0 (f .each) (omega (arith, r .overs)) j h ∙ f .start j h;
+        firsts = λ j h. ap (λ (w : ℕ). getD (putMid from w over first) (behindTree n + j) 0) d ∙ ap (λ (m : ℕ). getD (putMid from n over first) (m + j) 0) (sym ef)
+            ∙ put-part over first from n 0 (f .each) (omega (arith, r .overs, ef)) j h ∙ f .start j h;
       }
 
   module _ {cut : List Float} where

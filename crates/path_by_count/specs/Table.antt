@@ -1,21 +1,37 @@
--- The table by count in the lent lists: the last row's scores at the leaves, and each row's parents in its part of the flat list, row 1 first.
-use mathlib.Core.Path.{_≡_}
-use mathlib.Core.List.{List}
-use Prim.Native.Nat.{ℕ, suc, _+_, _*_, _≤_, _<_}
+-- The table by count: at each candidate the best score with an exact number of pieces, where the last of them starts, and the path that the table gives.
+-- In words: with one piece a path comes from the first candidate, whatever its length; with k + 1 pieces the best score at j is the least of the best scores with k pieces before it,
+-- at the candidates from k on, which k pieces can reach, each plus an allowed piece from there, and then the cut at j.
+use mathlib.Core.List.{List, [], _∷_, _++_}
+use Prim.Native.Nat.{ℕ, zero, suc}
 use lib.Ieee.{Float}
-use lib.ListN.{length, getD}
+use Rattle.path_pieces.specs.Pieces.{pieceLength, noScore, withPiece, withCutAt}
 use Rattle.path_pieces.specs.declared.lengths.Lengths.{Lengths}
-use Rattle.path_by_length.specs.ByCount.{bestWith, parentWith}
-use Rattle.path_by_count_rows.specs.Rows.{leafScore, behind, Laid, Row}
+use Rattle.path_pieces.specs.declared.score.Score.{Score}
+use Rattle.path_pieces.specs.Least.{foundScore, foundIndex, predecessorOf}
+use Rattle.path_rules.specs.Paths.{piecesOf, lastOf}
 
--- the parent of candidate j in row m + 1 of a flat list of rows of n entries
-abbrev pub parentIn : List ℕ → ℕ → ℕ → ℕ → ℕ
-parentIn parent n m j = getD parent (m * n + j) 0
+module _ (l : Lengths) (left right : List ℕ) (cut : List Float) where
+  -- document 01's "best" of candidate j with exactly k pieces, the cut at j included
+  unfoldable pub bestWith : ℕ → ℕ → Score
+  bestWith zero j = noScore
+  bestWith (suc zero) j = withCutAt cut j (withPiece l noScore (pieceLength left right 0 j))
+  bestWith (suc (suc k)) j = withCutAt cut j (foundScore (predecessorOf l left right (bestWith (suc k)) (suc k) j))
 
--- the rows 1 to k are filled
-pub record RowsFilled (l : Lengths) (left right : List ℕ) (cut : List Float) (leaves : ℕ) (over : List ℕ) (cost : List Float) (parent : List ℕ) (k : ℕ) : Type 0 where
-  pub laid : Laid l left right leaves over cost
-  pub is-row : Row leaves (length left) over cost
-  pub cuts : behind (length left) cost ≡ cut
-  pub scores : (j : ℕ) → k ≤ j → j < length left → leafScore leaves over cost j ≡ bestWith l left right cut k j
-  pub parents : (m j : ℕ) → m < k → suc m ≤ j → j < length left → parentIn parent (length left) m j ≡ parentWith l left right cut (suc m) j
+  -- where the last of the k pieces starts
+  unfoldable pub parentWith : ℕ → ℕ → ℕ
+  parentWith zero j = 0
+  parentWith (suc zero) j = 0
+  parentWith (suc (suc k)) j = foundIndex (predecessorOf l left right (bestWith (suc k)) (suc k) j)
+
+  -- the path of k pieces to candidate j
+  unfoldable pub wayWith : ℕ → ℕ → List ℕ
+  wayWith zero j = j ∷ []
+  wayWith (suc k) j = wayWith k (parentWith (suc k) j) ++ (j ∷ [])
+
+  -- document 01's path by count, of min(count, last index) pieces to the last candidate
+  unfoldable pub bestPathByCount : ℕ → List ℕ
+  bestPathByCount count = wayWith (piecesOf left count) (lastOf left)
+
+  -- document 01's score of it
+  unfoldable pub bestScoreByCount : ℕ → Score
+  bestScoreByCount count = bestWith (piecesOf left count) (lastOf left)

@@ -1,128 +1,188 @@
--- Laws of the table by count: one row more.
-use mathlib.Core.Path.{_≡_, sym, ap, subst, _∙_}
+-- The table by count is the best: with each number of pieces the way back is a path of its score and follows the tie rule, and no allowed path of as many pieces scores less.
+-- The argument is that of the table by length, one row after another: candidates from k on are those that k pieces reach.
+use mathlib.Core.Path.{_≡_, refl, sym, ap, _∙_}
 use mathlib.Core.Logic.{inl, inr}
-use mathlib.Core.List.{List, _++_}
-use Prim.Native.Nat.{ℕ, zero, suc, _+_, _-_, _*_, _≤_, _<_}
-use native.Mathlib.Nat.{mul-le-mul-right, suc-mul, zero-mul}
-use native.Mathlib.Numerals.{add-one}
+use mathlib.Core.List.{List, [], _∷_, _++_}
+use Prim.Native.Nat.{ℕ, zero, suc, _+_, _-_, _≤_, _<_}
 use native.Mathlib.Omega.{arith}
-use borrow.Rule.Slice.PartMut.{putMid}
+use lib.Dec.{T}
 use lib.Ieee.{Float}
-use lib.ListN.{length, getD, take, drop, List·getD-append}
-use lib.Seq.{getD-take, length-take-le, getD-append-add}
-use Rattle.base_laws.specs.Tests.{lt-or-le}
-use Rattle.path_pieces.specs.Pieces.{withCutAt}
-use Rattle.path_pieces.specs.Least.{foundScore, foundIndex, predecessorOf}
-use Rattle.path_pieces.specs.PredecessorLaws.{predecessor-same}
-use Rattle.path_pieces.specs.declared.best.Found.{Found}
+use lib.ListN.{length, length-append}
+use Rattle.base_terms.specs.Floats.{nonneg}
+use Rattle.base_laws.specs.Nonneg.{nought-nonneg}
+use Rattle.path_pieces.specs.Pieces.{pieceLength, noScore, withPiece, atMost, arrival, withCutAt, mayStart}
+use Rattle.path_pieces.specs.Domain.{Searchable}
+use Rattle.path_pieces.specs.DomainLaws.{at-most-refl, at-most-trans, piece-bounded, piece-nonneg, piece-keeps, cut-at-nonneg, cut-at-keeps}
 use Rattle.path_pieces.specs.declared.lengths.Lengths.{Lengths}
-use Rattle.path_by_length.specs.ByCount.{bestWith, parentWith}
-use Rattle.path_by_count_rows.specs.Rows.{leafScore, behind, firstScore, FirstRow, NextRow}
-use Rattle.path_by_count_rows.specs.RowsLaws.{first-one}
-use Rattle.path_by_count.specs.Table.{parentIn, RowsFilled}
+use Rattle.path_pieces.specs.declared.score.Score.{Score}
+use Rattle.path_pieces.specs.declared.best.Found.{Found}
+use Rattle.path_pieces.specs.declared.best.Found.the-variants.{At, Nothing}
+use Rattle.path_pieces.specs.Least.{foundScore, LowestLeast, Answers, predecessorOf}
+use Rattle.path_pieces.specs.LeastLaws.{least-answers}
+use Rattle.path_rules.specs.Paths.{AllowedByCount, PathWith, Onward, Path, step, scoreFrom, pathScore}
+use Rattle.path_rules.specs.PathsLaws.{path-more, onward-rises, path-score-more}
+use Rattle.path_rules.specs.Ties.{ChosenByCount, TiePath}
+use Rattle.path_rules.specs.TiesByCountLaws.{tie-more}
+use Rattle.path_pieces.specs.PredecessorLaws.{predecessor-nothing, predecessor-chosen}
+use Rattle.base_laws.specs.Tests.{lt-or-le}
+use Rattle.path_by_count.specs.Table.{bestWith, parentWith, wayWith}
 
--- row m starts where the rows before it end
-pub row-within : (k n w : ℕ) → k < n → k * w + w ≤ n * w
-row-within k n w h = rw suc-mul at (mul-le-mul-right w h)
+-- k pieces reach the candidates from k on, and none only the first
+abbrev pub Reached : ℕ → ℕ → Type 0
+Reached k j = (k ≤ j) × (k ≡ 0 → j ≡ 0)
 
-pub next-start : (k w : ℕ) → k * w + w ≡ (k + 1) * w
-next-start k w = rw (add-one, suc-mul)
+-- ---- the table
 
--- ---- a part of a list in its middle
+module _ {l : Lengths} {left right : List ℕ} {cut : List Float} (ok : Searchable l left right cut) where
+  abbrev own : ℕ → ℕ → Score
+  own = bestWith l left right cut
 
-module _ {A : Type 0} (l r : List A) (a w : ℕ) (z : A) (e : length r ≡ w) (h : a + w ≤ length l) where
-  -- what stands before it
-  pub put-before : (m : ℕ) → m < a → getD (putMid a w l r) m z ≡ getD l m z
-  put-before m g = List·getD-append (take a l) (r ++ drop w (drop a l)) z m (rw (length-take-le a l (omega arith)) g) ∙ getD-take a l m z g
+  abbrev parent : ℕ → ℕ → ℕ
+  parent = parentWith l left right cut
 
-  -- the part itself
-  pub put-part : (j : ℕ) → j < w → getD (putMid a w l r) (a + j) z ≡ getD r j z
-  put-part j g =
-      ap (λ (n : ℕ). getD (take a l ++ (r ++ drop w (drop a l))) (n + j) z) (sym (length-take-le a l (omega arith)))
-      ∙ getD-append-add (take a l) (r ++ drop w (drop a l)) j z ∙ List·getD-append r (drop w (drop a l)) z j (omega arith)
+  -- ---- the rows are no NaN
 
--- ---- the rows that are written are those of the table
+  answers : (k j : ℕ) → j < length left → k ≤ j → ((i : ℕ) → i < length left → T (nonneg (own k i .cost)))
+      → Answers (mayStart (l .limit) left right j) (arrival l left right (own k) j) k j (predecessorOf l left right (own k) k j)
+  unfolding predecessorOf
+  answers k j g h p =
+      least-answers (mayStart (l .limit) left right j) (arrival l left right (own k) j) j
+      (λ i m t. piece-nonneg (ok .preferred) (own k i) (pieceLength left right i j) (piece-bounded (ok .candidates) i j g) (p i (omega arith))) k h
 
-module _ {l : Lengths} {left right : List ℕ} {leaves : ℕ} {over₀ over : List ℕ} {cost₀ cost : List Float} {row : List ℕ} where
-  -- the first row
-  pub first-row-agrees : FirstRow l left right leaves over₀ cost₀ over cost row → (j : ℕ) → 0 < j → j < length left
-      → (leafScore leaves over cost j ≡ bestWith l left right (behind (length left) cost₀) 1 j)
-      × (getD row j 0 ≡ parentWith l left right (behind (length left) cost₀) 1 j)
+  found-nonneg : (k j : ℕ) → j < length left → ((i : ℕ) → i < length left → T (nonneg (own k i .cost))) → (f : Found)
+      → Answers (mayStart (l .limit) left right j) (arrival l left right (own k) j) k j f → T (nonneg (foundScore f .cost))
+  found-nonneg k j g p Nothing a = nought-nonneg
+  found-nonneg k j g p (At s i) (e, a) =
+      rw e (piece-nonneg (ok .preferred) (own k i) (pieceLength left right i j) (piece-bounded (ok .candidates) i j g) (p i (omega (arith, a .high))))
+
+  -- the best scores by count are no NaN
+  pub with-nonneg : (k j : ℕ) → j < length left → T (nonneg (own k j .cost))
+  unfolding bestWith
+  with-nonneg zero j g = nought-nonneg
+  with-nonneg (suc zero) j g =
+      cut-at-nonneg (ok .costs) j g (withPiece l noScore (pieceLength left right 0 j))
+      (piece-nonneg (ok .preferred) noScore (pieceLength left right 0 j) (piece-bounded (ok .candidates) 0 j g) nought-nonneg)
+  with-nonneg (suc (suc k)) j g =
+      let f = predecessorOf l left right (own (suc k)) (suc k) j in
+      cut-at-nonneg (ok .costs) j g (foundScore f) (elim (lt-or-le j (suc k)) [
+        | inl h ↦ rw (← predecessor-nothing l left right (own (suc k)) (suc k) j (ok .candidates) g (omega arith)) nought-nonneg
+        | inr h ↦ found-nonneg (suc k) j g (with-nonneg (suc k)) f (answers (suc k) j g h (with-nonneg (suc k)))
+      ])
+
+  -- ---- one row by the row before
+
+  choice : (k j : ℕ) → suc k < j → j < length left
+      → (foundScore (predecessorOf l left right (own (suc k)) (suc k) j) ≡ arrival l left right (own (suc k)) j (parent (suc (suc k)) j))
+      × LowestLeast (mayStart (l .limit) left right j) (arrival l left right (own (suc k)) j) (suc k) j (parent (suc (suc k)) j)
+  unfolding parentWith
+  choice k j h g =
+      predecessor-chosen (ok .candidates) (ok .preferred) (own (suc k)) (suc k) j h g (λ i m. with-nonneg (suc k) i (omega arith))
+
+  -- the parent is reached with one piece fewer
+  pub parent-reached : (k j : ℕ) → suc k ≤ j → j < length left → Reached k (parent (suc k) j)
+  unfolding parentWith
+  parent-reached zero j h g = (omega arith, λ e. refl)
+  parent-reached (suc k) j h g = (choice k j h g .1 .low, λ e. absurd (omega arith))
+
+  -- its piece is allowed
+  pub parent-allowed : (k j : ℕ) → suc k ≤ j → j < length left → AllowedByCount (l .limit) left right (parent (suc k) j) j
+  unfolding parentWith
+  parent-allowed zero j h g = (h, inl refl)
+  parent-allowed (suc k) j h g = let c = choice k j h g .1 in (c .high, inr (c .passed))
+
+  -- and chosen by the tie rule
+  pub parent-tie : (k j : ℕ) → suc k ≤ j → j < length left → ChosenByCount l left right own k (parent (suc k) j) j
+  unfolding parentWith
+  parent-tie zero j h g = refl
+  parent-tie (suc k) j h g = choice k j h g .1
+
+  -- the best score is one step from the parent's
+  pub with-step : (k j : ℕ) → suc k ≤ j → j < length left → own (suc k) j ≡ step l left right cut (own k (parent (suc k) j)) (parent (suc k) j) j
   unfolding bestWith parentWith
-  first-row-agrees x j p h = (
-    x .score j h ∙ ap (λ (cut : List Float). firstScore l left right cut j) (x .cuts) ∙ sym (first-one l left right (behind (length left) cost₀) j p),
-    x .parent j h,
-  )
+  with-step zero j h g = refl
+  with-step (suc k) j h g = ap (withCutAt cut j) (choice k j h g .0)
 
-  -- and each next one, where the row before is
-  pub next-row-agrees : {k : ℕ}
-      → ((i : ℕ) → suc k ≤ i → i < length left → leafScore leaves over₀ cost₀ i ≡ bestWith l left right (behind (length left) cost₀) (suc k) i)
-      → NextRow l left right leaves over₀ cost₀ over cost row (suc (suc k)) → (j : ℕ) → suc (suc k) ≤ j → j < length left
-      → (leafScore leaves over cost j ≡ bestWith l left right (behind (length left) cost₀) (suc (suc k)) j)
-      × (getD row j 0 ≡ parentWith l left right (behind (length left) cost₀) (suc (suc k)) j)
-  unfolding bestWith parentWith
-  next-row-agrees {k} f x j h g =
-      let cut = behind (length left) cost₀ in
-      let own = leafScore leaves over₀ cost₀ in
-      let d : suc (suc k) - 1 ≡ suc k = omega arith in
-      let e : predecessorOf l left right own (suc (suc k) - 1) j ≡ predecessorOf l left right (bestWith l left right cut (suc k)) (suc k) j =
-      ap (λ (from : ℕ). predecessorOf l left right own from j) d
-      ∙ predecessor-same l left right own (bestWith l left right cut (suc k)) (suc k) j (λ i a m. f i a (omega arith)) in (
-        x .score j h g ∙ ap (λ (c : List Float). withCutAt c j (foundScore (predecessorOf l left right own (suc (suc k) - 1) j))) (x .cuts)
-            ∙ ap (λ (z : Found). withCutAt cut j (foundScore z)) e,
-        x .parent j h g ∙ ap foundIndex e,
-      )
+  -- no allowed piece gives a better one
+  pub with-least : (k i j : ℕ) → 0 < k → k ≤ i → AllowedByCount (l .limit) left right i j → j < length left
+      → T (atMost (own (suc k) j) (step l left right cut (own k i) i j))
+  with-least zero i j z h a g = absurd (omega arith)
+  with-least (suc k) i j z h (m, inl e) g = absurd (omega arith)
+  with-least (suc k) i j z h (m, inr t) g =
+      let p = parent (suc (suc k)) j in
+      let c = choice k j (omega arith) g .1 in
+      rw (with-step (suc k) j (omega arith) g)
+      (cut-at-keeps (ok .costs) j g (arrival l left right (own (suc k)) j p) (arrival l left right (own (suc k)) j i)
+      (piece-nonneg (ok .preferred) (own (suc k) p) (pieceLength left right p j) (piece-bounded (ok .candidates) p j g) (with-nonneg (suc k) p (omega (arith, c .high))))
+      (c .least i h m t))
 
--- ---- row by row
+  -- ---- the path
 
-module _ {l : Lengths} {left right : List ℕ} {leaves : ℕ} {over₀ over : List ℕ} {cost₀ cost : List Float} where
-  -- the first row alone
-  pub rows-first : (parent row : List ℕ) → length row ≡ length left → FirstRow l left right leaves over₀ cost₀ over cost row
-      → RowsFilled l left right (behind (length left) cost₀) leaves over cost (row ++ drop (length left) parent) 1
-  rows-first parent row e x = record {
-    laid = x .laid;
-    is-row = x .is-row;
-    cuts = x .cuts;
-    scores = λ j a h. first-row-agrees x j a h .0;
-    parents = λ m j a b h. let q : 0 ≡ m = omega arith in
-        subst (λ (i : ℕ). parentIn (row ++ drop (length left) parent) (length left) i j ≡ parentWith l left right (behind (length left) cost₀) (suc i) j) q
-        (ap (λ (i : ℕ). getD (row ++ drop (length left) parent) i 0) (let z : 0 * length left ≡ 0 = zero-mul (length left) in let y : 0 * length left + j ≡ j = omega arith in y) ∙ List·getD-append row (drop (length left) parent) 0 j (omega arith)
-        ∙ first-row-agrees x j (omega arith) h .1);
-  }
+  way-with-length : (k j : ℕ) → length (wayWith l left right cut k j) ≡ suc k
+  unfolding wayWith
+  way-with-length zero j = refl
+  way-with-length (suc k) j = simp length-append (omega (arith, way-with-length k (parent (suc k) j)))
 
-  -- one more
-  pub rows-next : {cut : List Float} {parent row : List ℕ} {k : ℕ} → RowsFilled l left right cut leaves over₀ cost₀ parent (suc k) → length row ≡ length left
-      → suc k * length left + length left ≤ length parent → NextRow l left right leaves over₀ cost₀ over cost row (suc (suc k))
-      → RowsFilled l left right cut leaves over cost (putMid (suc k * length left) (length left) parent row) (suc (suc k))
-  rows-next {cut} {parent} {row} {k} f e room x =
-      let n = length left in
-      let own : (i : ℕ) → suc k ≤ i → i < n → leafScore leaves over₀ cost₀ i ≡ bestWith l left right (behind n cost₀) (suc k) i =
-      λ i a h. rw (f .cuts) (f .scores i a h) in
-      let agrees : (j : ℕ) → suc (suc k) ≤ j → j < n
-      → (leafScore leaves over cost j ≡ bestWith l left right cut (suc (suc k)) j) × (getD row j 0 ≡ parentWith l left right cut (suc (suc k)) j) =
-      λ j a h. rw (f .cuts) at (next-row-agrees own x j a h) in
-      record {
-        laid = x .laid;
-        is-row = x .is-row;
-        cuts = x .cuts ∙ f .cuts;
-        scores = λ j a h. agrees j a h .0;
-        parents = λ m j a b h. elim (lt-or-le m (suc k)) [
-          | inl y ↦ put-before parent row (suc k * n) n 0 e room (m * n + j) (omega (arith, row-within m (suc k) n y)) ∙ f .parents m j y b h
-          | inr y ↦ let q : suc k ≡ m = omega arith in
-              subst (λ (i : ℕ). parentIn (putMid (suc k * n) n parent row) n i j ≡ parentWith l left right cut (suc i) j) q
-              (put-part parent row (suc k * n) n 0 e room j h ∙ agrees j (omega arith) h .1)
-        ];
-      }
+  way-with-path : (k j : ℕ) → Reached k j → j < length left → Path (AllowedByCount (l .limit) left right) (wayWith l left right cut k j) j
+  unfolding wayWith
+  way-with-path zero j (h, z) g = (z refl, refl)
+  way-with-path (suc k) j (h, z) g =
+      let a = parent-allowed k j h g in
+      path-more (AllowedByCount (l .limit) left right) (wayWith l left right cut k (parent (suc k) j)) (parent (suc k) j) j
+      (way-with-path k (parent (suc k) j) (parent-reached k j h g) (omega (arith, a .0))) a
 
-  -- one more, as the loop counts
-  pub rows-more : {cut : List Float} {parent row : List ℕ} (k start : ℕ) → 0 < k → start ≡ k * length left → RowsFilled l left right cut leaves over₀ cost₀ parent k
-      → length row ≡ length left → start + length left ≤ length parent → NextRow l left right leaves over₀ cost₀ over cost row (k + 1)
-      → RowsFilled l left right cut leaves over cost (putMid start (start + length left - start) parent row) (k + 1)
-  rows-more zero start h e f er room x = absurd (omega arith)
-  rows-more {cut} {parent} {row} (suc k) start h e f er room x =
-      let n = length left in
-      let d : start + n - start ≡ n = omega arith in
-      let q : suc k + 1 ≡ suc (suc k) = omega arith in
-      let y : NextRow l left right leaves over₀ cost₀ over cost row (suc (suc k)) = rw q at x in
-      let r : suc k * n + n ≤ length parent = omega arith in
-      rw (d, q, e) (rows-next f er r y)
+  -- it is an allowed path of k pieces
+  pub with-allowed : (k j : ℕ) → Reached k j → j < length left → PathWith (l .limit) left right k j (wayWith l left right cut k j)
+  with-allowed k j r g = (way-with-path k j r g, way-with-length k j)
+
+  -- of the table's score
+  pub with-attained : (k j : ℕ) → Reached k j → j < length left → pathScore l left right cut (wayWith l left right cut k j) ≡ own k j
+  unfolding wayWith bestWith pathScore scoreFrom
+  with-attained zero j r g = refl
+  with-attained (suc k) j (h, z) g =
+      let p = parent (suc k) j in
+      let a = parent-allowed k j h g in
+      let r = parent-reached k j h g in
+      path-score-more (AllowedByCount (l .limit) left right) l left right cut (wayWith l left right cut k p) p j (way-with-path k p r (omega (arith, a .0)))
+      ∙ ap (λ (s : Score). step l left right cut s p j) (with-attained k p r (omega (arith, a .0))) ∙ sym (with-step k j h g)
+
+  -- ---- no path of as many pieces scores less
+
+  step-keeps : (s : Score) (k i j : ℕ) → i < length left → j < length left → T (atMost (own k i) s) → T (atMost (step l left right cut (own k i) i j) (step l left right cut s i j))
+  step-keeps s k i j h g a =
+      let bound = piece-bounded (ok .candidates) i j g in
+      cut-at-keeps (ok .costs) j g (arrival l left right (own k) j i) (withPiece l s (pieceLength left right i j))
+      (piece-nonneg (ok .preferred) (own k i) (pieceLength left right i j) bound (with-nonneg k i h))
+      (piece-keeps (ok .preferred) (own k i) s (pieceLength left right i j) bound (with-nonneg k i h) a)
+
+  run-with : (s : Score) (k i : ℕ) (rest : List ℕ) (m last : ℕ) → k + length rest ≡ m → 0 < k → k ≤ i → last < length left
+      → Onward (AllowedByCount (l .limit) left right) i rest last → T (atMost (own k i) s) → T (atMost (own m last) (scoreFrom l left right cut s i rest))
+  unfolding scoreFrom
+  run-with s k i [] m last e z h g r a = let q : m ≡ k = omega arith in rw (q, ← r) a
+  run-with s k i (j ∷ rest) m last e z h g (p, r) a =
+      let up = onward-rises (AllowedByCount (l .limit) left right) (λ u v q. q .0) j rest last r in
+      let lower = p .0 in
+      run-with (step l left right cut s i j) (suc k) j rest m last (omega arith) (omega arith) (omega arith) g r
+      (at-most-trans (own (suc k) j) (step l left right cut (own k i) i j) (step l left right cut s i j) (with-least k i j z h p (omega arith))
+      (step-keeps s k i j (omega arith) (omega arith) a))
+
+  -- the table's score is at most the score of every allowed path of k pieces
+  pub with-below : (path : List ℕ) (k j : ℕ) → 0 < k → j < length left → PathWith (l .limit) left right k j path → T (atMost (own k j) (pathScore l left right cut path))
+  unfolding pathScore scoreFrom bestWith
+  with-below [] k j z g (p, n) = absurd p
+  with-below (i ∷ []) k j z g ((e, r), n) = absurd (omega arith)
+  with-below (i ∷ b ∷ rest) k j z g ((e, (p, r)), n) =
+      let up = onward-rises (AllowedByCount (l .limit) left right) (λ u v q. q .0) b rest j r in
+      let lower = p .0 in
+      run-with (step l left right cut noScore i b) 1 b rest k j (omega arith) (omega arith) (omega arith) g r
+      (rw e (at-most-refl (own 1 b) (with-nonneg 1 b (omega arith))))
+
+  -- ---- it follows the tie rule
+
+  -- the way back follows the tie rule by the table's own best scores
+  pub with-tie : (k j : ℕ) → Reached k j → j < length left → TiePath l left right own (wayWith l left right cut k j) j
+  unfolding wayWith
+  with-tie zero j (h, z) g = (z refl, refl)
+  with-tie (suc k) j (h, z) g =
+      let p = parent (suc k) j in
+      let a = parent-allowed k j h g in
+      tie-more l left right own k (wayWith l left right cut k p) p j (way-with-length k p) (with-tie k p (parent-reached k j h g) (omega (arith, a .0))) (parent-tie k j h g)

@@ -3,7 +3,7 @@ use mathlib.Core.List.{List, [], _∷_, _++_}
 use Prim.Native.Nat.{ℕ, zero, suc, _*_, _≤_, _<_}
 use lib.ListN.{length}
 use Rattle.path_pieces.specs.Limits.{maxIndex}
-use Rattle.path_by_count.specs.Table.{parentIn}
+use Rattle.path_by_count.specs.Filled.{parentIn}
 
 -- the path of k pieces to candidate j that the list gives
 unfoldable pub wayIn : List ℕ → ℕ → ℕ → ℕ → List ℕ

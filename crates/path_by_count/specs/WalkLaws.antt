@@ -10,12 +10,13 @@ use lib.Seq.{take-suc, set-at, length-take-le}
 use Rattle.base_terms.specs.Lists.{onto}
 use Rattle.path_pieces.specs.Domain.{Searchable}
 use Rattle.path_pieces.specs.declared.lengths.Lengths.{Lengths}
-use Rattle.path_by_length.specs.ByCount.{parentWith, wayWith}
-use Rattle.path_by_length.specs.CountLaws.{parent-reached, parent-allowed}
-use Rattle.path_by_count.specs.Table.{parentIn, RowsFilled}
-use Rattle.path_by_count.specs.TableLaws.{row-within}
+use Rattle.path_by_count.specs.Table.{parentWith, wayWith}
+use Rattle.path_by_count.specs.TableLaws.{parent-reached, parent-allowed}
+use Rattle.path_by_count.specs.Filled.{parentIn, RowsFilled}
+use Rattle.path_by_count.specs.FilledLaws.{row-within}
 use Rattle.path_by_count.specs.Walk.{wayIn, Back}
 
+-- a path of k pieces has one candidate more
 pub way-length : (parent : List ℕ) (n k j : ℕ) → length (wayIn parent n k j) ≡ suc k
 unfolding wayIn
 way-length parent n zero j = refl
@@ -23,6 +24,7 @@ way-length parent n (suc k) j = simp length-append (omega (arith, way-length par
 
 -- ---- the loop: after the steps that are left, k of them, the path goes on with what is written
 
+-- k steps are left from candidate j, and the list holds the candidates passed
 pub record Walking (parent : List ℕ) (n pieces : ℕ) (path₀ path : List ℕ) (start k j : ℕ) : Type 0 where
   pub rest : List ℕ
   pub way : wayIn parent n k j ++ rest ≡ wayIn parent n pieces (n - 1)
@@ -33,6 +35,7 @@ pub record Walking (parent : List ℕ) (n pieces : ℕ) (path₀ path : List ℕ
   pub inside : j < n
 
 module _ {parent : List ℕ} {n pieces : ℕ} {path₀ : List ℕ} (back : Back parent n pieces) where
+  -- before the first step
   pub walking-start : pieces + 1 ≤ length path₀ → Walking parent n pieces path₀ path₀ (pieces * n) pieces (n - 1)
   walking-start h = record {
     rest = [];

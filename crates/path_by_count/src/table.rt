@@ -4,7 +4,7 @@ use path_pieces::lengths::Lengths;
 ghost use Prim.Native.Nat.{_*_, _≤_, _<_};
 ghost use lib.ListN.{length};
 ghost use Rattle.path_by_count_rows.specs.Rows.{Laid, behind};
-ghost use Rattle.path_by_count.specs.Table.{RowsFilled};
+ghost use Rattle.path_by_count.specs.Filled.{RowsFilled};
 
 // From the first row to row `pieces`.
 fn later_rows(
@@ -17,11 +17,15 @@ fn later_rows(
     cost: &mut [f64],
     parent: &mut [u32],
 )
-    requires { ⌜ RowsFilled lengths (now left) (now right) (behind (length (now left)) (now cost)) leaves (now over) (now cost) (now parent) 1 ⌝ }
+    requires { ⌜
+        RowsFilled lengths (now left) (now right) (behind (length (now left)) (now cost)) leaves (now over)
+        (now cost) (now parent) 1
+        ⌝ }
     requires { ⌜ (0 < pieces) × (pieces < length (now left)) ⌝ }
     requires { ⌜ pieces * length (now left) ≤ length (now parent) ⌝ }
     ensures { λ _. ⌜
-        RowsFilled lengths (now (left .entry)) (now (right .entry)) (behind (length (now (left .entry))) (now (cost .entry))) leaves
+        RowsFilled lengths (now (left .entry)) (now (right .entry))
+        (behind (length (now (left .entry))) (now (cost .entry))) leaves
         (now (over .exit)) (now (cost .exit)) (now (parent .exit)) pieces
         ⌝ }
 {
@@ -60,7 +64,8 @@ pub fn fill_rows(
     requires { ⌜ (0 < pieces) × (pieces < length (now left)) ⌝ }
     requires { ⌜ pieces * length (now left) ≤ length (now parent) ⌝ }
     ensures { λ _. ⌜
-        RowsFilled lengths (now (left .entry)) (now (right .entry)) (behind (length (now (left .entry))) (now (cost .entry))) leaves
+        RowsFilled lengths (now (left .entry)) (now (right .entry))
+        (behind (length (now (left .entry))) (now (cost .entry))) leaves
         (now (over .exit)) (now (cost .exit)) (now (parent .exit)) pieces
         ⌝ }
 {

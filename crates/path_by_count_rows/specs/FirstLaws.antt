@@ -64,24 +64,28 @@ module _ (test : ℕ → Bool) where
             )
       ]
 
-  -- it is at most the end, all before it fail, and it passes where it is below the end
+  -- it is at most the end
   pub first-high : (to : ℕ) → firstPassing test 0 to ≤ to
   first-high to = omega (arith, go to 0 .1)
 
+  -- what stands before it fails
   pub first-fails : (to k : ℕ) → k < firstPassing test 0 to → T (not (test k))
   first-fails to k h = go to 0 .2 k (omega arith) h
 
+  -- where there is one it passes
   pub first-passes : (to : ℕ) → firstPassing test 0 to < to → T (test (firstPassing test 0 to))
   first-passes to h = go to 0 .3 (omega arith)
 
 -- ---- within the limit
 
 module _ (limit : ℕ) (left right : List ℕ) where
+  -- a piece over the limit is not within it
   pub within-no : (j i : ℕ) → limit < pieceLength left right i j → T (not (isWithin limit left right j i))
   unfolding isWithin
   within-no j i h = not-T (leb (pieceLength left right i j) limit) (λ (t : T (leb (pieceLength left right i j) limit)).
       let g = leb→le (pieceLength left right i j) limit t in omega arith)
 
+  -- and a piece that is not within the limit is over it
   pub over-is : (j i : ℕ) → T (not (isWithin limit left right j i)) → limit < pieceLength left right i j
   unfolding isWithin
   over-is j i t = nleb→lt (pieceLength left right i j) limit t

@@ -1,12 +1,13 @@
 -- The rows of the table by count: row k holds, for each candidate, the best score of a path of k pieces to it, and where its last piece starts.
--- Two work lists hold a row: n candidates are the leaves of the tree of least scores, and behind the tree, from 4 n on, stands one entry for each candidate,
+-- Two work lists hold a row: n candidates are the leaves of the tree of least scores, and behind the tree stands one entry for each candidate,
 -- its first start in the one list and its cut's cost in the other.
 use mathlib.Core.Path.{_≡_}
 use mathlib.Core.List.{List}
-use Prim.Native.Nat.{ℕ, zero, suc, _+_, _-_, _*_, _≤_, _<_, max}
+use Prim.Native.Nat.{ℕ, zero, suc, _+_, _-_, _≤_, _<_, max}
 use lib.Dec.{T}
 use lib.Ieee.{Float, nan}
 use lib.ListN.{length, getD, take, drop}
+use Rattle.base_terms.specs.Layout.{behindTree, endByCount}
 use Rattle.base_terms.specs.Floats.{nonneg}
 use Rattle.path_pieces.specs.Pieces.{pieceLength, noScore, withPiece, withCutAt, scoreAt}
 use Rattle.path_pieces.specs.Least.{foundScore, foundIndex, predecessorOf}
@@ -35,15 +36,15 @@ leafScore leaves over cost i = scoreAt over cost (leaves + i)
 
 -- the n entries behind the tree
 unfoldable pub behind : {A : Type 0} → ℕ → List A → List A
-behind n xs = take n (drop (n * 4) xs)
+behind n xs = take n (drop (behindTree n) xs)
 
 -- candidates, and two lists with room for the tree and the entries behind it, which are the first starts and the costs of the cuts
 pub record Laid (l : Lengths) (left right : List ℕ) (leaves : ℕ) (over : List ℕ) (cost : List Float) : Type 0 where
   pub domain : Searchable l left right (behind (length left) cost)
   pub tree : Leaves (length left) leaves
-  pub overs : length left * 5 ≤ length over
-  pub costs : length left * 5 ≤ length cost
-  pub firsts : (j : ℕ) → j < length left → getD over (length left * 4 + j) 0 ≡ firstStart (l .limit) left right j
+  pub overs : endByCount (length left) ≤ length over
+  pub costs : endByCount (length left) ≤ length cost
+  pub firsts : (j : ℕ) → j < length left → getD over (behindTree (length left) + j) 0 ≡ firstStart (l .limit) left right j
 
 -- from an index on, two lists are as they were
 pub record Kept (from : ℕ) (over₀ : List ℕ) (cost₀ : List Float) (over : List ℕ) (cost : List Float) : Type 0 where

@@ -10,6 +10,7 @@ use lib.Dec.{T}
 use lib.Ieee.{Float, nan}
 use lib.ListN.{length, getD, take, drop, set, length-drop, length-set}
 use lib.Seq.{getD-set-same, getD-set-other, getD-take, getD-drop, length-take-le, ext-getD}
+use Rattle.base_terms.specs.Layout.{behindTree, endByCount}
 use Rattle.base_laws.specs.Tests.{lt-or-le, same-test}
 use Rattle.base_terms.specs.Floats.{nonneg}
 use Rattle.base_laws.specs.Nonneg.{nought-is, nought-nonneg}
@@ -36,7 +37,7 @@ use Rattle.path_by_count_rows.specs.Rows.{startOf, firstScore, leafScore
 -- ---- where the last piece may start
 
 module _ (l : Lengths) (left right : List ℕ) where
-  -- there is one
+  -- the last piece may start somewhere before j
   pub start-below : (k j : ℕ) → 0 < k → k ≤ j → startOf (l .limit) left right k j < j
   start-below k j h g = omega (arith, first-start-high (l .limit) left right j)
 
@@ -56,50 +57,53 @@ module _ (l : Lengths) (left right : List ℕ) where
 -- ---- what stands behind the tree
 
 -- an entry of it
-pub behind-at : {A : Type 0} (n : ℕ) (xs : List A) (j : ℕ) (z : A) → j < n → getD (behind n xs) j z ≡ getD xs (n * 4 + j) z
+pub behind-at : {A : Type 0} (n : ℕ) (xs : List A) (j : ℕ) (z : A) → j < n → getD (behind n xs) j z ≡ getD xs (behindTree n + j) z
 unfolding behind
-behind-at n xs j z h = getD-take n (drop (n * 4) xs) j z h ∙ getD-drop (n * 4) xs j z
+behind-at n xs j z h = getD-take n (drop (behindTree n) xs) j z h ∙ getD-drop (behindTree n) xs j z
 
-pub behind-length : {A : Type 0} (n : ℕ) (xs : List A) → n * 5 ≤ length xs → length (behind n xs) ≡ n
+-- there are n of them
+pub behind-length : {A : Type 0} (n : ℕ) (xs : List A) → endByCount n ≤ length xs → length (behind n xs) ≡ n
 unfolding behind
-behind-length n xs h = length-take-le n (drop (n * 4) xs) (rw length-drop (omega arith))
+behind-length n xs h = length-take-le n (drop (behindTree n) xs) (rw length-drop (omega arith))
 
 -- the part that the code hands on
-pub behind-part : {A : Type 0} (n : ℕ) (xs : List A) → take (n * 5 - n * 4) (drop (n * 4) xs) ≡ behind n xs
+pub behind-part : {A : Type 0} (n : ℕ) {from to : ℕ} → from ≡ behindTree n → to ≡ endByCount n → (xs : List A) → take (to - from) (drop from xs) ≡ behind n xs
 unfolding behind
-behind-part n xs = let e : n * 5 - n * 4 ≡ n = omega arith in rw e
+behind-part n {from} {to} e f xs = let d : to - from ≡ n = omega (arith, e, f) in rw (d, e)
 
 -- it stays where its entries do
-pub behind-kept : (n : ℕ) {from : ℕ} {over₀ over : List ℕ} {cost₀ cost : List Float} → from ≤ n * 4 → n * 5 ≤ length cost₀ → Kept from over₀ cost₀ over cost
+pub behind-kept : (n : ℕ) {from : ℕ} {over₀ over : List ℕ} {cost₀ cost : List Float} → from ≤ behindTree n → endByCount n ≤ length cost₀ → Kept from over₀ cost₀ over cost
     → behind n cost ≡ behind n cost₀
 behind-kept n {from} {over₀} {over} {cost₀} {cost} h g k =
     ext-getD nan (behind n cost) (behind n cost₀) (behind-length n cost (omega (arith, k .costs)) ∙ sym (behind-length n cost₀ g))
     (λ i m. let b : i < n = omega (arith, behind-length n cost (omega (arith, k .costs))) in
-    behind-at n cost i nan b ∙ ap (λ (s : Score). s .cost) (k .after (n * 4 + i) (omega arith)) ∙ sym (behind-at n cost₀ i nan b))
+    behind-at n cost i nan b ∙ ap (λ (s : Score). s .cost) (k .after (behindTree n + i) (omega arith)) ∙ sym (behind-at n cost₀ i nan b))
 
+-- what is kept from one place on is kept from a later one on
 pub kept-later : {from to : ℕ} {over₀ over : List ℕ} {cost₀ cost : List Float} → from ≤ to → Kept from over₀ cost₀ over cost → Kept to over₀ cost₀ over cost
 kept-later h k = record { overs = k .overs; costs = k .costs; after = λ m g. k .after m (le-trans h g) }
 
+-- what one change keeps and then another keeps, both keep
 pub kept-trans : {from : ℕ} {over₀ over₁ over₂ : List ℕ} {cost₀ cost₁ cost₂ : List Float} → Kept from over₁ cost₁ over₂ cost₂ → Kept from over₀ cost₀ over₁ cost₁
     → Kept from over₀ cost₀ over₂ cost₂
 kept-trans a b = record { overs = a .overs ∙ b .overs; costs = a .costs ∙ b .costs; after = λ m g. a .after m g ∙ b .after m g }
 
 -- so do candidates, first starts and cuts
 pub laid-kept : {l : Lengths} {left right : List ℕ} {leaves from : ℕ} {over₀ over : List ℕ} {cost₀ cost : List Float} → Laid l left right leaves over₀ cost₀
-    → from ≤ length left * 4 → Kept from over₀ cost₀ over cost → Laid l left right leaves over cost
+    → from ≤ behindTree (length left) → Kept from over₀ cost₀ over cost → Laid l left right leaves over cost
 laid-kept {l} {left} {right} {leaves} {from} {over₀} {over} {cost₀} {cost} x h k = record {
   domain = rw (behind-kept (length left) h (x .costs) k) (x .domain);
   tree = x .tree;
   overs = omega (arith, x .overs, k .overs);
   costs = omega (arith, x .costs, k .costs);
-  firsts = λ j g. ap (λ (s : Score). s .over) (k .after (length left * 4 + j) (omega arith)) ∙ x .firsts j g;
+  firsts = λ j g. ap (λ (s : Score). s .over) (k .after (behindTree (length left) + j) (omega arith)) ∙ x .firsts j g;
 }
 
 -- ---- what the search reads
 
 module _ {l : Lengths} {left right : List ℕ} {leaves : ℕ} {over : List ℕ} {cost : List Float} where
   -- the tree's last leaf stands before the entries behind it
-  pub tree-size : Laid l left right leaves over cost → leaves * 2 ≤ length left * 4
+  pub tree-size : Laid l left right leaves over cost → leaves * 2 ≤ behindTree (length left)
   tree-size x = omega (arith, x .tree .least)
 
   -- what the search reads of the tree
@@ -246,8 +250,8 @@ module _ {l : Lengths} {left right : List ℕ} {leaves : ℕ} {over₀ : List �
       → Padded over₁ cost₁ (leaves + length left) over cost (leaves * 2) → FirstRow l left right leaves over₀ cost₀ over cost row
   first-done {over₁} {over} {cost₁} {cost} {row} x w eo ec p =
       let size = tree-size x in
-      let pad : Kept (length left * 4) over₁ cost₁ over cost = record { overs = eo; costs = ec; after = λ m g. p .after m (omega arith) } in
-      let keeps : Kept (length left * 4) over₀ cost₀ over cost = kept-trans pad (kept-later (omega (arith, x .tree .enough)) (w .rest)) in
+      let pad : Kept (behindTree (length left)) over₁ cost₁ over cost = record { overs = eo; costs = ec; after = λ m g. p .after m (omega arith) } in
+      let keeps : Kept (behindTree (length left)) over₀ cost₀ over cost = kept-trans pad (kept-later (omega (arith, x .tree .enough)) (w .rest)) in
       let cuts = behind-kept (length left) (omega arith) (x .costs) keeps in
       let same : (i : ℕ) → i < length left → leafScore leaves over cost i ≡ leafScore leaves over₁ cost₁ i = λ i h. p .before (leaves + i) (omega arith) in
       let score : (j : ℕ) → j < length left → leafScore leaves over cost j ≡ firstScore l left right (behind (length left) cost) j =
@@ -364,11 +368,13 @@ next-done {l} {left} {right} {leaves} {k} {over₀} {over₁} {over} {cost₀} {
 -- ---- the score of one piece, as the code finds it
 
 module _ (l : Lengths) (left right : List ℕ) (cut : List Float) where
+  -- to the first candidate there is no piece
   pub first-none : (j : ℕ) → j ≡ 0 → noScore ≡ firstScore l left right cut j
   unfolding firstScore
   first-none zero e = refl
   first-none (suc j) e = absurd (omega arith)
 
+  -- to a later one there is one
   pub first-one : (j : ℕ) → 0 < j → withCutAt cut j (withPiece l noScore (pieceLength left right 0 j)) ≡ firstScore l left right cut j
   unfolding firstScore
   first-one zero h = absurd (omega arith)

@@ -26,15 +26,18 @@ module _ (over : List ℕ) (cost : List Float) (i : ℕ) (s : Score) where
 
 -- ---- the leaves after the row, up to node i
 
+-- no leaf from `from` to i has a score, and the rest of the lists is as it was
 pub record Padded (over₀ : List ℕ) (cost₀ : List Float) (from : ℕ) (over : List ℕ) (cost : List Float) (i : ℕ) : Type 0 where
   pub beyond : (k : ℕ) → from ≤ k → k < i → scoreAt over cost k ≡ noLeaf
   pub before : (k : ℕ) → k < from → scoreAt over cost k ≡ scoreAt over₀ cost₀ k
   pub after : (k : ℕ) → i ≤ k → scoreAt over cost k ≡ scoreAt over₀ cost₀ k
 
 module _ {over₀ : List ℕ} {cost₀ : List Float} {from : ℕ} where
+  -- before the first one
   pub padded-none : Padded over₀ cost₀ from over₀ cost₀ from
   padded-none = record { beyond = λ k g h. absurd (omega arith); before = λ k h. refl; after = λ k h. refl }
 
+  -- one leaf more
   pub padded-next : {over : List ℕ} {cost : List Float} {i : ℕ} → from ≤ i → i < length over → i < length cost → Padded over₀ cost₀ from over cost i
       → Padded over₀ cost₀ from (set over i (suc maxIndex)) (set cost i (ofBits binary64 0)) (i + 1)
   padded-next {over} {cost} {i} f h g c = record {
@@ -48,15 +51,18 @@ module _ {over₀ : List ℕ} {cost₀ : List Float} {from : ℕ} where
 
 -- ---- the nodes linked, from `leaves` down to node i
 
+-- each node from i on, below the leaves, has the lesser score of its two children; the leaves are as they were
 pub record Linked (over₀ : List ℕ) (cost₀ : List Float) (leaves : ℕ) (over : List ℕ) (cost : List Float) (i : ℕ) : Type 0 where
   pub inner : (node : ℕ) → 0 < node → i ≤ node → node < leaves
       → scoreAt over cost node ≡ lesserScore (scoreAt over cost (node * 2)) (scoreAt over cost (node * 2 + 1))
   pub after : (k : ℕ) → leaves ≤ k → scoreAt over cost k ≡ scoreAt over₀ cost₀ k
 
 module _ {over₀ : List ℕ} {cost₀ : List Float} {leaves : ℕ} where
+  -- before the first node
   pub linked-none : Linked over₀ cost₀ leaves over₀ cost₀ leaves
   linked-none = record { inner = λ node p a b. absurd (omega arith); after = λ k h. refl }
 
+  -- one node more
   pub linked-next : {over : List ℕ} {cost : List Float} {i n : ℕ} (s : Score) → n ≡ i + 1 → 0 < i → i < leaves → i < length over → i < length cost
       → s ≡ lesserScore (scoreAt over cost (i * 2)) (scoreAt over cost (i * 2 + 1))
       → Linked over₀ cost₀ leaves over cost n → Linked over₀ cost₀ leaves (set over i (s .over)) (set cost i (s .cost)) i

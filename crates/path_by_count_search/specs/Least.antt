@@ -24,6 +24,7 @@ IsLeast score from to b = Answers every score from to (heldOf b)
 abbrev pub entry : (ℕ → Score) → ℕ → Best
 entry score i = record { score = score i; at = i }
 
+-- one of two, by a test
 abbrev pub pickBest : Bool → Best → Best → Best
 pickBest true a b = a
 pickBest false a b = b

@@ -41,6 +41,7 @@ equal-both a b t =
     let u : T (atMost a b && atMost b a) = subst T (score-eq-is (a .over) (a .cost) (b .over) (b .cost)) t in
     (and-l (atMost a b) (atMost b a) u, and-r (atMost a b) (atMost b a) u)
 
+-- scores that are each at most the other are equal
 pub both-equal : (a b : Score) → T (atMost a b) → T (atMost b a) → T (equalTo a b)
 both-equal a b p q = rw (score-eq-is (a .over) (a .cost) (b .over) (b .cost)) (and-i (atMost a b) (atMost b a) p q)
 
@@ -114,6 +115,7 @@ module _ (score : ℕ → Score) where
 pub before-refl : (a : Best) → T (nonneg (a .score .cost)) → Before a a
 before-refl a p = record { better = at-most-refl (a .score) p; earlier = λ t. le-refl (a .at) }
 
+-- where b does not come before a, nor c before b, c does not come before a
 pub before-trans : {a b c : Best} → Before a b → Before b c → Before a c
 before-trans {a} {b} {c} x y = record {
   better = at-most-trans (a .score) (b .score) (c .score) (x .better) (y .better);

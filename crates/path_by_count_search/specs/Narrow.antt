@@ -7,17 +7,20 @@ use lib.Ieee.{Float}
 use Rattle.path_by_count_search.specs.declared.narrow.Place.{Place}
 use Rattle.path_by_count_search.specs.Tree.{Covers}
 
+-- one of two, by a test
 abbrev pub pickPlace : Bool → Place → Place → Place
 pickPlace true a b = a
 pickPlace false a b = b
 
+-- where a place's range is halved
 abbrev pub middleOf : Place → ℕ
 middleOf p = p .lo + (p .hi - p .lo) / 2
 
--- the halves of a place
+-- its lower half
 abbrev pub lowerOf : Place → Place
 lowerOf p = record { node = p .node * 2; lo = p .lo; hi = middleOf p }
 
+-- its upper half
 abbrev pub upperOf : Place → Place
 upperOf p = record { node = p .node * 2 + 1; lo = middleOf p; hi = p .hi }
 

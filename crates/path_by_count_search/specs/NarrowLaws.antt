@@ -16,14 +16,17 @@ use Rattle.path_by_count_search.specs.Narrow.{middleOf, lowerOf, upperOf
 -- ---- which place it is
 
 module _ (p : Place) (from to : ℕ) where
+  -- what is sought lies in the lower half
   pub narrower-lower : to ≤ middleOf p → lowerOf p ≡ narrowerOf p from to
   unfolding narrowerOf
   narrower-lower h = rw (le-ltb (middleOf p) to h)
 
+  -- in the upper half
   pub narrower-upper : middleOf p < to → middleOf p ≤ from → upperOf p ≡ narrowerOf p from to
   unfolding narrowerOf
   narrower-upper h g = rw (lt-ltb (middleOf p) to h, le-ltb from (middleOf p) g)
 
+  -- in both
   pub narrower-same : middleOf p < to → from < middleOf p → p ≡ narrowerOf p from to
   unfolding narrowerOf
   narrower-same h g = rw (lt-ltb (middleOf p) to h, lt-ltb from (middleOf p) g)
@@ -52,6 +55,7 @@ module _ {leaves : ℕ} {over : List ℕ} {cost : List Float} {from to : ℕ} wh
   encloses-root c h = record { covers = c; low = omega arith; high = h }
 
   module _ {p : Place} (x : Encloses leaves over cost from to p) where
+    -- a place that encloses something is not empty
     pub encloses-some : p .lo < p .hi
     encloses-some = not-empty (x .covers)
 

@@ -7,7 +7,7 @@ use lib.ListN.{length, getD}
 use Rattle.base_terms.specs.Floats.{nonneg}
 use Rattle.base_terms.specs.Limits.{maxLen}
 use Rattle.path_pieces.specs.Limits.{maxIndex}
-use Rattle.path_pieces.specs.Pieces.{withPiece, scoreAt}
+use Rattle.path_pieces.specs.Pieces.{lengthWeights, withPiece, scoreAt}
 use Rattle.path_pieces.specs.Domain.{Preferred}
 use Rattle.path_pieces.specs.declared.lengths.Lengths.{Lengths}
 use Rattle.path_pieces.specs.declared.score.Score.{Score}
@@ -15,6 +15,11 @@ use Rattle.path_pieces.specs.declared.score.Score.{Score}
 -- the score of a path that comes from candidate i where the piece ends at the place `end`, and the score of candidate i stands at index base + i of two lists
 abbrev pub arrivalAt : Lengths → List ℕ → List ℕ → List Float → ℕ → ℕ → ℕ → Score
 arrivalAt l right over cost base end i = withPiece l (scoreAt over cost (base + i)) (end - getD right i 0)
+
+-- the preferences that a search holds: all that a length's cost looks at, without the weights of a cut
+abbrev pub lengthsHeld : Lengths → Lengths
+lengthsHeld l =
+    record { min = l .min; target = l .target; limit = l .limit; weights = lengthWeights (l .weights .target) (l .weights .short) }
 
 -- the candidates below `to`, none behind the place `end`, and their scores
 pub record Starts (l : Lengths) (right over : List ℕ) (cost : List Float) (base to end : ℕ) : Type 0 where

@@ -7,7 +7,7 @@ use lib.Dec.{T}
 use lib.Ieee.{Float}
 use lib.ListN.{getD}
 use Rattle.base_terms.specs.Floats.{nonneg}
-use Rattle.path_pieces.specs.Pieces.{lengthWeights, lessThan, scoreAt}
+use Rattle.path_pieces.specs.Pieces.{lessThan, scoreAt}
 use Rattle.path_pieces.specs.DomainLaws.{piece-nonneg}
 use Rattle.path_pieces.specs.Least.{heldOf}
 use Rattle.path_pieces.specs.LeastLaws.{least-only}
@@ -16,7 +16,7 @@ use Rattle.path_pieces.specs.declared.score.Score.{Score}
 use Rattle.path_pieces.specs.declared.best.Best.{Best}
 use Rattle.path_by_count_search.specs.Least.{every, entry, pickBest, leastIn, IsLeast}
 use Rattle.path_by_count_search.specs.LeastLaws.{least-one, least-more}
-use Rattle.path_by_count_search.specs.Starts.{arrivalAt, Starts, Start}
+use Rattle.path_by_count_search.specs.Starts.{arrivalAt, lengthsHeld, Starts, Start}
 
 module _ {l : Lengths} {right over : List ℕ} {cost : List Float} {base to end : ℕ} (s : Starts l right over cost base to end) where
   -- one start
@@ -28,9 +28,8 @@ module _ {l : Lengths} {right over : List ℕ} {cost : List Float} {base to end 
   arrival-nonneg i h =
       piece-nonneg (s .preferred) (scoreAt over cost (base + i)) (end - getD right i 0) (omega (arith, s .bounded)) (s .fine i h)
 
-  -- the same for the preferences that a search holds, without the weights of a cut
-  pub starts-held : Starts (record { min = l .min; target = l .target; limit = l .limit; weights = lengthWeights (l .weights .target) (l .weights .short) })
-      right over cost base to end
+  -- they are starts by the preferences that a search holds too
+  pub starts-held : Starts (lengthsHeld l) right over cost base to end
   starts-held = search
 
   -- ---- the plain search from `from` on, score by score

@@ -27,6 +27,7 @@ pub record Leaves (n leaves : ℕ) : Type 0 where
 
 -- ---- its scores
 
+-- one of two, by a test
 abbrev pub pickScore : Bool → Score → Score → Score
 pickScore true a b = a
 pickScore false a b = b

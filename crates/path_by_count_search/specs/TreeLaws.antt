@@ -19,6 +19,7 @@ use Rattle.path_by_count_search.specs.Tree.{Power, one, twice, pickScore
 
 -- ---- powers of two
 
+-- a power of two is not 0
 pub power-positive : {n : ℕ} → Power n → 0 < n
 power-positive one = omega arith
 power-positive (twice p e) = omega (arith, power-positive p)
@@ -42,19 +43,22 @@ lesser-below a b p q = go (atMost a b) (passes (atMost a b)) refl
 -- ---- what covering gives
 
 module _ {leaves to : ℕ} {over : List ℕ} {cost : List Float} where
+  -- a node that covers a range bounds it
   pub bound-of : {node lo hi : ℕ} → Covers leaves to over cost node lo hi → Bound leaves to over cost node lo hi
   bound-of (Covers.one e f b) = b
   bound-of (Covers.two l g b x y) = b
 
+  -- a covered range is not empty
   pub not-empty : {node lo hi : ℕ} → Covers leaves to over cost node lo hi → lo < hi
   not-empty (Covers.one e f b) = omega arith
   not-empty (Covers.two l g b x y) = omega arith
 
-  -- the halves, at the middle that the code computes
+  -- a node's left child covers the lower half, up to the middle that the code computes
   pub lower-half : {node lo hi mid : ℕ} → Covers leaves to over cost node lo hi → (hi - lo ≡ 1 → ⊥) → mid ≡ lo + (hi - lo) / 2 → Covers leaves to over cost (node * 2) lo mid
   lower-half (Covers.one e f b) n m = absurd (n (omega arith))
   lower-half (Covers.two l g b x y) n m = rw m x
 
+  -- and its right child the upper half
   pub upper-half : {node lo hi mid : ℕ} → Covers leaves to over cost node lo hi → (hi - lo ≡ 1 → ⊥) → mid ≡ lo + (hi - lo) / 2 → Covers leaves to over cost (node * 2 + 1) mid hi
   upper-half (Covers.one e f b) n m = absurd (n (omega arith))
   upper-half (Covers.two l g b x y) n m = rw m y

@@ -72,6 +72,7 @@ unfoldable pub outlookOf : Query → List ℕ → List ℕ → List Float → �
 outlookOf q right over cost node lo hi =
     pickBest (meets q lo hi) (record { score = activeBound q right over cost node lo hi; at = max lo (q .from) }) (record { score = noLeaf; at = hi })
 
+-- two halves in order: the upper one first where the test passes
 abbrev pub pickOrder : Bool → Half → Half → Ordered
 pickOrder true lower upper = record { first = upper; second = lower }
 pickOrder false lower upper = record { first = lower; second = upper }

@@ -53,6 +53,7 @@ module _ (q : Query) (right over : List ℕ) (cost : List Float) (node lo hi : �
   outlook-some s p z h d = let l : max lo (q .from) < min hi (q .to) = omega arith in rw (d, lt-ltb (max lo (q .from)) (min hi (q .to)) l, p, z)
 
 module _ (q : Query) {right over : List ℕ} {cost : List Float} (s : Starts (lengthsOf q) right over cost (q .leaves) (q .to) (q .end)) where
+  -- the bound of a node can be read
   pub looks : {node lo hi : ℕ} → Bound (q .leaves) (q .to) over cost node lo hi → Looks right over cost q node lo hi
   looks {node} {lo} {hi} b = record {
     ranged = λ h. record {
@@ -85,6 +86,7 @@ module _ (q : Query) {right over : List ℕ} {cost : List Float} (s : Starts (le
 
   -- ---- a range is left out: nothing of it comes before the best so far
 
+  -- a node whose bound is not before the best so far holds none that is
   pub none-better : {node lo hi : ℕ} {best : Best} → Covers (q .leaves) (q .to) over cost node lo hi → T (nonneg (best .score .cost))
       → aheadOf (outlookOf q right over cost node lo hi) best ≡ false
       → FirstIn (through q right over cost) lo hi (q .from) (q .to) best best

@@ -12,8 +12,9 @@ ghost use Rattle.path_by_count_search.specs.Visit.{Ranged};
 
 // The least cost of a length from the shortest to the longest.
 //
-// Independent lower bounds on the squared target distance and the shortfall. Every operation on the nonnegative terms is
-// monotone, including IEEE rounding. Using the same operation order as length_cost makes this safe even at exact ties.
+// Independent lower bounds on the squared target distance and the shortfall. Every operation on the nonnegative terms
+// is monotone, including IEEE rounding. Using the same operation order as length_cost makes this safe even at exact
+// ties.
 fn length_bound(lengths: Lengths, shortest: u64, longest: u64) -> f64
     requires { ⌜ shortest ≤ longest ⌝ }
     requires { ⌜ longest ≤ maxLen ⌝ }

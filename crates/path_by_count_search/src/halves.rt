@@ -1,4 +1,5 @@
-// The halves of a node's range, each with the best that a candidate of it can be: the half that promises more comes first.
+// The halves of a node's range, each with the best that a candidate of it can be: the half that promises more comes
+// first.
 use crate::bound;
 use crate::range;
 use crate::tree;
@@ -19,13 +20,14 @@ pub struct Half {
     pub outlook: Best,
 }
 
+// Two halves, the one with the better outlook first.
 pub struct Ordered {
     pub first: Half,
     pub second: Half,
 }
 
-// The best that a candidate of lo..hi in the query can be: their bound, at the first of them. Where none lies in the query,
-// more pieces over the limit than a path can have.
+// The best that a candidate of lo..hi in the query can be: their bound, at the first of them. Where none lies in the
+// query, more pieces over the limit than a path can have.
 fn outlook(
     right: &[u64],
     over: &[u32],

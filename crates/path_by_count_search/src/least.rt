@@ -13,8 +13,8 @@ ghost use Rattle.path_by_count_search.specs.Starts.{arrivalAt, Starts};
 ghost use Rattle.path_by_count_search.specs.Tree.{Covers};
 
 // The best predecessor among the candidates from..to of a piece that ends at the place `end`: a short range is searched
-// candidate by candidate, a longer one by the tree. That search starts from the candidate of the range next to `near`: the
-// better it is, the more of the tree is left out, and the answer does not depend on it.
+// candidate by candidate, a longer one by the tree. That search starts from the candidate of the range next to `near`:
+// the better it is, the more of the tree is left out, and the answer does not depend on it.
 pub fn least_predecessor(
     right: &[u64],
     over: &[u32],
@@ -30,7 +30,10 @@ pub fn least_predecessor(
     requires { ⌜ Covers leaves to (now over) (now cost) 1 0 leaves ⌝ }
     requires { ⌜ from < to ⌝ }
     requires { ⌜ to ≤ leaves ⌝ }
-    ensures { λ r. ⌜ heldOf r ≡ leastIn (arrivalAt lengths (now (right .entry)) (now (over .entry)) (now (cost .entry)) leaves end) from to ⌝ }
+    ensures { λ r. ⌜
+        heldOf r ≡ leastIn
+        (arrivalAt lengths (now (right .entry)) (now (over .entry)) (now (cost .entry)) leaves end) from to
+        ⌝ }
 {
     if to - from <= 16 {
         return scan::scan_least(right, over, cost, leaves, lengths, end, from, to);
@@ -48,5 +51,5 @@ pub fn least_predecessor(
         to,
         leaves,
     };
-    narrow::seek(right, over, cost, query, Best { score, at })
+    narrow::search(right, over, cost, query, Best { score, at })
 }

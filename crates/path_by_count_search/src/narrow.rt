@@ -43,13 +43,17 @@ fn narrower(place: Place, from: usize, to: usize) -> Place
     place
 }
 
-// The first of the best so far and the candidates in the query. No bound is needed on the way down to the place that holds them all.
-pub fn seek(right: &[u64], over: &[u32], cost: &[f64], query: Query, best: Best) -> Best
+// The first of the best so far and the candidates in the query. No bound is needed on the way down to the place that
+// holds them all.
+pub fn search(right: &[u64], over: &[u32], cost: &[f64], query: Query, best: Best) -> Best
     requires { ⌜ Starts (lengthsOf query) (now right) (now over) (now cost) (query .leaves) (query .to) (query .end) ⌝ }
     requires { ⌜ Covers (query .leaves) (query .to) (now over) (now cost) 1 0 (query .leaves) ⌝ }
     requires { ⌜ query .to ≤ query .leaves ⌝ }
     requires { ⌜ T (nonneg (best .score .cost)) ⌝ }
-    ensures { λ r. ⌜ FirstIn (through query (now (right .entry)) (now (over .entry)) (now (cost .entry))) 0 (query .leaves) (query .from) (query .to) best r ⌝ }
+    ensures { λ r. ⌜
+        FirstIn (through query (now (right .entry)) (now (over .entry)) (now (cost .entry))) 0 (query .leaves)
+        (query .from) (query .to) best r
+        ⌝ }
 {
     let mut place = Place {
         node: 1,

@@ -11,7 +11,8 @@ ghost use Rattle.path_pieces.specs.Least.{heldOf};
 ghost use Rattle.path_by_count_search.specs.Least.{pickBest, leastIn};
 ghost use Rattle.path_by_count_search.specs.Starts.{arrivalAt, Starts, Start};
 
-// The score through candidate i of a path whose last piece ends at the place `end`; the candidate's own score stands at index `node`.
+// The score through candidate i of a path whose last piece ends at the place `end`; the candidate's own score stands at
+// index `node`.
 pub fn score_from(
     right: &[u64],
     over: &[u32],
@@ -22,7 +23,10 @@ pub fn score_from(
     i: usize,
 ) -> Score
     requires { ⌜ Start (now right) (now over) (now cost) node i end ⌝ }
-    ensures { λ r. ⌜ r ≡ withPiece lengths (scoreAt (now (over .entry)) (now (cost .entry)) node) (end - getD (now (right .entry)) i 0) ⌝ }
+    ensures { λ r. ⌜
+        r ≡ withPiece lengths (scoreAt (now (over .entry)) (now (cost .entry)) node)
+        (end - getD (now (right .entry)) i 0)
+        ⌝ }
 {
     let prior = Score {
         over: over[node],
@@ -54,7 +58,10 @@ pub fn scan_least(
 ) -> Best
     requires { ⌜ Starts lengths (now right) (now over) (now cost) base to end ⌝ }
     requires { ⌜ from < to ⌝ }
-    ensures { λ r. ⌜ heldOf r ≡ leastIn (arrivalAt lengths (now (right .entry)) (now (over .entry)) (now (cost .entry)) base end) from to ⌝ }
+    ensures { λ r. ⌜
+        heldOf r ≡ leastIn (arrivalAt lengths (now (right .entry)) (now (over .entry)) (now (cost .entry)) base end)
+        from to
+        ⌝ }
 {
     let mut best = Best {
         score: score_from(right, over, cost, lengths, end, base + from, from),

@@ -36,7 +36,10 @@ pub fn pad_leaves(tree_over: &mut [u32], tree_cost: &mut [f64], from: usize, to:
     requires { ⌜ from ≤ to ⌝ }
     requires { ⌜ to ≤ length (now «tree_over») ⌝ }
     requires { ⌜ to ≤ length (now «tree_cost») ⌝ }
-    ensures { λ _. ⌜ Padded (now («tree_over» .entry)) (now («tree_cost» .entry)) from (now («tree_over» .exit)) (now («tree_cost» .exit)) to ⌝ }
+    ensures { λ _. ⌜
+        Padded (now («tree_over» .entry)) (now («tree_cost» .entry)) from (now («tree_over» .exit))
+        (now («tree_cost» .exit)) to
+        ⌝ }
 {
     for i in from..to {
         tree_over[i] = NO_CANDIDATE;
@@ -48,7 +51,10 @@ pub fn pad_leaves(tree_over: &mut [u32], tree_cost: &mut [f64], from: usize, to:
 pub fn link_nodes(tree_over: &mut [u32], tree_cost: &mut [f64], leaves: usize)
     requires { ⌜ leaves * 2 ≤ length (now «tree_over») ⌝ }
     requires { ⌜ leaves * 2 ≤ length (now «tree_cost») ⌝ }
-    ensures { λ _. ⌜ Linked (now («tree_over» .entry)) (now («tree_cost» .entry)) leaves (now («tree_over» .exit)) (now («tree_cost» .exit)) 1 ⌝ }
+    ensures { λ _. ⌜
+        Linked (now («tree_over» .entry)) (now («tree_cost» .entry)) leaves (now («tree_over» .exit))
+        (now («tree_cost» .exit)) 1
+        ⌝ }
 {
     let mut node = leaves;
     while 1 < node {

@@ -17,14 +17,15 @@ ghost use Rattle.path_by_count_search.specs.Starts.{Starts, Start};
 ghost use Rattle.path_by_count_search.specs.Tree.{Covers};
 ghost use Rattle.path_by_count_search.specs.Visit.{lengthsOf, FirstIn, through};
 
-// So few candidates are compared one after the other: a bound costs about as much as a score, so that halving on would cost more than it leaves out.
+// So few candidates are compared one after the other: a bound costs about as much as a score, so that halving on would
+// cost more than it leaves out.
 pub const FEW: usize = 16;
 
 // What is sought: the best predecessor among the candidates from..to of a piece that ends at the place `end`.
 // The leaf of candidate i stands at leaves + i.
 //
-// Of the preferences it holds the five numbers that a length's cost and its bound look at: every call of `visit` copies the query, and the weights
-// of a cut made it slower by up to 8 %.
+// Of the preferences it holds the five numbers that a length's cost and its bound look at: every call of `visit` copies
+// the query, and the weights of a cut made it slower by up to 8 %.
 pub struct Query {
     pub min: f64,
     pub target: f64,
@@ -52,7 +53,9 @@ pub fn lengths_of(query: Query) -> Lengths
 // The first of the best so far and the candidate i.
 fn at_leaf(right: &[u64], over: &[u32], cost: &[f64], query: Query, i: usize, best: Best) -> Best
     requires { ⌜ Start (now right) (now over) (now cost) (query .leaves + i) i (query .end) ⌝ }
-    ensures { λ r. ⌜ r ≡ firstOf (entry (through query (now (right .entry)) (now (over .entry)) (now (cost .entry))) i) best ⌝ }
+    ensures { λ r. ⌜
+        r ≡ firstOf (entry (through query (now (right .entry)) (now (over .entry)) (now (cost .entry))) i) best
+        ⌝ }
 {
     let lengths = lengths_of(query);
     let score = scan::score_from(right, over, cost, lengths, query.end, query.leaves + i, i);
@@ -71,7 +74,10 @@ fn at_leaves(
 ) -> Best
     requires { ⌜ Starts (lengthsOf query) (now right) (now over) (now cost) (query .leaves) (query .to) (query .end) ⌝ }
     requires { ⌜ T (nonneg (best .score .cost)) ⌝ }
-    ensures { λ r. ⌜ FirstIn (through query (now (right .entry)) (now (over .entry)) (now (cost .entry))) lo hi (query .from) (query .to) best r ⌝ }
+    ensures { λ r. ⌜
+        FirstIn (through query (now (right .entry)) (now (over .entry)) (now (cost .entry))) lo hi (query .from)
+        (query .to) best r
+        ⌝ }
 {
     let start = sizes::larger(lo, query.from);
     let stop = sizes::lesser(hi, query.to);
@@ -98,7 +104,10 @@ pub fn visit(
     requires { ⌜ Starts (lengthsOf query) (now right) (now over) (now cost) (query .leaves) (query .to) (query .end) ⌝ }
     requires { ⌜ Covers (query .leaves) (query .to) (now over) (now cost) node lo hi ⌝ }
     requires { ⌜ T (nonneg (best .score .cost)) ⌝ }
-    ensures { λ r. ⌜ FirstIn (through query (now (right .entry)) (now (over .entry)) (now (cost .entry))) lo hi (query .from) (query .to) best r ⌝ }
+    ensures { λ r. ⌜
+        FirstIn (through query (now (right .entry)) (now (over .entry)) (now (cost .entry))) lo hi (query .from)
+        (query .to) best r
+        ⌝ }
 {
     if hi - lo <= FEW {
         return at_leaves(right, over, cost, query, lo, hi, best);

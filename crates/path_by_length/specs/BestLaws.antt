@@ -3,7 +3,7 @@
 use mathlib.Core.Path.{_≡_, refl, sym, ap, subst, _∙_}
 use mathlib.Core.List.{List, [], _∷_}
 use Prim.Native.Nat.{ℕ, zero, suc, _≤_, _<_}
-use native.Mathlib.Nat.{le-refl, le-of-eq}
+use native.Mathlib.Nat.{le-refl}
 use native.Mathlib.Omega.{arith}
 use lib.Dec.{T}
 use lib.Ieee.{Float}
@@ -13,13 +13,14 @@ use Rattle.path_pieces.specs.Domain.{Searchable}
 use Rattle.path_pieces.specs.DomainLaws.{at-most-refl, at-most-trans, piece-bounded, piece-nonneg, piece-keeps, cut-at-keeps}
 use Rattle.path_pieces.specs.declared.lengths.Lengths.{Lengths}
 use Rattle.path_pieces.specs.declared.score.Score.{Score}
-use Rattle.path_by_length.specs.Paths.{Allowed, Onward, Path, step, scoreFrom, pathScore, Chosen}
-use Rattle.path_by_length.specs.PathsLaws.{path-more, path-score-more}
+use Rattle.path_rules.specs.Paths.{Allowed, Onward, Path, step, scoreFrom, pathScore}
+use Rattle.path_rules.specs.Ties.{Chosen}
+use Rattle.path_rules.specs.PathsLaws.{path-more, onward-rises, path-weaken, path-score-more}
 use Rattle.path_by_length.specs.Table.{bestScore, parentOf, wayTo, Falling}
 use Rattle.path_by_length.specs.TableLaws.{best-first, best-nonneg, best-step, best-least, parent-chosen, parent-below}
 use Rattle.path_by_length.specs.WayLaws.{way-first, way-step}
 
--- ---- rules
+-- ---- the way back
 
 -- where each parent follows a rule, so does the way back
 pub way-path : (rule : ℕ → ℕ → Type 0) (parent : ℕ → ℕ) (j : ℕ) → Falling parent j → ((k : ℕ) → 0 < k → k ≤ j → rule (parent k) k) → Path rule (wayTo parent j) j
@@ -32,21 +33,6 @@ way-path rule parent j f r = go (suc j) j (le-refl (suc j)) (le-refl j)
         let b : parent (suc k) < suc k = f (suc k) (omega arith) g in
         rw (way-step parent (suc k) (omega arith) (λ i u v. f i u (omega arith)))
         (path-more rule (wayTo parent (parent (suc k))) (parent (suc k)) (suc k) (go n (parent (suc k)) (omega arith) (omega arith)) (r (suc k) (omega arith) g))
-
--- a run of rising pieces ends no lower than it starts
-pub onward-rises : (rule : ℕ → ℕ → Type 0) → ((i j : ℕ) → rule i j → i < j) → (i : ℕ) (rest : List ℕ) (last : ℕ) → Onward rule i rest last → i ≤ last
-onward-rises rule w i [] last e = le-of-eq e
-onward-rises rule w i (j ∷ rest) last (p, r) = let a = w i j p in let b = onward-rises rule w j rest last r in omega arith
-
--- a path by a rule is a path by a weaker one
-pub path-weaken : (rule rule' : ℕ → ℕ → Type 0) (last : ℕ) → ((i j : ℕ) → rule i j → i < j) → ((i j : ℕ) → j ≤ last → rule i j → rule' i j) → (path : List ℕ)
-    → Path rule path last → Path rule' path last
-path-weaken rule rule' last rises w [] p = p
-path-weaken rule rule' last rises w (i ∷ rest) (e, r) = (e, go i rest r)
-  where
-    go : (i : ℕ) (rest : List ℕ) → Onward rule i rest last → Onward rule' i rest last
-    go i [] e = e
-    go i (j ∷ rest) (p, r) = (w i j (onward-rises rule rises j rest last r) p, go j rest r)
 
 -- ---- the table
 

@@ -1,15 +1,6 @@
--- What a path is, which one is best, and that the path found is the one, by length and by count.
--- Paths: document 01's piece rule (`Allowed`, `AllowedByCount`), paths (`PathByLength`, `PathByCount`), pieces over the limit (`overCount`), scores (`pathScore`),
--- best (`BestByLength`, `BestByCount`, `OwnBest`) and the tie rule (`TieRule`)
-pub mod Paths
---   one more piece (`path-more`, `path-score-more`); a score counts the pieces over the limit (`over-count`)
-pub mod PathsLaws
+-- The search by length: its table, and that the path of the table is the best. The rules of a path are those of path_rules.
 -- Table: the best scores by length (`bestScore`), the parents (`parentOf`), and the path that they give (`bestPath`)
 pub mod Table
--- Backward: the walk back over the predecessors of one candidate (`Scored`, `Costed`, `Walked`, `Long`, `isBeyond`)
-pub mod Backward
---   how it starts, goes on and ends (`walked-first`, `walked-next`, `walked-stop`, `walked-beyond`)
-pub mod BackwardLaws
 --   each best score by those before it (`best-next`); in the domain it comes from the lowest candidate whose score is least (`best-step`, `parent-chosen`), and no allowed piece
 --   gives a better one (`best-least`)
 pub mod TableLaws
@@ -19,18 +10,6 @@ pub mod WayLaws
 pub mod WalkLaws
 --   the table is the best of all paths (`best-chosen`, `best-allowed`, `best-attained`, `best-below`)
 pub mod BestLaws
---   the tie rule leaves one path (`tie-unique`), by whatever own best scores (`chosen-same`)
-pub mod TieLaws
--- ByCount: the same with an exact number of pieces (`bestWith`, `parentWith`, `bestPathByCount`, `bestScoreByCount`, `OwnBestByCount`, `TieRuleByCount`)
-pub mod ByCount
---   one row by the row before (`with-step`, `with-least`), and the table is the best of all paths (`with-allowed`, `with-attained`, `with-below`, `with-tie`)
-pub mod CountLaws
---   the tie rule leaves one path of as many pieces (`tie-unique-by-count`), by whatever own best scores (`tie-same-by-count`)
-pub mod CountTieLaws
--- BestPath: document 01's best path, all of it (`BestPathByLength`, `BestPathByCount`)
-pub mod BestPath
--- CountTheorems, about the definitions: `count-allowed`, `count-score`, `count-best`, `count-is-best`, `count-tie`, `count-only`, `count-all`; `own-best-by-count`
-pub mod CountTheorems
 -- Solved: what the functions need and leave (`TableRoom`, `FilledBefore`, `Filled`, `Settled`, `Parents`)
 pub mod Solved
 --   one candidate after another (`filled-next`), and the whole table (`filled-score`, `filled-parents`, `filled-path`)

@@ -8,6 +8,7 @@ use lib.Dec.{T-not}
 use lib.Ieee.{Float, nan}
 use lib.ListN.{length, set, take, drop, length-set, length-drop}
 use lib.Seq.{getD-set-same, getD-set-other, getD-take, getD-drop, drop-set-lt, length-take-le}
+use Rattle.base_terms.specs.Layout.{behindTable, endByLength}
 use Rattle.base_laws.specs.Tests.{lt-or-le}
 use Rattle.path_pieces.specs.Pieces.{noScore, arrival, scoreAt, withCutAt, mayStart}
 use Rattle.path_pieces.specs.declared.lengths.Lengths.{Lengths}
@@ -16,17 +17,18 @@ use Rattle.path_pieces.specs.declared.best.Found.{Found}
 use Rattle.path_pieces.specs.declared.best.Found.the-variants.{At, Nothing}
 use Rattle.path_pieces.specs.Least.{foundScore, foundIndex, lowestLeast, predecessorOf}
 use Rattle.path_pieces.specs.LeastLaws.{least-nothing}
-use Rattle.path_by_length.specs.Paths.{lastOf}
+use Rattle.path_rules.specs.Paths.{lastOf}
 use Rattle.path_by_length.specs.Table.{bestScore, bestOver, bestCost, parentOf, wayTo, bestPath}
-use Rattle.path_by_length.specs.Backward.{Scored, Costed}
+use Rattle.path_by_length_search.specs.Backward.{Scored, Costed}
 use Rattle.path_by_length.specs.WayLaws.{way-same}
 use Rattle.path_pieces.specs.PredecessorLaws.{start-next, predecessor-same}
 use Rattle.path_by_length.specs.TableLaws.{best-first, best-next, best-nonneg, best-few, parent-below}
 use Rattle.path_by_length.specs.Solved.{cutsIn, parentsIn, TableRoom, FilledBefore, Filled, parentAt, Parents}
 
--- the part of a list from n to n + n, as it is lent
-pub second-part : {A : Type 0} (n : ℕ) (xs : List A) → take (n + n - n) (drop n xs) ≡ take n (drop n xs)
-second-part n xs = let e : n + n - n ≡ n = omega arith in rw e
+-- the part of a list behind the table, as it is lent
+pub part-behind : {A : Type 0} (n : ℕ) {from to : ℕ} → from ≡ behindTable n → to ≡ endByLength n → (xs : List A)
+    → take (to - from) (drop from xs) ≡ take n (drop (behindTable n) xs)
+part-behind n {from} {to} e f xs = let d : to - from ≡ n = omega (arith, e, f) in rw (d, e)
 
 -- ---- at one candidate
 
@@ -72,6 +74,7 @@ module _ {l : Lengths} {left right over : List ℕ} {cost : List Float} {j : ℕ
   unfolding parentOf
   ready-parent s i e = ap foundIndex (e ∙ search-same)
 
+  -- so it is an earlier candidate
   pub ready-below : (s : Score) (i : ℕ) → At s i ≡ predecessorOf l left right (scoreAt over cost) 0 j → i < j
   ready-below s i e = rw (ready-parent s i e) (parent-below (ok .room .domain) j (ok .later) (ok .inside))
 
@@ -106,12 +109,12 @@ module _ {l : Lengths} {left right over₀ : List ℕ} {cost₀ : List Float} (r
 
     -- with its best score and its parent it stands in the table
     filled-with : j < length left → (a : ℕ) (c : Float) (p : ℕ) → bestScore l left right cut₀ j ≡ record { over = a; cost = c } → parentOf l left right cut₀ j ≡ p
-        → Filled l left right over₀ cost₀ (set (set over j a) (length left + j) p) (set cost j c) (suc j)
+        → Filled l left right over₀ cost₀ (set (set over j a) (behindTable (length left) + j) p) (set cost j c) (suc j)
     filled-with h a c p s e = record {
       scores = λ k m. elim (lt-or-le k j) [
         | inl n ↦
             rw (
-              getD-set-other (set over j a) (length left + j) k p 0 (λ q. absurd (omega arith)),
+              getD-set-other (set over j a) (behindTable (length left) + j) k p 0 (λ q. absurd (omega arith)),
               getD-set-other over j k a 0 (λ q. absurd (omega arith)),
               getD-set-other cost j k c nan (λ q. absurd (omega arith)),
             ) (f .scores k n)
@@ -119,7 +122,7 @@ module _ {l : Lengths} {left right over₀ : List ℕ} {cost₀ : List Float} (r
             let q : k ≡ j = omega arith in
             rw (
               q,
-              getD-set-other (set over j a) (length left + j) j p 0 (λ q. absurd (omega arith)),
+              getD-set-other (set over j a) (behindTable (length left) + j) j p 0 (λ q. absurd (omega arith)),
               getD-set-same over j a 0 (omega (arith, room .overs, f .overs)),
               getD-set-same cost j c nan (omega (arith, room .costs, f .costs)),
             ) (sym s)
@@ -127,29 +130,30 @@ module _ {l : Lengths} {left right over₀ : List ℕ} {cost₀ : List Float} (r
       parents = λ k m. elim (lt-or-le k j) [
         | inl n ↦
             rw (
-              getD-set-other (set over j a) (length left + j) (length left + k) p 0 (λ q. absurd (omega arith)),
-              getD-set-other over j (length left + k) a 0 (λ q. absurd (omega arith)),
+              getD-set-other (set over j a) (behindTable (length left) + j) (behindTable (length left) + k) p 0 (λ q. absurd (omega arith)),
+              getD-set-other over j (behindTable (length left) + k) a 0 (λ q. absurd (omega arith)),
             ) (f .parents k n)
         | inr n ↦
             let q : k ≡ j = omega arith in
-            rw (q, getD-set-same (set over j a) (length left + j) p 0 (simp length-set (omega (arith, room .overs, f .overs)))) (sym e)
+            rw (q, getD-set-same (set over j a) (behindTable (length left) + j) p 0 (simp length-set (omega (arith, room .overs, f .overs)))) (sym e)
       ];
-      cuts = ap (take (length left)) (drop-set-lt (length left) cost j c h) ∙ f .cuts;
+      cuts = ap (take (length left)) (drop-set-lt (behindTable (length left)) cost j c h) ∙ f .cuts;
       overs = simp length-set (f .overs);
       costs = simp length-set (f .costs);
     }
 
+    -- settling candidate j leaves the table of one candidate more
     pub filled-next : j < length left
         → Filled l left right over₀ cost₀
-        (set (set over j (bestOver l left right (cutsIn (length left) cost) j)) (length left + j) (parentOf l left right (cutsIn (length left) cost) j))
+        (set (set over j (bestOver l left right (cutsIn (length left) cost) j)) (behindTable (length left) + j) (parentOf l left right (cutsIn (length left) cost) j))
         (set cost j (bestCost l left right (cutsIn (length left) cost) j)) (suc j)
     filled-next h = rw (f .cuts) (filled-with h (bestOver l left right cut₀ j) (bestCost l left right cut₀ j) (parentOf l left right cut₀ j) refl refl)
 
   -- ---- the first candidate, which has the score of a path without pieces
 
-  module _ (z : Float) (e : z ≡ noScore .cost) where
+  module _ (z : Float) (e : z ≡ noScore .cost) {at : ℕ} (place : at ≡ behindTable (length left)) where
     abbrev over₁ : List ℕ
-    over₁ = set (set over₀ 0 0) (length left) 0
+    over₁ = set (set over₀ 0 0) at 0
 
     abbrev cost₁ : List Float
     cost₁ = set cost₀ 0 z
@@ -157,12 +161,14 @@ module _ {l : Lengths} {left right over₀ : List ℕ} {cost₀ : List Float} (r
     first : Filled l left right over₀ cost₀ over₁ cost₁ 1
     unfolding parentOf predecessorOf lowestLeast
     first =
-        let q : length left + 0 ≡ length left = omega arith in
+        let q : behindTable (length left) + 0 ≡ at = omega (arith, place) in
         rw q at (filled-with filled-none (room .domain .candidates .some) 0 z 0 (best-first l left right cut₀ ∙ ap (λ (c : Float). record { over = 0; cost = c }) (sym e)) refl)
 
+    -- the lists have room as before
     pub room-first : TableRoom l left right over₁ cost₁
     room-first = filled-room first
 
+    -- and they hold the table of one candidate
     pub filled-first : Filled l left right over₁ cost₁ over₁ cost₁ 1
     filled-first = record {
       scores = λ k h. rw (first .cuts) (first .scores k h);
@@ -196,12 +202,12 @@ module _ {l : Lengths} {left right over₀ : List ℕ} {cost₀ : List Float} (r
   parent-same : (k : ℕ) → k ≤ lastOf left → parentAt (parentsIn (length left) over) k ≡ parentOf l left right (cutsIn (length left) cost₀) k
   parent-same k h =
       let inside : k < length left = omega (arith, last-inside) in
-      getD-take (length left) (drop (length left) over) k 0 inside ∙ getD-drop (length left) over k 0 ∙ f .parents k inside
+      getD-take (length left) (drop (behindTable (length left)) over) k 0 inside ∙ getD-drop (behindTable (length left)) over k 0 ∙ f .parents k inside
 
   -- its parents lead back
   pub filled-parents : Parents (parentsIn (length left) over) (lastOf left)
   filled-parents = record {
-    inside = rw (length-take-le (length left) (drop (length left) over) (simp length-drop (omega (arith, f .overs, room .overs)))) last-inside;
+    inside = rw (length-take-le (length left) (drop (behindTable (length left)) over) (simp length-drop (omega (arith, f .overs, room .overs)))) last-inside;
     few = omega (arith, room .domain .candidates .few);
     falling = λ j h g. rw (parent-same j g) (parent-below (room .domain) j h (omega (arith, last-inside)));
   }

@@ -8,7 +8,7 @@ use Rattle.path_pieces.specs.Pieces.{noScore, withCutAt}
 use Rattle.path_pieces.specs.declared.lengths.Lengths.{Lengths}
 use Rattle.path_pieces.specs.declared.score.Score.{Score}
 use Rattle.path_pieces.specs.Least.{foundScore, foundIndex, predecessorOf}
-use Rattle.path_by_length.specs.Paths.{lastOf}
+use Rattle.path_rules.specs.Paths.{lastOf}
 
 module _ (l : Lengths) (left right : List ℕ) (cut : List Float) where
   -- the best score at candidate j, from those of the candidates before it
@@ -25,10 +25,11 @@ module _ (l : Lengths) (left right : List ℕ) (cut : List Float) where
   unfoldable pub bestScore : ℕ → Score
   bestScore j = getD (tableOf (suc j)) j noScore
 
-  -- its two parts
+  -- its number of pieces over the limit
   abbrev pub bestOver : ℕ → ℕ
   bestOver j = bestScore j .over
 
+  -- its cost
   abbrev pub bestCost : ℕ → Float
   bestCost j = bestScore j .cost
 
@@ -52,6 +53,6 @@ wayTo parent j = wayBack parent j j
 abbrev pub Falling : (ℕ → ℕ) → ℕ → Type 0
 Falling parent last = (j : ℕ) → 0 < j → j ≤ last → parent j < j
 
--- the path of the table, from the first candidate to the last
+-- document 01's path by length: the path of the table, from the first candidate to the last
 unfoldable pub bestPath : Lengths → List ℕ → List ℕ → List Float → List ℕ
 bestPath l left right cut = wayTo (parentOf l left right cut) (lastOf left)

@@ -19,7 +19,8 @@ use Rattle.path_pieces.specs.declared.lengths.Lengths.{Lengths}
 use Rattle.path_pieces.specs.declared.score.Score.{Score}
 use Rattle.path_pieces.specs.declared.best.Found.{Found}
 use Rattle.path_pieces.specs.Least.{foundScore, predecessorOf}
-use Rattle.path_by_length.specs.Paths.{step, Chosen, Allowed}
+use Rattle.path_rules.specs.Paths.{step, Allowed}
+use Rattle.path_rules.specs.Ties.{Chosen}
 use Rattle.path_by_length.specs.Table.{nextScore, tableOf, bestScore, parentOf}
 use Rattle.path_pieces.specs.PredecessorLaws.{predecessor-same, predecessor-chosen}
 
@@ -37,7 +38,7 @@ module _ (l : Lengths) (left right : List ℕ) (cut : List Float) where
     | inr g ↦ let e : k ≡ n = omega arith in rw e
   ]
 
-  -- a path without pieces
+  -- the first candidate has the score of a path without pieces
   pub best-first : bestScore l left right cut 0 ≡ noScore
   unfolding bestScore tableOf nextScore
   best-first = refl

@@ -15,11 +15,13 @@ use Rattle.path_pieces.specs.Pieces.{atMost}
 use Rattle.path_pieces.specs.Domain.{Searchable}
 use Rattle.path_pieces.specs.declared.lengths.Lengths.{Lengths}
 use Rattle.path_pieces.specs.declared.score.Score.{Score}
-use Rattle.path_by_length.specs.Paths.{PathByLength, pathScore, BestByLength, Chosen, TieRule, lastOf, OwnBest}
+use Rattle.path_rules.specs.Paths.{PathByLength, pathScore, BestByLength, lastOf}
+use Rattle.path_rules.specs.PathsLaws.{path-weaken}
+use Rattle.path_rules.specs.Ties.{OwnBest, Chosen, TieRule}
+use Rattle.path_rules.specs.TiesLaws.{tie-unique, chosen-same}
+use Rattle.path_rules.specs.BestPath.{BestPathByLength}
 use Rattle.path_by_length.specs.Table.{bestScore, parentOf, wayTo, bestPath}
-use Rattle.path_by_length.specs.BestPath.{BestPathByLength}
-use Rattle.path_by_length.specs.TieLaws.{tie-unique, chosen-same}
-use Rattle.path_by_length.specs.BestLaws.{path-weaken, best-chosen, best-allowed, best-attained, best-below}
+use Rattle.path_by_length.specs.BestLaws.{best-chosen, best-allowed, best-attained, best-below}
 
 -- a candidate's own best score is the best of the allowed paths to it
 pub own-best : {l : Lengths} {left right : List ℕ} {cut : List Float} → Searchable l left right cut → OwnBest l left right cut (bestScore l left right cut)

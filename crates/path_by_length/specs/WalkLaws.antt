@@ -28,12 +28,14 @@ module _ {parent : ℕ → ℕ} {last : ℕ} (falls : Falling parent last) where
 
   -- ---- counting
 
+  -- one more candidate is counted
   pub counting-next : (len j : ℕ) → 0 < j → Counting parent last len j → Counting parent last (len + 1) (parent j)
   counting-next len j h (a, b, e) =
       let f = falls j h a in
       let g = way-length parent j h (falls-to j a) in
       (omega arith, omega arith, omega arith)
 
+  -- at the first candidate all are counted
   pub counting-done : (len j : ℕ) → j ≤ 0 → Counting parent last len j → len ≡ length (wayTo parent last)
   counting-done len j h (a, b, e) =
       let z : j ≡ 0 = omega arith in
@@ -46,6 +48,7 @@ module _ {parent : ℕ → ℕ} {last : ℕ} (falls : Falling parent last) where
     abbrev whole : List ℕ
     whole = onto (wayTo parent last) path₀
 
+    -- nothing is written yet
     pub writing-start : (n : ℕ) → n ≡ length (wayTo parent last) → Writing parent last path₀ path₀ n last
     unfolding onto
     writing-start n e = (
@@ -80,7 +83,7 @@ module _ {parent : ℕ → ℕ} {last : ℕ} (falls : Falling parent last) where
           sym (take-take (length before) n (wayTo parent last) (omega arith)) ∙ ap (take (length before)) (w .2 ∙ split)
           ∙ take-at before (j ∷ []) (length before) refl
 
-    -- where it is written
+    -- there is room for one more candidate
     pub writing-room : (path : List ℕ) (n j : ℕ) → Writing parent last path₀ path n j → (0 < n) × (n ≤ length path)
     writing-room path n j w =
         let s = way-some parent j (falls-to j (w .0)) in
@@ -88,6 +91,7 @@ module _ {parent : ℕ → ℕ} {last : ℕ} (falls : Falling parent last) where
         let q = ap length (w .2) in
         (omega (arith, w .1), omega (arith, w .1, w .3))
 
+    -- one more candidate is written
     pub writing-next : (path : List ℕ) (n j : ℕ) → 0 < j → Writing parent last path₀ path n j → Writing parent last path₀ (set path (n - 1) j) (n - 1) (parent j)
     writing-next path n j h w =
         let before = wayTo parent (parent j) in
@@ -103,6 +107,7 @@ module _ {parent : ℕ → ℕ} {last : ℕ} (falls : Falling parent last) where
           written path n j before s z w,
         )
 
+    -- with the first candidate the whole way is written
     pub writing-done : (path : List ℕ) (n j : ℕ) → j ≤ 0 → Writing parent last path₀ path n j → set path 0 0 ≡ onto (wayTo parent last) path₀
     writing-done path n j h w =
         let e : j ≡ 0 = omega arith in

@@ -21,7 +21,7 @@ module _ (parent : ℕ → ℕ) where
       let b : parent (suc j) < suc j = f (suc j) (omega arith) (le-refl (suc j)) in
       ap (λ (p : List ℕ). p ++ (suc j ∷ [])) (way-enough n m (parent (suc j)) (omega arith) (omega arith) (λ k u v. f k u (omega arith)))
 
-  -- it starts at the first candidate
+  -- the way to the first candidate is that candidate alone
   pub way-first : wayTo parent 0 ≡ 0 ∷ []
   unfolding wayBack
   way-first = refl
@@ -46,15 +46,17 @@ module _ (parent : ℕ → ℕ) where
       let r = some-under n (parent (suc j)) (omega arith) (λ k u v. f k u (omega arith)) in
       rw (way-length (suc j) (omega arith) f) (omega arith, omega arith)
 
-  -- and no more candidates than there are up to it
+  -- it has a candidate
   pub way-some : (j : ℕ) → Falling parent j → 0 < length (wayTo parent j)
   way-some j f = some-under (suc j) j (omega arith) f .0
 
+  -- and no more candidates than there are up to its end
   pub way-few : (j : ℕ) → Falling parent j → length (wayTo parent j) ≤ suc j
   way-few j f = some-under (suc j) j (omega arith) f .1
 
 -- ---- it looks at the parents on the way alone
 
+-- parents that agree up to j give the same way to j
 pub way-same : (parent parent' : ℕ → ℕ) (j : ℕ) → Falling parent j → ((k : ℕ) → k ≤ j → parent k ≡ parent' k) → wayTo parent j ≡ wayTo parent' j
 unfolding wayBack
 way-same parent parent' j f e = go j j (le-refl j)

@@ -7,9 +7,9 @@ use lib.Ieee.{Float}
 use lib.ListN.{length, take}
 use Rattle.base_terms.specs.Lists.{onto}
 use Rattle.path_pieces.specs.declared.lengths.Lengths.{Lengths}
-use Rattle.path_by_length.specs.Paths.{pathScore}
-use Rattle.path_by_length.specs.BestPath.{BestPathByLength, BestPathByCount}
-use Rattle.path_by_length.specs.declared.solve.Solved.{Solved}
+use Rattle.path_rules.specs.Paths.{pathScore}
+use Rattle.path_rules.specs.BestPath.{BestPathByLength, BestPathByCount}
+use Rattle.path_rules.specs.declared.solved.Solved.{Solved}
 
 -- the path stands at the front of the output, and nothing beyond it has changed
 pub record Written (before after : List ℕ) (s : Solved) : Type 0 where

@@ -5,11 +5,11 @@
 pub mod Operation
 --   path-refused, path-sought   each end of the operation
 pub mod OperationLaws
--- Seek: what the search asks (`Workable`)
-pub mod Seek
+-- Search: what the search asks (`Workable`)
+pub mod Search
 --   length-cuts, length-room, count-cuts, count-room   the costs in work memory; size-fits, workable   the search may begin
 --   handed-short, handed-found, sought-length, sought-short, sought-count   each end of the search
-pub mod SeekLaws
+pub mod SearchLaws
 -- Found: what is claimed of a path that was found (`FoundByLength`, `FoundByCount`; `Written`: where it stands)
 pub mod Found
 -- Theorems: that holds of every path that was found (`found-by-length`, `found-by-count`), and 0 is the number of no other answer (`number-zero`)

@@ -11,15 +11,15 @@ use Rattle.path_pieces.specs.declared.lengths.Lengths.{Lengths}
 use Rattle.path_pieces.specs.declared.mode.Mode.{Mode}
 use Rattle.path_pieces.specs.declared.mode.Mode.the-variants.{ByLength, ByCount}
 use Rattle.path_pieces.specs.declared.score.Score.{Score}
-use Rattle.path_by_length.specs.Paths.{lastOf, piecesOf}
+use Rattle.path_rules.specs.Paths.{lastOf, piecesOf}
 use Rattle.path_by_length.specs.Table.{bestScore, bestPath}
-use Rattle.path_by_length.specs.ByCount.{bestPathByCount, bestScoreByCount}
+use Rattle.path_by_count.specs.Table.{bestPathByCount, bestScoreByCount}
 use Rattle.path_tests.specs.Refusal.{firstRefusalOf}
 use Rattle.path_tests.specs.Refusal as tests
 use Rattle.path_tests.specs.declared.refusal.Verdict.{Verdict}
 use Rattle.path_tests.specs.declared.refusal.Verdict.the-variants.{Fine, Fails}
-use Rattle.path_list.specs.declared.seek.Answer.{Answer}
-use Rattle.path_list.specs.declared.seek.Answer.the-variants.{Found, Refused, ShortParent, ShortPath}
+use Rattle.path_list.specs.declared.search.Answer.{Answer}
+use Rattle.path_list.specs.declared.search.Answer.the-variants.{Found, Refused, ShortParent, ShortPath}
 
 -- document 01's number for each case of the answer; 0 where a path was found
 abbrev pub numberOf : Answer → ℕ
@@ -35,6 +35,7 @@ pub record Outcome : Type 0 where
   pub answer : Answer
   pub path : List ℕ
 
+-- the outcome, from its two parts
 abbrev pub outcomeOf : Answer → List ℕ → Outcome
 outcomeOf answer path = record { answer = answer; path = path }
 
@@ -45,10 +46,11 @@ handedOf way score path =
     (outcomeOf (Found (record { score = score; len = length way })) (onto way path))
     (outcomeOf ShortPath path)
 
--- by length the best path; by count the best path of so many pieces
+-- by length, document 01's best path
 abbrev pub handedByLength : Lengths → List ℕ → List ℕ → List Float → List ℕ → Outcome
 handedByLength l left right cost path = handedOf (bestPath l left right cost) (bestScore l left right cost (lastOf left)) path
 
+-- by count, the best path of min(count, last index) pieces
 abbrev pub handedByCount : Lengths → List ℕ → List ℕ → List Float → ℕ → List ℕ → Outcome
 handedByCount l left right cost count path = handedOf (bestPathByCount l left right cost count) (bestScoreByCount l left right cost count) path
 
@@ -67,6 +69,7 @@ pub record End : Type 0 where
   pub work : Work
   pub parent : List ℕ
 
+-- what a call leaves, from its parts
 abbrev pub endOf : Answer → List ℕ → Work → List ℕ → End
 endOf answer path work parent = record { answer = answer; path = path; work = work; parent = parent }
 
@@ -75,6 +78,7 @@ abbrev pub endAfter : Verdict → Outcome → List ℕ → Work → List ℕ →
 endAfter Fine sought path work parent = endOf (sought .answer) (sought .path) (cleared work) (filled 0 parent)
 endAfter (Fails r) sought path work parent = endOf (Refused r) path work parent
 
+-- document 01's operation "path over lent candidates": its tests, and then the search
 unfoldable pub pathOf : Lengths → List ℕ → List ℕ → List Float → Mode → List ℕ → Work → List ℕ → End
 pathOf l left right cost mode path work parent =
     endAfter

@@ -11,8 +11,8 @@ use Rattle.path_pieces.specs.declared.mode.Mode.{Mode}
 use Rattle.path_tests.specs.Refusal.{firstRefusalOf}
 use Rattle.path_tests.specs.declared.refusal.Verdict.the-variants.{Fine, Fails}
 use Rattle.path_tests.specs.declared.refusal.Refusal.{Refusal}
-use Rattle.path_list.specs.declared.seek.Answer.{Answer}
-use Rattle.path_list.specs.declared.seek.Answer.the-variants.{Refused}
+use Rattle.path_list.specs.declared.search.Answer.{Answer}
+use Rattle.path_list.specs.declared.search.Answer.the-variants.{Refused}
 use Rattle.path_list.specs.Operation.{Outcome, outcomeOf, soughtOf, endOf, pathOf}
 
 module _ (l : Lengths) (left right : List ℕ) (cost : List Float) (mode : Mode) (path : List ℕ) (work : Work) (parent : List ℕ) where

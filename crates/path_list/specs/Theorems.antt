@@ -18,20 +18,20 @@ use Rattle.path_pieces.specs.declared.lengths.Lengths.{Lengths}
 use Rattle.path_pieces.specs.declared.mode.Mode.{Mode}
 use Rattle.path_pieces.specs.declared.mode.Mode.the-variants.{ByLength, ByCount}
 use Rattle.path_pieces.specs.declared.score.Score.{Score}
-use Rattle.path_by_length.specs.Paths.{piecesOf, lastOf, pathScore}
+use Rattle.path_rules.specs.Paths.{piecesOf, lastOf, pathScore}
 use Rattle.path_by_length.specs.Table.{bestScore, bestPath}
-use Rattle.path_by_length.specs.ByCount.{bestPathByCount, bestScoreByCount}
+use Rattle.path_by_count.specs.Table.{bestPathByCount, bestScoreByCount}
 use Rattle.path_by_length.specs.Theorems.{best-path-score, best-path-all}
-use Rattle.path_by_length.specs.CountTheorems.{count-score, count-all}
-use Rattle.path_by_length.specs.declared.solve.Solved.{Solved}
+use Rattle.path_by_count.specs.Theorems.{count-score, count-all}
+use Rattle.path_rules.specs.declared.solved.Solved.{Solved}
 use Rattle.path_tests.specs.Refusal.{firstRefusalOf}
 use Rattle.path_tests.specs.RefusalLaws.{AcceptedLists, accepted-lists}
 use Rattle.path_tests.specs.declared.refusal.Verdict.{Verdict}
 use Rattle.path_tests.specs.declared.refusal.Verdict.the-variants.{Fine, Fails}
 use Rattle.path_tests.specs.declared.refusal.Refusal.{Refusal}
 use Rattle.path_tests.specs.declared.refusal.Refusal.the-variants.{BadLists, BadEnds, BadCosts, BadCount, ShortWork}
-use Rattle.path_list.specs.declared.seek.Answer.{Answer}
-use Rattle.path_list.specs.declared.seek.Answer.the-variants.{Found, Refused, ShortParent, ShortPath}
+use Rattle.path_list.specs.declared.search.Answer.{Answer}
+use Rattle.path_list.specs.declared.search.Answer.the-variants.{Found, Refused, ShortParent, ShortPath}
 use Rattle.path_list.specs.Operation.{numberOf, Outcome, outcomeOf, handedOf, handedByCount, soughtOf, endAfter, pathOf}
 use Rattle.path_list.specs.Found.{Written, FoundByLength, FoundByCount}
 

@@ -1,4 +1,5 @@
-// The lent costs copied into work memory: two parts of one list cannot be lent at once, so the search has scores and cuts in one list.
+// The lent costs copied into work memory: two parts of one list cannot be lent at once, so the search has scores and
+// cuts in one list.
 use base_code::front;
 ghost use mathlib.Core.Path.{_≡_};
 ghost use lib.ListN.{length};

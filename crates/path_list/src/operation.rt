@@ -1,6 +1,6 @@
 // The operation itself.
-use crate::seek;
-use crate::seek::Answer;
+use crate::search;
+use crate::search::Answer;
 use base_code::clear;
 use base_code::work;
 use path_pieces::lengths::Lengths;
@@ -52,7 +52,7 @@ pub fn best_path(
     if let Verdict::Fails(refusal) = verdict {
         return Answer::Refused(refusal);
     }
-    let answer = seek::seek(left, right, cost, lengths, mode, u32s, f64s, parent, path);
+    let answer = search::search(left, right, cost, lengths, mode, u32s, f64s, parent, path);
     work::clear_work(u32s, u64s, f64s);
     clear::clear_u32(parent);
     answer

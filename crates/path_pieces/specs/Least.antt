@@ -27,6 +27,7 @@ abbrev pub foundIndex : Found → ℕ
 foundIndex Nothing = 0
 foundIndex (At s i) = i
 
+-- one of two, by a test
 abbrev pub pickFound : Bool → Found → Found → Found
 pickFound true a b = a
 pickFound false a b = b

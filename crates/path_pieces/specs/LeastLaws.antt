@@ -79,6 +79,7 @@ never (At t k) s i e = elim (tested (atMost s t)) [
   | inr b ↦ let z : _≡_ {A = ℕ} 0 1 = cc (rw b at e) in omega arith
 ]
 
+-- where nothing is found, no candidate passes
 pub least-nothing : (test : ℕ → Bool) (score : ℕ → Score) (from j : ℕ) → lowestLeast test score from (j - from) ≡ Nothing
     → (k : ℕ) → from ≤ k → k < j → T (not (test k))
 unfolding lowestLeast
@@ -128,6 +129,7 @@ module _ (test : ℕ → Bool) (score : ℕ → Score) (from j : ℕ) where
 
 -- ---- it looks at nothing outside its range
 
+-- it looks at the tests and scores of the range alone
 pub least-same : (test test' : ℕ → Bool) (score score' : ℕ → Score) (from j : ℕ) → ((k : ℕ) → from ≤ k → k < j → test k ≡ test' k)
     → ((k : ℕ) → from ≤ k → k < j → score k ≡ score' k) → lowestLeast test score from (j - from) ≡ lowestLeast test' score' from (j - from)
 unfolding lowestLeast
@@ -241,6 +243,7 @@ least-settled test score from to i (At s k) g h t a = a
 
 -- ---- there is one only
 
+-- there is only one such candidate
 pub lowest-unique : {test : ℕ → Bool} {score : ℕ → Score} {from to : ℕ} (i k : ℕ) → T (nonneg (score i .cost)) → T (nonneg (score k .cost))
     → LowestLeast test score from to i → LowestLeast test score from to k → i ≡ k
 lowest-unique {test} {score} i k p q a b = elim (lt-or-le i k) [

@@ -6,8 +6,8 @@ ghost use Prim.Native.Nat.{_≤_};
 ghost use Rattle.base_terms.specs.Limits.{maxLen};
 ghost use Rattle.path_pieces.specs.Pieces.{lengthCostOf, isShort, passesTarget, overOf};
 
-// What is preferred of a piece's length: the minimum and the target, the limit that it should not pass, and the weights, of which
-// those of being off the target and below the minimum count here.
+// What is preferred of a piece's length: the minimum and the target, the limit that it should not pass, and the
+// weights, of which those of being off the target and below the minimum count here.
 pub struct Lengths {
     pub min: f64,
     pub target: f64,
@@ -48,7 +48,8 @@ pub fn passes_target(lengths: Lengths, len: u64) -> bool
     lengths.target < len
 }
 
-// What a piece that is not below the minimum costs: one division, where `length_cost` may be compiled to make both of its own for every piece.
+// What a piece that is not below the minimum costs: one division, where `length_cost` may be compiled to make both of
+// its own for every piece.
 pub fn long_cost(lengths: Lengths, len: u64) -> f64
     requires { ⌜ len ≤ maxLen ⌝ }
     requires { ⌜ isShort lengths len ≡ false ⌝ }

@@ -9,6 +9,7 @@ ghost use Rattle.base_terms.specs.Limits.{maxLen};
 ghost use Rattle.path_pieces.specs.Limits.{maxIndex};
 ghost use Rattle.path_pieces.specs.Pieces.{isShort, withPiece, withCut, withCutAt, lessThan, atMost, equalTo};
 
+// How many pieces are over the limit, and what the path costs.
 pub struct Score {
     pub over: u32,
     pub cost: f64,

@@ -1,7 +1,9 @@
-// What cuts and piece lengths cost, in the Rust's words. Only the two weights of a length count for a path over given costs.
+// What cuts and piece lengths cost, in the Rust's words. Only the two weights of a length count for a path over given
+// costs.
 ghost use mathlib.Core.Path.{_≡_};
 ghost use Rattle.path_pieces.specs.Pieces.{lengthWeights};
 
+// Document 01's weights.
 pub struct Weights {
     // Fixed cost of every cut. Keeps free cuts in digital silence from multiplying.
     pub cut: f64,

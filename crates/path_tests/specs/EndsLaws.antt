@@ -18,6 +18,7 @@ use Rattle.path_tests.specs.Ends.{listsOk, endOk, endsFrom, endsOk}
 
 -- ---- the loop: the test of all candidates has come down to those from i on, which follow the right end `last`
 
+-- those before i passed
 abbrev pub Ending : List ℕ → List ℕ → ℕ → ℕ → ℕ → ℕ → Type 0
 Ending left right limit end last i =
     (i ≤ length left) × (end ≡ length left) × (length right ≡ length left) × (endsFrom last (drop i left) (drop i right) ≡ endsOk left right limit)
@@ -63,6 +64,7 @@ pub record EqualLists (lefts rights costs : ℕ) : Type 0 where
   pub paired : rights ≡ lefts
   pub priced : costs ≡ lefts
 
+-- lists that pass are equally long
 pub lists-parts : (lefts rights costs : ℕ) → listsOk lefts rights costs ≡ true → EqualLists lefts rights costs
 unfolding listsOk
 lists-parts lefts rights costs e =

@@ -5,7 +5,8 @@ use mathlib.Core.List.{List, List·Memᴰ}
 use Prim.Native.Nat.{ℕ, suc, _-_, _≤_, _<_}
 use lib.ListN.{length}
 use Rattle.candidate_span.specs.Gaps.{Cut}
-use Rattle.division.specs.Division.{Span, Place}
+use Rattle.candidate_span.specs.Span.{Span}
+use Rattle.division.specs.Division.{Place}
 use Rattle.candidates.specs.declared.candidate.Candidate.{Candidate}
 use Rattle.plan_division.specs.Along.{endsAt}
 

@@ -8,12 +8,13 @@ use native.Mathlib.Omega.{arith}
 use lib.Ieee.{Float}
 use lib.ListN.{length}
 use Rattle.base_laws.specs.Tests.{lt-or-le}
-use Rattle.path_by_length.specs.Paths.{Onward}
+use Rattle.path_rules.specs.Paths.{Onward}
 use Rattle.candidate_span.specs.Gaps.{Cut, Spread}
 use Rattle.candidate_span.specs.KeptIn.{Outside, kept-in, kept-of}
 use Rattle.candidate_span.specs.GapsLaws.{gaps-inside}
+use Rattle.candidate_span.specs.Span.{Span, spanOf}
 use Rattle.candidate_points.specs.Points.{isIn}
-use Rattle.division.specs.Division.{Span, spanOf, Place, boundary, gap, Row, Division, Among}
+use Rattle.division.specs.Division.{Place, boundary, gap, Row, Division, Among}
 use Rattle.division.specs.PlacesLaws.{place-inside, places-apart}
 use Rattle.candidates.specs.declared.candidate.Candidate.{Candidate}
 use Rattle.candidates.specs.declared.context.Context.{Context}
@@ -58,6 +59,7 @@ module _ (s : Span) (cs : List Candidate) (p : Across s cs) where
   numbers-rise zero a z e = omega arith
   numbers-rise (suc n) a z e = (omega arith, numbers-rise n (suc a) z (omega arith))
 
+  -- the path through all candidates rises
   pub whole-rises : Rising cs (wholePath cs)
   whole-rises = (refl, numbers-rise (length cs - 1) 0 (length cs - 1) (omega arith))
 
@@ -69,6 +71,7 @@ module _ (s : Span) (cs : List Candidate) (p : Across s cs) where
   numbers-length zero a = refl
   numbers-length (suc n) a = ap suc (numbers-length n (suc a))
 
+  -- that path has every candidate
   pub whole-length : length (wholePath cs) ≡ length cs
   whole-length = omega (arith, numbers-length (length cs - 1) 0, p .some)
 
@@ -94,6 +97,7 @@ module _ (s : Span) (cs : List Candidate) (p : Across s cs) where
 
   -- ---- a place with the left end of a candidate is that candidate
 
+  -- a place whose left end a candidate has is that candidate
   pub left-cut : Spread (s .first) (s .gaps) (s .last) → (k : Cut) → Place s k → HasLeft cs (k .left) → HasCut cs k
   left-cut spread k q f = record { number = f .number; after = after; before = before; is = same }
     where
@@ -129,7 +133,7 @@ module _ (x : Context) (ss runs : List ℕ) (levels : List Float) (ks : List ℕ
   cs = candidatesOf x ss runs levels ks first last
 
   abbrev span : Span
-  span = spanOf (x .gap) (x .frames) (x .pre) (x .tail) ss
+  span = spanOf (x .gap) (x .padding) ss
 
   -- a candidate between the ends is a kept boundary or a dropped gap
   candidate-placed : (i : ℕ) → 0 < i → suc i < length cs → Place span (endsAt cs i)
@@ -151,7 +155,7 @@ module _ (x : Context) (ss runs : List ℕ) (levels : List Float) (ks : List ℕ
       clear : endsAt cs i .right ≤ endsAt cs i .left → Outside (span .gaps) (endsAt cs i .left)
       clear d j m = elim (gap-alone x ss runs levels ks first last p j m i (omega arith)) [
         | inl e ↦
-            let w = gaps-inside (x .gap) (x .frames) (x .pre) (x .tail) ss (p .prepared .spanned) j m in
+            let w = gaps-inside (x .gap) (x .padding) ss (p .prepared .spanned) j m in
             absurd (omega (arith, d, w .1, ap (λ (c : Cut). c .left) e, ap (λ (c : Cut). c .right) e))
         | inr w ↦ elim w [ inl a ↦ inl (omega (arith, a, ordered)) | inr a ↦ inr a ]
       ]

@@ -2,7 +2,7 @@
 use mathlib.Core.Path.{_≡_, refl, sym, ap, subst}
 use mathlib.Core.Bool.{Bool, true, false, cond}
 use mathlib.Core.List.{List, [], _∷_, _++_, List·Memᴰ, List·Memᴰ·head, List·Memᴰ·tail, List·Memᴰ·not-nil, Memᴰ·append-left, Memᴰ·append-right}
-use Prim.Native.Nat.{ℕ, _+_, _-_, _≤_, _<_}
+use Prim.Native.Nat.{ℕ, _+_, _≤_, _<_}
 use native.Mathlib.Omega.{arith}
 use lib.Dec.{eqb}
 use lib.Ieee.{Float}
@@ -10,8 +10,9 @@ use borrow.Author.Tests.{eqb-true, eq-eqb}
 use Rattle.candidate_span.specs.Gaps.{Cut}
 use Rattle.candidate_span.specs.GapsLaws.{gaps-inside}
 use Rattle.candidate_span.specs.KeptIn.{Outside, kept-of}
+use Rattle.candidate_span.specs.Span.{Span, spanOf}
 use Rattle.candidate_points.specs.Points.{isIn}
-use Rattle.division.specs.Division.{Span, spanOf, Place, boundary, gap}
+use Rattle.division.specs.Division.{Place, boundary, gap}
 use Rattle.division.specs.SpanLaws.{span-spread}
 use Rattle.division.specs.PlacesLaws.{place-inside}
 use Rattle.candidates.specs.declared.candidate.Candidate.{Candidate}
@@ -64,11 +65,11 @@ of-points (c ∷ cuts) j m = go (eqb (c .left) (c .right)) (eqb-true (c .left) (
 
 module _ (x : Context) (ss runs : List ℕ) (levels : List Float) (ks : List ℕ) (added : List Cut) (first last : ℕ) (p : Planned x ss levels ks first last) where
   abbrev span : Span
-  span = spanOf (x .gap) (x .frames) (x .pre) (x .tail) ss
+  span = spanOf (x .gap) (x .padding) ss
 
   module _ (placed : (k : Cut) → List·Memᴰ k added → Place span k) where
     place-clear : (k : Cut) → Place span k → k .left ≡ k .right → Outside (droppedOf x ss) (k .left)
-    place-clear k (gap m) e = absurd (omega (arith, e, gaps-inside (x .gap) (x .frames) (x .pre) (x .tail) ss (p .prepared .spanned) k m .1))
+    place-clear k (gap m) e = absurd (omega (arith, e, gaps-inside (x .gap) (x .padding) ss (p .prepared .spanned) k m .1))
     place-clear k (boundary q m) e = kept-of (span .first) (span .gaps) (span .last) (k .left) m .2
 
     -- they are a plan's
@@ -101,7 +102,7 @@ module _ (x : Context) (ss runs : List ℕ) (levels : List Float) (ks : List ℕ
 
         within : (span .first < endsAt cs (f .number) .left) × (endsAt cs (f .number) .left ≤ endsAt cs (f .number) .right) × (endsAt cs (f .number) .right < span .last)
         within =
-            place-inside span (span-spread (x .gap) (x .frames) (x .pre) (x .tail) ss (p .prepared .spanned)) (endsAt cs (f .number))
+            place-inside span (span-spread (x .gap) (x .padding) ss (p .prepared .spanned)) (endsAt cs (f .number))
             (planned-across x ss runs levels ks first last p .placed (f .number) (f .after) (f .before))
 
         r : FoundAt x ss runs levels (ks ++ pointsIn added) first last (candidateAt cs (f .number) .left)

@@ -3,7 +3,7 @@
 use mathlib.Core.List.{List, [], _∷_}
 use Prim.Native.Nat.{ℕ, zero, suc, _-_, _<_}
 use lib.ListN.{length, getD}
-use Rattle.path_by_length.specs.Paths.{Path}
+use Rattle.path_rules.specs.Paths.{Path}
 use Rattle.candidate_span.specs.Gaps.{Cut}
 use Rattle.division.specs.Pieces.{Piece, pieceFrom}
 use Rattle.candidates.specs.declared.candidate.Candidate.{Candidate}

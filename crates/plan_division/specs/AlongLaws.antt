@@ -7,10 +7,10 @@ use lib.ListN.{length, getD}
 use Rattle.grid.specs.Boundary.{boundaryOf}
 use Rattle.grid.specs.declared.boundary.FrameGrid.{FrameGrid}
 use Rattle.path_pieces.specs.Pieces.{pieceLength, overOf}
-use Rattle.path_by_length.specs.Paths.{Onward, overFrom, overCount}
-use Rattle.path_by_length.specs.BestLaws.{onward-rises}
+use Rattle.path_rules.specs.Paths.{Onward, overFrom, overCount}
+use Rattle.path_rules.specs.PathsLaws.{onward-rises}
 use Rattle.candidate_span.specs.Gaps.{Cut}
-use Rattle.division.specs.Division.{Span}
+use Rattle.candidate_span.specs.Span.{Span}
 use Rattle.division.specs.Pieces.{Piece, piecesFrom, piecesOf, lengthOf, overs}
 use Rattle.candidates.specs.declared.candidate.Candidate.{Candidate}
 use Rattle.candidates.specs.Samples.{leftsOf, rightsOf}
@@ -47,7 +47,7 @@ module _ (cs : List Candidate) where
 
   -- ---- in samples
 
-  -- a candidate's ends
+  -- a candidate's left end in samples is that of the boundary
   pub left-sample : (g : FrameGrid) (i : ℕ) → i < length cs → getD (leftsOf g cs) i 0 ≡ boundaryOf g (endsAt cs i .left)
   left-sample g i h = go cs i h
     where
@@ -56,6 +56,7 @@ module _ (cs : List Candidate) where
       go (d ∷ ds) zero q = refl
       go (d ∷ ds) (suc n) q = go ds n (omega arith)
 
+  -- and so is its right end
   pub right-sample : (g : FrameGrid) (i : ℕ) → i < length cs → getD (rightsOf g cs) i 0 ≡ boundaryOf g (endsAt cs i .right)
   right-sample g i h = go cs i h
     where

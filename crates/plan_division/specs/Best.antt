@@ -4,7 +4,7 @@ use Prim.Native.Nat.{ℕ}
 use Rattle.grid.specs.declared.boundary.FrameGrid.{FrameGrid}
 use Rattle.path_pieces.specs.declared.lengths.Lengths.{Lengths}
 use Rattle.path_by_length.specs.Table.{bestPath}
-use Rattle.path_by_length.specs.ByCount.{bestPathByCount, bestScoreByCount}
+use Rattle.path_by_count.specs.Table.{bestPathByCount, bestScoreByCount}
 use Rattle.candidates.specs.declared.candidate.Candidate.{Candidate}
 use Rattle.candidates.specs.Entries.{costsOf}
 use Rattle.candidates.specs.Samples.{leftsOf, rightsOf}
@@ -15,8 +15,8 @@ bestOver g l cs = bestPath l (leftsOf g cs) (rightsOf g cs) (costsOf cs)
 
 -- by count
 abbrev pub bestOverByCount : FrameGrid → Lengths → List Candidate → ℕ → List ℕ
-bestOverByCount g l cs count = bestPathByCount l (leftsOf g cs) (rightsOf g cs) (costsOf cs) count
+bestOverByCount g l cs asked = bestPathByCount l (leftsOf g cs) (rightsOf g cs) (costsOf cs) asked
 
 -- how many pieces of the best path by count are over the limit
 abbrev pub oversOf : FrameGrid → Lengths → List Candidate → ℕ → ℕ
-oversOf g l cs count = bestScoreByCount l (leftsOf g cs) (rightsOf g cs) (costsOf cs) count .over
+oversOf g l cs asked = bestScoreByCount l (leftsOf g cs) (rightsOf g cs) (costsOf cs) asked .over

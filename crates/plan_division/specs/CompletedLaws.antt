@@ -8,7 +8,8 @@ use Rattle.grid.specs.BoundaryLaws.{Accepted}
 use Rattle.grid.specs.declared.boundary.FrameGrid.{FrameGrid}
 use Rattle.candidate_span.specs.Gaps.{Cut, Spread}
 use Rattle.candidate_span.specs.KeptLaws.{spread-some}
-use Rattle.division.specs.Division.{Span, spanOf, keptIn, piecesAsked, Place}
+use Rattle.candidate_span.specs.Span.{Span, spanOf}
+use Rattle.division.specs.Division.{keptIn, piecesAsked, Place}
 use Rattle.division.specs.SpanLaws.{span-spread}
 use Rattle.division.specs.Greedy.{Greedy}
 use Rattle.division.specs.GreedyLaws.{greedy-divides}
@@ -31,35 +32,36 @@ use Rattle.plan_division.specs.StepLaws.{added-bridged, bridged-added}
 
 module _ (x : Context) (ss runs : List ℕ) (levels : List Float) (ks : List ℕ) (first last : ℕ) (p : Planned x ss levels ks first last) (g : FrameGrid) where
   abbrev span : Span
-  span = spanOf (x .gap) (x .frames) (x .pre) (x .tail) ss
+  span = spanOf (x .gap) (x .padding) ss
 
   spread : Spread (span .first) (span .gaps) (span .last)
-  spread = span-spread (x .gap) (x .frames) (x .pre) (x .tail) ss (p .prepared .spanned)
+  spread = span-spread (x .gap) (x .padding) ss (p .prepared .spanned)
 
   -- ---- by count
 
-  module _ (ok : Accepted g) (count : ℕ) (asked : 0 < count) (maximum reach : ℕ) (far : List Cut) (sought : IsReach g span count maximum reach)
+  module _ (ok : Accepted g) (asked : ℕ) (some : 0 < asked) (maximum reach : ℕ) (far : List Cut) (sought : IsReach g span asked maximum reach)
       (greedy : Greedy g span reach far) where
-    pub places-by-count : (k : Cut) → List·Memᴰ k (addedByCount span count far) → Place span k
+    -- the cuts that completion by count adds are places
+    pub places-by-count : (k : Cut) → List·Memᴰ k (addedByCount span asked far) → Place span k
     places-by-count k m = go (List·Memᴰ·append-cases far m)
       where
-        go : List·Memᴰ k far ⊎ List·Memᴰ k (sharesOf span (piecesAsked span count)) → Place span k
+        go : List·Memᴰ k far ⊎ List·Memᴰ k (sharesOf span (piecesAsked span asked)) → Place span k
         go (inl i) = greedy-divides g ok span spread reach far greedy .placed k i
         go (inr i) =
-            let fit : piecesAsked span count ≤ keptIn span = omega arith in
-            let some : 0 < piecesAsked span count = omega (arith, asked, spread-some (span .first) (span .gaps) (span .last) spread) in
-            shares-divide span spread (piecesAsked span count) some fit .placed k i
+            let fit : piecesAsked span asked ≤ keptIn span = omega arith in
+            let more : 0 < piecesAsked span asked = omega (arith, some, spread-some (span .first) (span .gaps) (span .last) spread) in
+            shares-divide span spread (piecesAsked span asked) more fit .placed k i
 
     -- a plan's candidates, with the cuts that completion by count adds
-    pub completed-by-count : CompletedByCount g span count maximum reach (completedWith x ss runs levels ks (addedByCount span count far) first last)
+    pub completed-by-count : CompletedByCount g span asked maximum reach (completedWith x ss runs levels ks (addedByCount span asked far) first last)
     completed-by-count =
-        let added = addedByCount span count far in
+        let added = addedByCount span asked far in
         record {
           across = planned-across x ss runs levels (ks ++ pointsIn added) first last (planned-completed x ss runs levels ks added first last p places-by-count);
           sought = sought;
           far = far;
           greedy = greedy;
-          has-far = λ k m. has-added x ss runs levels ks added first last p places-by-count k (Memᴰ·append-left (sharesOf span (piecesAsked span count)) m);
+          has-far = λ k m. has-added x ss runs levels ks added first last p places-by-count k (Memᴰ·append-left (sharesOf span (piecesAsked span asked)) m);
           has-shares = λ k m. has-added x ss runs levels ks added first last p places-by-count k (Memᴰ·append-right far m);
         }
 
@@ -73,6 +75,7 @@ module _ (x : Context) (ss runs : List ℕ) (levels : List Float) (ks : List ℕ
     first-across : Across span ds
     first-across = planned-across x ss runs levels ks first last p
 
+    -- the points that completion by length adds are places
     pub places-by-length : (k : Cut) → List·Memᴰ k (addedByLength g maximum ds) → Place span k
     places-by-length k m =
         let d = bridged-divides g maximum span (allCuts ds) (all-divides span ds first-across) (gaps-all span ds first-across spread) in

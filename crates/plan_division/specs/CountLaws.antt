@@ -9,12 +9,13 @@ use Rattle.grid.specs.BoundaryLaws.{Accepted}
 use Rattle.grid.specs.declared.boundary.FrameGrid.{FrameGrid}
 use Rattle.path_pieces.specs.DomainLaws.{over-le}
 use Rattle.path_pieces.specs.declared.lengths.Lengths.{Lengths}
-use Rattle.path_by_length.specs.Paths.{Allowed, AllowedByCount, Path, PathByLength, PathByCount, lastOf, overCount, pathScore, BestByCount}
-use Rattle.path_by_length.specs.PathsLaws.{over-count}
-use Rattle.path_by_length.specs.BestLaws.{path-weaken}
+use Rattle.path_rules.specs.Paths.{Allowed, AllowedByCount, Path, PathByLength, PathByCount, lastOf, overCount, pathScore, BestByCount}
+use Rattle.path_rules.specs.PathsLaws.{over-count}
+use Rattle.path_rules.specs.PathsLaws.{path-weaken}
 use Rattle.candidate_span.specs.Gaps.{Cut, Spread}
 use Rattle.candidate_span.specs.KeptLaws.{spread-some}
-use Rattle.division.specs.Division.{Span, keptIn, piecesAsked, Among}
+use Rattle.candidate_span.specs.Span.{Span}
+use Rattle.division.specs.Division.{keptIn, piecesAsked, Among}
 use Rattle.division.specs.Pieces.{piecesOf, longest, overs}
 use Rattle.division.specs.PiecesLaws.{overs-none, none-over}
 use Rattle.division.specs.Refine.{Refined}
@@ -39,8 +40,8 @@ module _ (g : FrameGrid) (cs : List Candidate) where
   last-same = ap (λ (n : ℕ). n - 1) (length-map cs (leftSample g))
 
   -- a path by count rises
-  pub count-rises : (count limit : ℕ) (path : List ℕ) → PathByCount count limit (leftsOf g cs) (rightsOf g cs) path → Rising cs path
-  count-rises count limit path a =
+  pub count-rises : (asked limit : ℕ) (path : List ℕ) → PathByCount asked limit (leftsOf g cs) (rightsOf g cs) path → Rising cs path
+  count-rises asked limit path a =
       subst (λ (n : ℕ). Path (λ (i j : ℕ). i < j) path n) last-same
       (path-weaken (AllowedByCount limit (leftsOf g cs) (rightsOf g cs)) (λ (i j : ℕ). i < j) (lastOf (leftsOf g cs)) (λ i j b. b .0) (λ i j h b. b .0) path (a .0))
 
@@ -57,13 +58,13 @@ module _ (g : FrameGrid) (cs : List Candidate) where
 
 -- ---- completed candidates
 
-module _ (g : FrameGrid) (ok : Accepted g) (s : Span) (spread : Spread (s .first) (s .gaps) (s .last)) (cs : List Candidate) (count : ℕ) (asked : 0 < count) (maximum limit : ℕ)
-    (c : CompletedByCount g s count maximum limit cs) where
-  shares-all : Among (sharesOf s (piecesAsked s count)) (allCuts cs)
+module _ (g : FrameGrid) (ok : Accepted g) (s : Span) (spread : Spread (s .first) (s .gaps) (s .last)) (cs : List Candidate) (asked : ℕ) (some : 0 < asked) (maximum limit : ℕ)
+    (c : CompletedByCount g s asked maximum limit cs) where
+  shares-all : Among (sharesOf s (piecesAsked s asked)) (allCuts cs)
   shares-all k m =
-      let fit : piecesAsked s count ≤ keptIn s = omega arith in
-      let some : 0 < piecesAsked s count = omega (arith, asked, spread-some (s .first) (s .gaps) (s .last) spread) in
-      let d = shares-divide s spread (piecesAsked s count) some fit in
+      let fit : piecesAsked s asked ≤ keptIn s = omega arith in
+      let more : 0 < piecesAsked s asked = omega (arith, some, spread-some (s .first) (s .gaps) (s .last) spread) in
+      let d = shares-divide s spread (piecesAsked s asked) more fit in
       has-all s cs (c .across) k (left-cut s cs (c .across) spread k (d .placed k m) (c .has-shares k m))
 
   far-all : Among (c .far) (allCuts cs)
@@ -72,18 +73,18 @@ module _ (g : FrameGrid) (ok : Accepted g) (s : Span) (spread : Spread (s .first
       has-all s cs (c .across) k (left-cut s cs (c .across) spread k (d .placed k m) (c .has-far k m))
 
   -- document 01's min(count, last index) is min(N, kept frames)
-  pub count-same : min count (lastOf (leftsOf g cs)) ≡ piecesAsked s count
+  pub count-same : min asked (lastOf (leftsOf g cs)) ≡ piecesAsked s asked
   count-same =
       let n : length (piecesOf s (allCuts cs)) ≡ length cs - 1 = omega (arith, count-along s cs (c .across) (wholePath cs) (whole-rises s cs (c .across)), whole-length s cs (c .across)) in
-      subst (λ (m : ℕ). min count m ≡ piecesAsked s count) (n ∙ sym (last-same g cs)) (pieces-asked g ok s spread count asked (allCuts cs) (all-divides s cs (c .across)) shares-all)
+      subst (λ (m : ℕ). min asked m ≡ piecesAsked s asked) (n ∙ sym (last-same g cs)) (pieces-asked g ok s spread asked some (allCuts cs) (all-divides s cs (c .across)) shares-all)
 
   -- a path of as many pieces with none over the reach
   record Kept : Type 0 where
     pub path : List ℕ
-    pub allowed : PathByCount count limit (leftsOf g cs) (rightsOf g cs) path
+    pub allowed : PathByCount asked limit (leftsOf g cs) (rightsOf g cs) path
     pub none : overCount limit (leftsOf g cs) (rightsOf g cs) path ≡ 0
 
-  path-kept : (r : Refined s (c .far) (allCuts cs) (piecesAsked s count)) → longest g (piecesOf s (r .cuts)) ≤ limit → PathOf s cs (c .across) (r .cuts) → Kept
+  path-kept : (r : Refined s (c .far) (allCuts cs) (piecesAsked s asked)) → longest g (piecesOf s (r .cuts)) ≤ limit → PathOf s cs (c .across) (r .cuts) → Kept
   path-kept r within t =
       record {
         path = t .path;
@@ -99,18 +100,18 @@ module _ (g : FrameGrid) (ok : Accepted g) (s : Span) (spread : Spread (s .first
       rises : Path (λ (i j : ℕ). i < j) (t .path) (lastOf (leftsOf g cs))
       rises = subst (λ (n : ℕ). Path (λ (i j : ℕ). i < j) (t .path) n) (sym (last-same g cs)) (t .rising)
 
-      long : length (t .path) ≡ suc (min count (lastOf (leftsOf g cs)))
+      long : length (t .path) ≡ suc (min asked (lastOf (leftsOf g cs)))
       long =
           count-along s cs (c .across) (t .path) (t .rising)
-          ∙ ap suc (subst (λ (ks : List Cut). length (piecesOf s ks) ≡ piecesAsked s count) (sym (t .along)) (r .count) ∙ sym count-same)
+          ∙ ap suc (subst (λ (ks : List Cut). length (piecesOf s ks) ≡ piecesAsked s asked) (sym (t .along)) (r .number) ∙ sym count-same)
 
   kept : Kept
   kept =
-      let r = reach-kept g ok s spread count asked (allCuts cs) (all-divides s cs (c .across)) shares-all maximum limit (c .far) (c .sought) (c .greedy) far-all in
+      let r = reach-kept g ok s spread asked some (allCuts cs) (all-divides s cs (c .across)) shares-all maximum limit (c .far) (c .sought) (c .greedy) far-all in
       path-kept (r .0) (r .1) (division-path s cs (c .across) (r .0 .cuts) (r .0 .divides) (λ k m. all-has s cs (c .across) k (r .0 .under k m)))
 
   -- so the best path has none over it
-  pub best-keeps : (l : Lengths) (cost : List Float) (path : List ℕ) → l .limit ≡ limit → BestByCount l (leftsOf g cs) (rightsOf g cs) cost count path
+  pub best-keeps : (l : Lengths) (cost : List Float) (path : List ℕ) → l .limit ≡ limit → BestByCount l (leftsOf g cs) (rightsOf g cs) cost asked path
       → overCount limit (leftsOf g cs) (rightsOf g cs) path ≡ 0
   best-keeps l cost path e b =
       subst (λ (n : ℕ). overCount n (leftsOf g cs) (rightsOf g cs) path ≡ 0) e
@@ -120,5 +121,5 @@ module _ (g : FrameGrid) (ok : Accepted g) (s : Span) (spread : Spread (s .first
         over-count l (leftsOf g cs) (rightsOf g cs) cost (kept .path),
         subst (λ (n : ℕ). overCount n (leftsOf g cs) (rightsOf g cs) (kept .path) ≡ 0) (sym e) (kept .none),
         over-le (pathScore l (leftsOf g cs) (rightsOf g cs) cost path) (pathScore l (leftsOf g cs) (rightsOf g cs) cost (kept .path))
-            (b .least (kept .path) (subst (λ (n : ℕ). PathByCount count n (leftsOf g cs) (rightsOf g cs) (kept .path)) (sym e) (kept .allowed))),
+            (b .least (kept .path) (subst (λ (n : ℕ). PathByCount asked n (leftsOf g cs) (rightsOf g cs) (kept .path)) (sym e) (kept .allowed))),
       ))

@@ -11,8 +11,9 @@ use lib.Seq.{getD-take, getD-drop}
 use Rattle.grid.specs.BoundaryLaws.{Accepted}
 use Rattle.grid.specs.declared.boundary.FrameGrid.{FrameGrid}
 use Rattle.candidate_span.specs.Gaps.{Cut, Spread}
+use Rattle.candidate_span.specs.Span.{Span}
 use Rattle.candidate_points.specs.Points.{isIn}
-use Rattle.division.specs.Division.{Span, piecesAsked}
+use Rattle.division.specs.Division.{piecesAsked}
 use Rattle.division.specs.Greedy.{Greedy}
 use Rattle.division.specs.Reach.{IsReach}
 use Rattle.candidates.specs.declared.candidate.Candidate.{Candidate}
@@ -21,19 +22,19 @@ use Rattle.candidates.specs.Candidates.{candidatesOf}
 use Rattle.candidates.specs.Entries.{entriesOf}
 use Rattle.candidates.specs.Same.{candidates-same}
 use Rattle.completion.specs.Complete.{leftHeld, rightHeld, bridgesOf}
-use Rattle.completion.specs.Cuts.{cutsOf, markCut, marking, pointsIn}
+use Rattle.completion.specs.Cuts.{cutsOf, pointsIn}
 use Rattle.completion.specs.FitsLaws.{fits-greedy, feasible-fits}
 use Rattle.plan_division.specs.Along.{endsAt}
 use Rattle.plan_division.specs.Added.{bridgesAmong, addedByLength, completedWith}
 
 -- the points on n steps are those of the candidates that work memory holds
-bridges-held : (g : FrameGrid) (limit held : ℕ) (work : List ℕ) (cs : List Candidate) (n : ℕ)
-    → ((i : ℕ) → i ≤ n → (leftHeld held work i ≡ endsAt cs i .left) × (rightHeld held work i ≡ endsAt cs i .right))
-    → bridgesOf g limit held work n ≡ bridgesAmong g limit cs n
+bridges-held : (g : FrameGrid) (limit entries : ℕ) (work : List ℕ) (cs : List Candidate) (n : ℕ)
+    → ((i : ℕ) → i ≤ n → (leftHeld entries work i ≡ endsAt cs i .left) × (rightHeld entries work i ≡ endsAt cs i .right))
+    → bridgesOf g limit entries work n ≡ bridgesAmong g limit cs n
 unfolding bridgesOf
-bridges-held g limit held work cs zero f = refl
-bridges-held g limit held work cs (suc n) f =
-    rw (bridges-held g limit held work cs n (λ i h. f i (omega (arith, h))), f n (omega arith) .1, f (suc n) (omega arith) .0)
+bridges-held g limit entries work cs zero f = refl
+bridges-held g limit entries work cs (suc n) f =
+    rw (bridges-held g limit entries work cs n (λ i h. f i (omega (arith, h))), f n (omega arith) .1, f (suc n) (omega arith) .0)
 
 entry-left : (cs : List Candidate) (i : ℕ) → i < length cs → getD (entriesOf cs) (3 * i) 0 ≡ endsAt cs i .left
 unfolding entriesOf
@@ -51,30 +52,27 @@ entry-right (c ∷ cs) (suc i) h =
     let e : 3 * suc i + 1 ≡ suc (suc (suc (3 * i + 1))) = omega arith in
     rw e (entry-right cs i (omega arith))
 
--- the candidates that stand in work memory from `held` on
-module _ (held : ℕ) (work : List ℕ) (cs : List Candidate) (is : take (3 * length cs) (drop held work) ≡ entriesOf cs) where
-  held-at : (j : ℕ) → j < 3 * length cs → getD work (held + j) 0 ≡ getD (entriesOf cs) j 0
-  held-at j h = sym (getD-drop held work j 0) ∙ sym (getD-take (3 * length cs) (drop held work) j 0 h) ∙ ap (λ (es : List ℕ). getD es j 0) is
+-- the candidates that stand in work memory from `entries` on
+module _ (entries : ℕ) (work : List ℕ) (cs : List Candidate) (is : take (3 * length cs) (drop entries work) ≡ entriesOf cs) where
+  held-at : (j : ℕ) → j < 3 * length cs → getD work (entries + j) 0 ≡ getD (entriesOf cs) j 0
+  held-at j h = sym (getD-drop entries work j 0) ∙ sym (getD-take (3 * length cs) (drop entries work) j 0 h) ∙ ap (λ (es : List ℕ). getD es j 0) is
 
-  pub left-held : (i : ℕ) → i < length cs → leftHeld held work i ≡ endsAt cs i .left
+  -- the left end of candidate i stands there
+  pub left-held : (i : ℕ) → i < length cs → leftHeld entries work i ≡ endsAt cs i .left
   left-held i h = held-at (3 * i) (omega arith) ∙ entry-left cs i h
 
-  pub right-held : (i : ℕ) → i < length cs → rightHeld held work i ≡ endsAt cs i .right
+  -- and its right end
+  pub right-held : (i : ℕ) → i < length cs → rightHeld entries work i ≡ endsAt cs i .right
   right-held i h =
-      let e : held + 3 * i + 1 ≡ held + (3 * i + 1) = omega arith in
+      let e : entries + 3 * i + 1 ≡ entries + (3 * i + 1) = omega arith in
       ap (λ (j : ℕ). getD work j 0) e ∙ held-at (3 * i + 1) (omega arith) ∙ entry-right cs i h
 
   -- so the points on all steps are those that are added by length
-  pub steps-held : (g : FrameGrid) (limit : ℕ) → 0 < length cs → bridgesOf g limit held work (length cs - 1) ≡ addedByLength g limit cs
+  pub steps-held : (g : FrameGrid) (limit : ℕ) → 0 < length cs → bridgesOf g limit entries work (length cs - 1) ≡ addedByLength g limit cs
   steps-held g limit some =
-      bridges-held g limit held work cs (length cs - 1) (λ i h. (left-held i (omega (arith, h, some)), right-held i (omega (arith, h, some))))
+      bridges-held g limit entries work cs (length cs - 1) (λ i h. (left-held i (omega (arith, h, some)), right-held i (omega (arith, h, some))))
 
--- marks of some cuts and then of others
-pub marking-append : (base : ℕ) (ks js : List Cut) (work : List ℕ) → marking base (ks ++ js) work ≡ marking base js (marking base ks work)
-unfolding marking
-marking-append base [] js work = refl
-marking-append base (k ∷ ks) js work = marking-append base ks js (markCut base k work)
-
+-- a number is in two lists joined exactly where it is in one of them
 pub in-append : (ks js : List ℕ) (k : ℕ) → isIn (ks ++ js) k ≡ (isIn ks k || isIn js k)
 unfolding isIn
 in-append [] js k = refl
@@ -92,6 +90,6 @@ completed-same x ss runs levels ks js added first last f =
     candidates-same x ss runs levels js (ks ++ pointsIn added) first last (λ k a b. f k a b ∙ sym (in-append ks (pointsIn added) k))
 
 -- the cuts that code marks under the reach are those of the division which goes as far as it can
-pub far-greedy : (g : FrameGrid) → Accepted g → (s : Span) → Spread (s .first) (s .gaps) (s .last) → (count maximum reach : ℕ)
-    → IsReach g s count maximum reach → Greedy g s reach (cutsOf g s reach (piecesAsked s count))
-far-greedy g ok s spread count maximum reach r = fits-greedy g ok s spread reach (piecesAsked s count) (feasible-fits g ok s spread reach count (r .feasible)) .0
+pub far-greedy : (g : FrameGrid) → Accepted g → (s : Span) → Spread (s .first) (s .gaps) (s .last) → (asked maximum reach : ℕ)
+    → IsReach g s asked maximum reach → Greedy g s reach (cutsOf g s reach (piecesAsked s asked))
+far-greedy g ok s spread asked maximum reach r = fits-greedy g ok s spread reach (piecesAsked s asked) (feasible-fits g ok s spread reach asked (r .feasible)) .0

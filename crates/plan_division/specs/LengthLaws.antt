@@ -11,10 +11,11 @@ use Rattle.base_laws.specs.Tests.{lt-or-le, or-split}
 use Rattle.grid.specs.BoundaryLaws.{Accepted, boundary-mono}
 use Rattle.grid.specs.declared.boundary.FrameGrid.{FrameGrid}
 use Rattle.path_pieces.specs.Pieces.{pieceLength, isWithin, mayStart}
-use Rattle.path_by_length.specs.Paths.{Onward, Path}
-use Rattle.path_by_length.specs.BestLaws.{onward-rises}
+use Rattle.path_rules.specs.Paths.{Onward, Path}
+use Rattle.path_rules.specs.PathsLaws.{onward-rises}
 use Rattle.candidate_span.specs.Gaps.{Cut, Spread}
-use Rattle.division.specs.Division.{Span, Division}
+use Rattle.candidate_span.specs.Span.{Span}
+use Rattle.division.specs.Division.{Division}
 use Rattle.division.specs.Pieces.{Piece, pieceFrom, piecesFrom, piecesOf, IsSingle, lengthOf}
 use Rattle.candidates.specs.declared.candidate.Candidate.{Candidate}
 use Rattle.candidates.specs.Samples.{leftsOf, rightsOf}

@@ -13,11 +13,11 @@ use Rattle.grid.specs.BoundaryLaws.{Accepted}
 use Rattle.grid.specs.declared.boundary.FrameGrid.{FrameGrid}
 use Rattle.path_pieces.specs.Domain.{Searchable}
 use Rattle.path_pieces.specs.declared.lengths.Lengths.{Lengths}
-use Rattle.path_by_length.specs.Paths.{Allowed, Path, PathByLength}
+use Rattle.path_rules.specs.Paths.{Allowed, Path, PathByLength}
 use Rattle.path_by_length.specs.Table.{bestPath}
 use Rattle.path_by_length.specs.Theorems.{best-path-allowed}
 use Rattle.candidate_span.specs.Gaps.{Spread}
-use Rattle.division.specs.Division.{Span}
+use Rattle.candidate_span.specs.Span.{Span}
 use Rattle.division.specs.Pieces.{Piece, piecesOf, IsSingle, lengthOf}
 use Rattle.division.specs.Demand.{DemandByLength}
 use Rattle.division.specs.DemandLaws.{demand-length}
@@ -47,7 +47,7 @@ module _ (g : FrameGrid) (ok : Accepted g) (s : Span) (spread : Spread (s .first
         | inr h ↦ h
       ]))
 
-  -- a path by length
+  -- a path by length over completed candidates meets demand 3
   pub length-demand : (path : List ℕ) → PathByLength maximum (leftsOf g cs) (rightsOf g cs) path → DemandByLength g s maximum (cutsAlong cs path)
   length-demand path a = demand-length g s maximum (cutsAlong cs path) (along-divides s cs (c .across) path rises) each
     where

@@ -40,7 +40,6 @@ pub mod CompletedLaws
 -- HeldLaws: what completion does in work memory gives those candidates
 --   steps-held                  the points on all steps from a held candidate to the next are those that are added by length
 --   far-greedy                  the cuts that are marked under the reach are the greedy division's
---   marking-append              marks of some cuts and then of others are the marks of both
 --   completed-same              points where one was, or where a cut is added, give the completed candidates
 pub mod HeldLaws
 -- Best: the best path over candidates (`bestOver`, `bestOverByCount`), and how many of its pieces are over the limit (`oversOf`)

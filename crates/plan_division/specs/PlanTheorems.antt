@@ -11,7 +11,7 @@ use Rattle.grid.specs.declared.boundary.FrameGrid.{FrameGrid}
 use Rattle.path_pieces.specs.Domain.{Costs}
 use Rattle.path_pieces.specs.declared.lengths.Lengths.{Lengths}
 use Rattle.candidate_span.specs.Gaps.{Cut, Spread}
-use Rattle.division.specs.Division.{Span, spanOf}
+use Rattle.candidate_span.specs.Span.{Span, spanOf}
 use Rattle.division.specs.SpanLaws.{span-spread}
 use Rattle.division.specs.Greedy.{Greedy}
 use Rattle.division.specs.Reach.{IsReach}
@@ -50,42 +50,42 @@ module _ (x : Context) (ss runs : List ℕ) (levels : List Float) (ks : List ℕ
     (q : Ready x g runs levels l) where
   -- the recording's span
   abbrev span : Span
-  span = spanOf (x .gap) (x .frames) (x .pre) (x .tail) ss
+  span = spanOf (x .gap) (x .padding) ss
 
   -- the first candidates
   abbrev cs : List Candidate
   cs = candidatesOf x ss runs levels ks first last
 
   spread : Spread (span .first) (span .gaps) (span .last)
-  spread = span-spread (x .gap) (x .frames) (x .pre) (x .tail) ss (p .prepared .spanned)
+  spread = span-spread (x .gap) (x .padding) ss (p .prepared .spanned)
 
-  module _ (count : ℕ) (asked : 0 < count) where
-    -- the first path, its limit the maximum: with N pieces and none over it, no reach is sought
-    pub first-plan : length (bestOverByCount g l cs count) ≡ suc count → oversOf g l cs count ≡ 0
-        → DemandByCount g span count (l .limit) (cutsAlong cs (bestOverByCount g l cs count))
+  module _ (asked : ℕ) (some : 0 < asked) where
+    -- the first path, its limit the maximum, meets demand 3 where it has N pieces and none over it: no reach is sought then
+    pub first-plan : length (bestOverByCount g l cs asked) ≡ suc asked → oversOf g l cs asked ≡ 0
+        → DemandByCount g span asked (l .limit) (cutsAlong cs (bestOverByCount g l cs asked))
     first-plan n none =
-        first-found g span spread cs count asked (planned-across x ss runs levels ks first last p) l (costsOf cs) (plan-searchable x ss runs levels ks first last g l p q) n none
+        first-found g span spread cs asked some (planned-across x ss runs levels ks first last p) l (costsOf cs) (plan-searchable x ss runs levels ks first last g l p q) n none
 
-    module _ (maximum : ℕ) (far : List Cut) (sought : IsReach g span count maximum (l .limit)) (greedy : Greedy g span (l .limit) far) where
+    module _ (maximum : ℕ) (far : List Cut) (sought : IsReach g span asked maximum (l .limit)) (greedy : Greedy g span (l .limit) far) where
       -- the completed candidates
       abbrev byCount : List Candidate
-      byCount = completedWith x ss runs levels ks (addedByCount span count far) first last
+      byCount = completedWith x ss runs levels ks (addedByCount span asked far) first last
 
-      -- the second path, its limit the reach
-      pub second-plan : DemandByCount g span count maximum (cutsAlong byCount (bestOverByCount g l byCount count))
+      -- the second path, its limit the reach, meets demand 3
+      pub second-plan : DemandByCount g span asked maximum (cutsAlong byCount (bestOverByCount g l byCount asked))
       second-plan =
           let ok = q .sampled .accepted in
-          let added = addedByCount span count far in
-          let places = places-by-count x ss runs levels ks first last p g ok count asked maximum (l .limit) far sought greedy in
-          second-found g span spread byCount count ok asked maximum (l .limit)
-          (completed-by-count x ss runs levels ks first last p g ok count asked maximum (l .limit) far sought greedy) l (costsOf byCount) refl
+          let added = addedByCount span asked far in
+          let places = places-by-count x ss runs levels ks first last p g ok asked some maximum (l .limit) far sought greedy in
+          second-found g span spread byCount asked ok some maximum (l .limit)
+          (completed-by-count x ss runs levels ks first last p g ok asked some maximum (l .limit) far sought greedy) l (costsOf byCount) refl
           (plan-searchable x ss runs levels (ks ++ pointsIn added) first last g l (planned-completed x ss runs levels ks added first last p places) q)
 
   -- the completed candidates
   abbrev byLength : List Candidate
   byLength = completedWith x ss runs levels ks (addedByLength g (l .limit) cs) first last
 
-  -- the path by length, its limit the maximum
+  -- the path by length, its limit the maximum, meets demand 3
   pub length-plan : DemandByLength g span (l .limit) (cutsAlong byLength (bestOver g l byLength))
   length-plan =
       let added = addedByLength g (l .limit) cs in

@@ -12,6 +12,7 @@ use Rattle.candidates.specs.Asked.{Sampled}
 use Rattle.candidates.specs.Costs.{Costed}
 use Rattle.candidates.specs.Entries.{costsOf}
 
+-- what a path over a plan's candidates is asked with, all of it
 pub record Ready (x : Context) (g : FrameGrid) (runs : List ℕ) (levels : List Float) (l : Lengths) : Type 0 where
   pub sampled : Sampled x g
   pub costed : Costed x g runs levels

@@ -8,7 +8,7 @@ use lib.ListN.{length}
 use Rattle.base_laws.specs.Tests.{lt-or-le}
 use Rattle.grid.specs.declared.boundary.FrameGrid.{FrameGrid}
 use Rattle.candidate_span.specs.Gaps.{Cut}
-use Rattle.division.specs.Division.{Span}
+use Rattle.candidate_span.specs.Span.{Span}
 use Rattle.candidates.specs.declared.candidate.Candidate.{Candidate}
 use Rattle.completion.specs.Bridge.{bridgeOf}
 use Rattle.completion.specs.Bridged.{bridgedFrom, bridgedIn}

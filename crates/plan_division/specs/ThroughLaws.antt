@@ -10,9 +10,10 @@ use lib.ListN.{length}
 use Rattle.base_laws.specs.Tests.{lt-or-le, or-l}
 use Rattle.path_pieces.specs.Pieces.{pieceLength, overOf, isWithin, mayStart}
 use Rattle.path_pieces.specs.PiecesLaws.{over-longer}
-use Rattle.path_by_length.specs.Paths.{AllowedByCount, Onward, Path, overFrom, overCount}
+use Rattle.path_rules.specs.Paths.{AllowedByCount, Onward, Path, overFrom, overCount}
 use Rattle.candidate_span.specs.Gaps.{Cut}
-use Rattle.division.specs.Division.{Span, Row, Division}
+use Rattle.candidate_span.specs.Span.{Span}
+use Rattle.division.specs.Division.{Row, Division}
 use Rattle.candidates.specs.declared.candidate.Candidate.{Candidate}
 use Rattle.plan_division.specs.Along.{endsAt, cutsFrom, cutsAlong, Rising}
 use Rattle.plan_division.specs.Across.{HasCut, Across}

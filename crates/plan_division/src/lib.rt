@@ -1,1 +1,2 @@
-// No code. A path over a plan's candidates is a division of the span, and the best one over completed candidates meets demand 3: specs/, whose Lib.antt is the index.
+// No code. A path over a plan's candidates is a division of the span, and the best one over completed candidates meets
+// demand 3: specs/, whose Lib.antt is the index.

@@ -26,7 +26,7 @@ use Rattle.grid.specs.declared.validate.Recording.{Recording}
 use Rattle.silence_list.specs.declared.config.SegmentConfig.{SegmentConfig}
 use Rattle.path_pieces.specs.Domain.{Preferred}
 use Rattle.path_tests.specs.Refusal.{maxCount}
-use Rattle.candidate_settings.specs.declared.config.PlanConfig.{PlanConfig}
+use Rattle.plan_settings.specs.declared.config.PlanConfig.{PlanConfig}
 use Rattle.plan_tests.specs.PlanReady.{PlanReady}
 use Rattle.plan_lengths.specs.PlanLengths.{Timed, InPieces, maximumIn, targetByLength, targetByCount, lengthsWith, lengthsByLength, lengthsByCount}
 use Rattle.plan_lengths.specs.QuotientLaws.{quotient-is}
@@ -70,13 +70,13 @@ module _ (length count : ℕ) (some : 0 < length) (most : length ≤ maxLen) (on
 
 -- ---- what the tests of a plan leave
 
-module _ {r : Recording} {segment : SegmentConfig} {plan : PlanConfig} {values : List Float} {flags : List ℕ} {levels : List Float} {n32 n64 nf : ℕ}
-    (p : PlanReady r segment plan values flags levels n32 n64 nf) where
+module _ {r : Recording} {segment : SegmentConfig} {settings : PlanConfig} {values : List Float} {flags : List ℕ} {levels : List Float} {n32 n64 nf : ℕ}
+    (p : PlanReady r segment settings values flags levels n32 n64 nf) where
   abbrev grid : FrameGrid
   grid = gridOf r (length values)
 
   -- the durations fit as samples
-  pub ready-timed : Timed (gridOf r (length values)) plan
+  pub ready-timed : Timed (gridOf r (length values)) settings
   ready-timed =
       record {
         rate = p .accepted .bounded .rate;
@@ -97,7 +97,7 @@ module _ {r : Recording} {segment : SegmentConfig} {plan : PlanConfig} {values :
 
   -- with a target in the search's range the search may be asked
   with-preferred : (target : Float) (limit : ℕ) → T (le (fin false 1 (negsuc 39)) target) → T (le target (fin false 1 (pos 60)))
-      → Preferred (lengthsWith (gridOf r (length values)) plan target limit)
+      → Preferred (lengthsWith (gridOf r (length values)) settings target limit)
   unfolding lengthsWith
   with-preferred target limit low high =
       record {
@@ -106,26 +106,26 @@ module _ {r : Recording} {segment : SegmentConfig} {plan : PlanConfig} {values :
           target-weight-finite = p .weighed .target-weight .bounded;
           short-weight-nonneg = p .weighed .short-weight .not-below;
           short-weight-finite = p .weighed .short-weight .bounded;
-          min-high = samples-high (r .«sample_rate») (plan .min) (ready-timed .rate) (ready-timed .min-time);
+          min-high = samples-high (r .«sample_rate») (settings .min) (ready-timed .rate) (ready-timed .min-time);
           target-low = low;
           target-high = high;
         };
       }
 
   -- by length, under any limit
-  pub by-length-limited : (limit : ℕ) → Preferred (lengthsWith (gridOf r (length values)) plan (targetByLength (gridOf r (length values)) plan) limit)
+  pub by-length-limited : (limit : ℕ) → Preferred (lengthsWith (gridOf r (length values)) settings (targetByLength (gridOf r (length values)) settings) limit)
   by-length-limited limit =
-      with-preferred (targetByLength grid plan) limit
-      (samples-low (r .«sample_rate») (plan .target) (within-pos (r .«sample_rate») maxRate (p .recording .rate)) (p .preferring .target-some))
-      (samples-high (r .«sample_rate») (plan .target) (ready-timed .rate) (ready-timed .target-time))
+      with-preferred (targetByLength grid settings) limit
+      (samples-low (r .«sample_rate») (settings .target) (within-pos (r .«sample_rate») maxRate (p .recording .rate)) (p .preferring .target-some))
+      (samples-high (r .«sample_rate») (settings .target) (ready-timed .rate) (ready-timed .target-time))
 
   -- so under the maximum
-  pub by-length-preferred : Preferred (lengthsByLength (gridOf r (length values)) plan)
-  by-length-preferred = by-length-limited (maximumIn grid plan)
+  pub by-length-preferred : Preferred (lengthsByLength (gridOf r (length values)) settings)
+  by-length-preferred = by-length-limited (maximumIn grid settings)
 
   -- by count, for any span that is not empty, under any limit
   pub by-count-preferred : (first last count limit : ℕ) → first < last → last ≤ length values → 0 < count → count ≤ maxCount
-      → Preferred (lengthsByCount (gridOf r (length values)) plan first last count limit)
+      → Preferred (lengthsByCount (gridOf r (length values)) settings first last count limit)
   unfolding targetByCount
   by-count-preferred first last count limit h k some few =
       let rises = boundary-above grid (p .accepted) first last h k in

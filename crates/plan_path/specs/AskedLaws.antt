@@ -6,6 +6,7 @@ use native.Mathlib.Omega.{arith}
 use lib.Ieee.{Float}
 use lib.ListN.{length, length-map}
 use Rattle.grid.specs.declared.boundary.FrameGrid.{FrameGrid}
+use Rattle.grid.specs.Boundary.{Bounded}
 use Rattle.path_pieces.specs.declared.lengths.Lengths.{Lengths}
 use Rattle.path_pieces.specs.Domain.{Candidates, Costs, Preferred, Searchable}
 use Rattle.candidates.specs.declared.candidate.Candidate.{Candidate}
@@ -14,7 +15,7 @@ use Rattle.candidates.specs.Samples.{leftSample, leftsOf, rightsOf}
 use Rattle.plan_path.specs.Positions.{positionsIn, PositionsRoom}
 use Rattle.plan_path.specs.PositionsLaws.{positions-left, positions-right, positions-long}
 use Rattle.plan_path.specs.Asked.{CandidatesHeld}
-use Rattle.plan_path.specs.Seek.{leftsIn, rightsIn, SeekRoom}
+use Rattle.plan_path.specs.Search.{leftsIn, rightsIn, SearchRoom}
 
 module _ (g : FrameGrid) (cs : List Candidate) (work positions : List ℕ) (costs : List Float) (held : CandidatesHeld g cs work positions costs) where
   -- the positions may be written
@@ -32,14 +33,16 @@ module _ (g : FrameGrid) (cs : List Candidate) (work positions : List ℕ) (cost
   pub held-left : leftsIn (length cs) written ≡ leftsOf g cs
   held-left = positions-left g cs (length cs) work positions refl (held .entries) held-room
 
+  -- on the right too
   pub held-right : rightsIn (g .frames) (length cs) written ≡ rightsOf g cs
   held-right = positions-right g cs (length cs) work positions refl (held .entries) held-room
 
   -- and the search may be asked, where the candidates and the length preferences are of its domain
-  pub held-asked : {l : Lengths} → Candidates (leftsOf g cs) (rightsOf g cs) → Costs (costsOf cs) (length cs) → Preferred l
-      → SeekRoom l (g .frames) (length cs) work written costs
-  held-asked {l} ordered each preferred = record {
+  pub held-asked : {l : Lengths} → Bounded g → Candidates (leftsOf g cs) (rightsOf g cs) → Costs (costsOf cs) (length cs) → Preferred l
+      → SearchRoom l (g .frames) (length cs) work written costs
+  held-asked {l} bounded ordered each preferred = record {
     domain = rw (held-left, held-right, held .priced) asked;
+    bounded = omega (arith, bounded .frames);
     few = held .few;
     u32s = held .u32s;
     u64s = rw (positions-long g cs (length cs) work positions refl (held .entries) held-room) (held .u64s);

@@ -29,6 +29,7 @@ module _ (parents n at : ℕ) where
     fits : length (wayTo (parentIn work₀) (n - 1)) ≤ length (drop at work₀)
     fits = rw length-drop (omega (arith, r .long, r .room))
 
+    -- before the first step
     pub within-start : WritingWithin work₀ work₀ len (n - 1)
     within-start = record { same = refl; before = refl; writing = writing-start (r .leads .falling) (drop at work₀) fits len (r .long) }
 

@@ -9,8 +9,8 @@ use lib.Ieee.{Float}
 use lib.ListN.{length, take, drop, set, length-set, length-drop, length-append, drop-of-length-le}
 use lib.Seq.{take-set-le, drop-set-add, drop-at, length-take-le, take-take, take-all}
 use Rattle.path_pieces.specs.declared.lengths.Lengths.{Lengths}
-use Rattle.path_by_length.specs.declared.solve.Solved.{Solved}
-use Rattle.path_by_length.specs.ByCount.{bestPathByCount, bestScoreByCount}
+use Rattle.path_rules.specs.declared.solved.Solved.{Solved}
+use Rattle.path_by_count.specs.Table.{bestPathByCount, bestScoreByCount}
 use Rattle.path_by_count.specs.Counted.{SolutionByCount}
 use Rattle.plan_path.specs.Within.{partAt}
 use Rattle.plan_path.specs.Held.{PathHeld}
@@ -21,7 +21,7 @@ pub solved-held : {l : Lengths} {left right : List ℕ} {cut : List Float} {coun
     → PathHeld search at (bestPathByCount l left right cut count) (bestScoreByCount l left right cut count) work₀ work answer
 solved-held search at work₀ work s e f = record { score-is = s .score; count-is = s .count-is; held = s .written; before = e; same = f }
 
--- one place written
+-- a path of one candidate: one place is written
 pub set-held : {l : Lengths} {left right : List ℕ} {cut : List Float} {count : ℕ} (search at : ℕ) (work₀ : List ℕ) {answer : Solved} → search ≤ at
     → SolutionByCount l left right cut count (drop at work₀) (set (drop at work₀) 0 0) answer
     → PathHeld search at (bestPathByCount l left right cut count) (bestScoreByCount l left right cut count) work₀ (set work₀ at 0) answer
@@ -54,6 +54,7 @@ module _ (search at : ℕ) (work₀ over : List ℕ) (ordered : search ≤ at) (
         length-drop search work₀,
       )
 
+  -- it has the places from `at` on
   pub rest-long : length rest ≡ length work₀ - at
   rest-long = omega (arith, kept, mid-len at (length work₁) work₁ (le-refl (length work₁)))
 

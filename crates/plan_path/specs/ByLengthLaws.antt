@@ -6,12 +6,13 @@ use native.Mathlib.Omega.{arith}
 use borrow.Rule.Slice.PartMut.{putMid, mid-len, same-len-mid, take-put, drop-put}
 use lib.Ieee.{Float}
 use lib.ListN.{length, take, drop}
+use Rattle.base_terms.specs.Layout.{behindTable}
 use Rattle.base_terms.specs.Lists.{onto}
 use Rattle.candidate_points.specs.Placed.{placed}
 use Rattle.candidate_points.specs.PlacedLaws.{placed-length, placed-take}
 use Rattle.path_pieces.specs.declared.lengths.Lengths.{Lengths}
-use Rattle.path_by_length.specs.declared.solve.Solved.{Solved}
-use Rattle.path_by_length.specs.Paths.{lastOf}
+use Rattle.path_rules.specs.declared.solved.Solved.{Solved}
+use Rattle.path_rules.specs.Paths.{lastOf}
 use Rattle.path_by_length.specs.Table.{wayTo, bestPath, bestScore}
 use Rattle.path_by_length.specs.WayLaws.{way-few}
 use Rattle.path_by_length.specs.Solved.{cutsIn, parentsIn, parentAt, Parents, TableRoom, Settled}
@@ -38,21 +39,22 @@ module _ {l : Lengths} {left right : List ℕ} (search at : ℕ) (work₀ : List
   same = same-len-mid search (at - search) work₀ over (done .filled .overs)
 
   -- the parents stand there
-  parents : partAt (search + length left) (length left) work₁ ≡ parentsIn (length left) over
-  parents = part-back search (at - search) work₀ over (length left) (length left) (omega arith) (omega (arith, long, part-long, room .overs))
+  parents : partAt (search + behindTable (length left)) (length left) work₁ ≡ parentsIn (length left) over
+  parents = part-back search (at - search) work₀ over (behindTable (length left)) (length left) (omega arith) (omega (arith, long, part-long, room .overs))
 
-  path : wayTo (parentAt (partAt (search + length left) (length left) work₁)) (lastOf left) ≡ bestPath l left right (cutsIn (length left) cost₀)
+  path : wayTo (parentAt (partAt (search + behindTable (length left)) (length left) work₁)) (lastOf left) ≡ bestPath l left right (cutsIn (length left) cost₀)
   path = rw parents (filled-path room (done .filled))
 
-  leads : Parents (partAt (search + length left) (length left) work₁) (lastOf left)
+  leads : Parents (partAt (search + behindTable (length left)) (length left) work₁) (lastOf left)
   leads = rw parents (filled-parents room (done .filled))
 
   few : length (bestPath l left right (cutsIn (length left) cost₀)) ≤ length left
   few =
-      let f = way-few (parentAt (partAt (search + length left) (length left) work₁)) (lastOf left) (leads .falling) in
+      let f = way-few (parentAt (partAt (search + behindTable (length left)) (length left) work₁)) (lastOf left) (leads .falling) in
       omega (arith, f, ap length path, room .domain .candidates .some)
 
-  pub length-way : WayRoom (search + length left) (length left) at work₁ (answer .len)
+  -- so the walk back can start
+  pub length-way : WayRoom (search + behindTable (length left)) (length left) at work₁ (answer .len)
   length-way = record {
     leads = leads;
     long = done .count ∙ sym (ap length path);
@@ -60,7 +62,8 @@ module _ {l : Lengths} {left right : List ℕ} (search at : ℕ) (work₀ : List
     room = omega (arith, same, done .count, few);
   }
 
-  pub length-held : (work : List ℕ) → work ≡ placed at (wayTo (parentAt (partAt (search + length left) (length left) work₁)) (lastOf left)) work₁
+  -- and what it writes is the best path, held behind the search's part
+  pub length-held : (work : List ℕ) → work ≡ placed at (wayTo (parentAt (partAt (search + behindTable (length left)) (length left) work₁)) (lastOf left)) work₁
       → PathHeld search at (bestPath l left right (cutsIn (length left) cost₀)) (bestScore l left right (cutsIn (length left) cost₀) (lastOf left)) work₀ work answer
   length-held work e =
       let best = bestPath l left right (cutsIn (length left) cost₀) in

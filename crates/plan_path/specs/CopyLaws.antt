@@ -21,6 +21,7 @@ module _ {A : Type 0} (from to n : ℕ) (xs₀ : List A) (apart : from + n ≤ t
   part-length : length (partAt from n xs₀) ≡ n
   part-length = length-take-le n (drop from xs₀) (rw length-drop (omega arith))
 
+  -- before the first element
   pub copy-start : CopyingWithin from to n xs₀ xs₀ 0
   copy-start = record {
     same = refl;
@@ -36,9 +37,11 @@ module _ {A : Type 0} (from to n : ℕ) (xs₀ : List A) (apart : from + n ≤ t
         sym (getD-take to xs (from + i) z g) ∙ ap (λ (l : List A). getD l (from + i) z) (w .before) ∙ getD-take to xs₀ (from + i) z g
         ∙ sym (getD-drop from xs₀ i z) ∙ sym (getD-take n (drop from xs₀) i z (omega arith))
 
+    -- both places lie in the list
     pub copy-inside : (from + i < length xs) × (to + i < length xs)
     copy-inside = (omega (arith, w .same), omega (arith, w .same))
 
+    -- one element more
     pub copy-next : (z : A) → CopyingWithin from to n xs₀ (set xs (to + i) (getD xs (from + i) z)) (i + 1)
     copy-next z = record {
       same = length-set xs (to + i) (getD xs (from + i) z) ∙ w .same;
@@ -46,6 +49,7 @@ module _ {A : Type 0} (from to n : ℕ) (xs₀ : List A) (apart : from + n ≤ t
       copying = rw (drop-set-add, copied z) (copying-next (partAt from n xs₀) (drop to xs₀) n (drop to xs) i (w .copying) z h);
     }
 
+  -- all are copied
   pub copy-done : {xs : List A} {i : ℕ} → CopyingWithin from to n xs₀ xs i → n ≤ i → xs ≡ placed to (partAt from n xs₀) xs₀
   copy-done {xs} {i} w h =
       within-placed to (partAt from n xs₀) xs₀ xs (w .before) (copying-done (partAt from n xs₀) (drop to xs₀) n (drop to xs) i (w .copying) h)

@@ -16,11 +16,13 @@ pub record WritingEnds (f : ℕ → ℕ) (out₀ : List ℕ) (end : ℕ) (out : 
   pub front : out ≡ onto (tabulate f i) out₀
 
 module _ (f : ℕ → ℕ) (out₀ : List ℕ) where
+  -- before the first end
   pub ends-start : WritingEnds f out₀ (length out₀) out₀ 0
   unfolding tabulate
   ends-start = record { within = omega arith; all = refl; same = refl; front = sym (onto-nil out₀) }
 
   module _ {end : ℕ} {out : List ℕ} {i : ℕ} (w : WritingEnds f out₀ end out i) where
+    -- one end more
     pub ends-next : (v : ℕ) → v ≡ f i → i < end → WritingEnds f out₀ end (set out i v) (i + 1)
     ends-next v e h = record {
       within = omega (arith, w .all);
@@ -29,6 +31,7 @@ module _ (f : ℕ → ℕ) (out₀ : List ℕ) where
       front = rw (w .front, e, add-one) (onto-tabulate-next f out₀ i (omega (arith, w .all)));
     }
 
+    -- all are written
     pub ends-done : end ≤ i → out ≡ tabulate f (length out₀)
     ends-done h =
         let e : i ≡ length out₀ = omega (arith, w .all, w .within) in

@@ -5,7 +5,7 @@ use Prim.Native.Nat.{ℕ}
 use lib.ListN.{length, take, drop}
 use Rattle.base_terms.specs.Lists.{onto}
 use Rattle.path_pieces.specs.declared.score.Score.{Score}
-use Rattle.path_by_length.specs.declared.solve.Solved.{Solved}
+use Rattle.path_rules.specs.declared.solved.Solved.{Solved}
 
 -- the answer is the score of the path `best` and the number of its candidates; the path stands from `at` on, nothing is written beyond it, and what
 -- stands before the search's part is as it was

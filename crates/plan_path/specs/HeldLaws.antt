@@ -6,7 +6,7 @@ use lib.ListN.{take, drop}
 use Rattle.base_terms.specs.Lists.{onto}
 use Rattle.base_code.specs.FrontLaws.{onto-take}
 use Rattle.path_pieces.specs.declared.score.Score.{Score}
-use Rattle.path_by_length.specs.declared.solve.Solved.{Solved}
+use Rattle.path_rules.specs.declared.solved.Solved.{Solved}
 use Rattle.plan_path.specs.Within.{partAt}
 use Rattle.plan_path.specs.Held.{PathHeld}
 

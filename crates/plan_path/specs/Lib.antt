@@ -25,10 +25,10 @@ pub mod PositionsLaws
 pub mod ByLengthLaws
 --   by count: what the search says of a path in a list of its own, where that list is the rest of the work list (`rest-held`, `set-held`)
 pub mod ByCountLaws
--- Seek: where work memory holds what the search reads and writes (`leftsIn`, `rightsIn`, `cutsOf`, `SeekRoom`)
-pub mod Seek
+-- Search: where work memory holds what the search reads and writes (`leftsIn`, `rightsIn`, `costsIn`, `SearchRoom`)
+pub mod Search
 --   the parts that are lent to the search, the costs copied to where it reads them (`length-room`, `count-room`)
-pub mod SeekLaws
+pub mod SearchLaws
 -- Asked: work memory holds candidates, with room for their positions and the search (`CandidatesHeld`)
 pub mod Asked
 --   once the positions are written, the search may be asked over these candidates (`held-left`, `held-right`, `held-asked`)

@@ -4,6 +4,7 @@ use mathlib.Core.List.{List, [], _∷_}
 use Prim.Native.Nat.{ℕ, zero, suc, _+_, _*_, _≤_, _<_}
 use native.Mathlib.Omega.{arith}
 use lib.ListN.{length, getD, take, length-map}
+use Rattle.base_terms.specs.Layout.{rightsAt}
 use Rattle.base_terms.specs.Lists.{onto, tabulate}
 use Rattle.base_code.specs.FrontLaws.{tabulate-length, tabulate-at, onto-length, onto-take}
 use Rattle.grid.specs.declared.boundary.FrameGrid.{FrameGrid}
@@ -55,34 +56,34 @@ module _ (g : FrameGrid) where
       (λ i h. let k : i < length cs = omega (arith, a) in tabulate-at (endIn g (entriesOf cs) 1) (length cs) i 0 k ∙ right-at cs i k)
 
   -- the numbers held are those of candidates
-  module _ (cs : List Candidate) (count : ℕ) (work positions : List ℕ) (all : count ≡ length cs) (held : entriesIn (g .frames) count work ≡ entriesOf cs)
-      (room : PositionsRoom (g .frames) count work positions) where
-    is : positionsIn g count work positions ≡ placed (g .frames + 1) (rightsOf g cs) (onto (leftsOf g cs) positions)
+  module _ (cs : List Candidate) (candidates : ℕ) (work positions : List ℕ) (all : candidates ≡ length cs)
+      (held : entriesIn (g .frames) candidates work ≡ entriesOf cs) (room : PositionsRoom (g .frames) candidates work positions) where
+    is : positionsIn g candidates work positions ≡ placed (rightsAt (g .frames)) (rightsOf g cs) (onto (leftsOf g cs) positions)
     unfolding positionsIn
     is = rw (held, all, lefts cs, rights cs)
 
-    left-long : length (leftsOf g cs) ≡ count
+    left-long : length (leftsOf g cs) ≡ candidates
     left-long = length-map cs (leftSample g) ∙ sym all
 
-    right-long : length (rightsOf g cs) ≡ count
+    right-long : length (rightsOf g cs) ≡ candidates
     right-long = length-map cs (rightSample g) ∙ sym all
 
-    fits : g .frames + 1 + length (rightsOf g cs) ≤ length (onto (leftsOf g cs) positions)
+    fits : rightsAt (g .frames) + length (rightsOf g cs) ≤ length (onto (leftsOf g cs) positions)
     fits = omega (arith, right-long, left-long, room .room, onto-length (leftsOf g cs) positions (omega (arith, left-long, room .room)))
 
     -- the left ends are at the front
-    pub positions-left : take count (positionsIn g count work positions) ≡ leftsOf g cs
+    pub positions-left : take candidates (positionsIn g candidates work positions) ≡ leftsOf g cs
     positions-left =
-        ap (take count) is ∙ placed-take (g .frames + 1) (rightsOf g cs) (onto (leftsOf g cs) positions) fits count (room .few)
+        ap (take candidates) is ∙ placed-take (rightsAt (g .frames)) (rightsOf g cs) (onto (leftsOf g cs) positions) fits candidates (room .few)
         ∙ ap (λ (n : ℕ). take n (onto (leftsOf g cs) positions)) (sym left-long) ∙ onto-take (leftsOf g cs) positions
 
     -- and the right ends behind them
-    pub positions-right : partAt (g .frames + 1) count (positionsIn g count work positions) ≡ rightsOf g cs
+    pub positions-right : partAt (rightsAt (g .frames)) candidates (positionsIn g candidates work positions) ≡ rightsOf g cs
     positions-right =
-        ap (partAt (g .frames + 1) count) is ∙ placed-part (g .frames + 1) (rightsOf g cs) (onto (leftsOf g cs) positions) fits count (sym right-long)
+        ap (partAt (rightsAt (g .frames)) candidates) is ∙ placed-part (rightsAt (g .frames)) (rightsOf g cs) (onto (leftsOf g cs) positions) fits candidates (sym right-long)
 
     -- the list is as long as it was
-    pub positions-long : length (positionsIn g count work positions) ≡ length positions
+    pub positions-long : length (positionsIn g candidates work positions) ≡ length positions
     positions-long =
-        ap length is ∙ placed-length (g .frames + 1) (rightsOf g cs) (onto (leftsOf g cs) positions) fits
+        ap length is ∙ placed-length (rightsAt (g .frames)) (rightsOf g cs) (onto (leftsOf g cs) positions) fits
         ∙ onto-length (leftsOf g cs) positions (omega (arith, left-long, room .room))

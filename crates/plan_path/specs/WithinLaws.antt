@@ -10,17 +10,17 @@ use Rattle.base_terms.specs.Lists.{onto}
 use Rattle.candidate_points.specs.Placed.{placed}
 use Rattle.plan_path.specs.Within.{partAt}
 
--- a list whose front is as it was, and whose rest was written over at its front
+-- a list whose front is as it was, and whose rest has p over its front, is the list with p written from there on
 pub within-placed : {A : Type 0} (at : ℕ) (p xs₀ xs : List A) → take at xs ≡ take at xs₀ → drop at xs ≡ onto p (drop at xs₀) → xs ≡ placed at p xs₀
 unfolding onto placed
 within-placed at p xs₀ xs e f = sym (take-append-drop at xs) ∙ rw (e, f, drop-drop)
 
--- and the other way
+-- and the rest of such a list has p over its front
 pub placed-rest : {A : Type 0} (at : ℕ) (p xs : List A) → at ≤ length xs → drop at (placed at p xs) ≡ onto p (drop at xs)
 unfolding onto placed
 placed-rest at p xs h = drop-at (take at xs) (p ++ drop (at + length p) xs) at (length-take-le at xs h) ∙ ap (λ t. p ++ t) (sym (drop-drop (length p) at xs))
 
--- a part of a part that is back
+-- a part of a part is found in the list once that part is back
 pub part-back : {A : Type 0} (start k : ℕ) (xs part : List A) (m n : ℕ) → start ≤ length xs → m + n ≤ length part
     → partAt (start + m) n (putMid start k xs part) ≡ take n (drop m part)
 part-back start k xs part m n h g =

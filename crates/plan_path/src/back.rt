@@ -7,8 +7,8 @@ ghost use Rattle.path_by_length.specs.Solved.{parentAt};
 ghost use Rattle.plan_path.specs.Within.{partAt};
 ghost use Rattle.plan_path.specs.Back.{WayRoom};
 
-// Writes the path to the last of n candidates, in rising order, from place `at` on. Their parents stand from `parents` on, before that place, and the path
-// has `len` candidates.
+// Writes the path to the last of n candidates, in rising order, from place `at` on. Their parents stand from `parents`
+// on, before that place, and the path has `len` candidates.
 pub fn backtrack_within(work: &mut [u32], parents: usize, n: usize, len: usize, at: usize)
     requires { ⌜ WayRoom parents n at (now work) len ⌝ }
     ensures { λ _. ⌜

@@ -1,20 +1,21 @@
 // The best path by count, searched and held in one work list.
 use base_code::sizes;
-use path_by_count::solve::best_score;
+use path_by_count::search::best_score;
 use path_by_count::walk;
-use path_by_length::solve::Solved;
 use path_pieces::lengths::Lengths;
 use path_pieces::score::Score;
+use path_rules::solved::Solved;
 ghost use Prim.Native.Nat.{_+_, _-_, _*_, _≤_, _<_};
 ghost use lib.ListN.{length};
-ghost use Rattle.path_by_length.specs.Paths.{piecesOf};
-ghost use Rattle.path_by_length.specs.ByCount.{bestPathByCount, bestScoreByCount};
+ghost use Rattle.path_rules.specs.Paths.{piecesOf};
+ghost use Rattle.path_by_count.specs.Table.{bestPathByCount, bestScoreByCount};
 ghost use Rattle.path_by_count_rows.specs.Rows.{behind};
 ghost use Rattle.path_by_count.specs.Counted.{TreeRoom};
 ghost use Rattle.plan_path.specs.Within.{partAt};
 ghost use Rattle.plan_path.specs.Held.{PathHeld};
 
-// Searches in the part of `work` from `search` to `at`, and writes the path from `at` on. The costs of the cuts stand behind the tree in `cost`.
+// Searches in the part of `work` from `search` to `at`, and writes the path from `at` on. The costs of the cuts stand
+// behind the tree in `cost`.
 pub fn path_by_count(
     left: &[u64],
     right: &[u64],
@@ -31,8 +32,10 @@ pub fn path_by_count(
     requires { ⌜ (0 < count) × (piecesOf (now left) count * length (now left) ≤ length (now parent)) ⌝ }
     ensures { λ r. ⌜
         PathHeld search at
-        (bestPathByCount lengths (now (left .entry)) (now (right .entry)) (behind (length (now (left .entry))) (now (cost .entry))) count)
-        (bestScoreByCount lengths (now (left .entry)) (now (right .entry)) (behind (length (now (left .entry))) (now (cost .entry))) count)
+        (bestPathByCount lengths (now (left .entry)) (now (right .entry))
+        (behind (length (now (left .entry))) (now (cost .entry))) count)
+        (bestScoreByCount lengths (now (left .entry)) (now (right .entry))
+        (behind (length (now (left .entry))) (now (cost .entry))) count)
         (now (work .entry)) (now (work .exit)) r
         ⌝ }
 {

@@ -1,4 +1,5 @@
-// Elements moved within one work list: costs are written down where the candidates stand, and the search reads them behind its scores.
+// Elements moved within one work list: costs are written down where the candidates stand, and the search reads them
+// behind its scores.
 ghost use mathlib.Core.Path.{_≡_};
 ghost use Prim.Native.Nat.{_+_, _≤_};
 ghost use lib.ListN.{length};

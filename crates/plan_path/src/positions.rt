@@ -1,4 +1,5 @@
 // The candidates' ends in samples, as the path search takes them, from the numbers that work memory holds of each.
+use base_code::layout;
 use grid::boundary::FrameGrid;
 ghost use mathlib.Core.Path.{_≡_};
 ghost use Prim.Native.Nat.{_+_, _*_};
@@ -18,16 +19,17 @@ fn ends(g: FrameGrid, entries: &[u32], which: usize, out: &mut [u64])
     }
 }
 
-// The left positions of `count` candidates to the front of the u64 list, and the right ones behind, from frames + 1 on.
-pub fn positions(g: FrameGrid, count: usize, work_u32: &[u32], work_u64: &mut [u64])
+// The left positions of so many candidates to the front of the u64 list, and the right ones to their place behind.
+pub fn positions(g: FrameGrid, candidates: usize, work_u32: &[u32], work_u64: &mut [u64])
     requires { ⌜ Bounded g ⌝ }
-    requires { ⌜ PositionsRoom (g .frames) count (now «work_u32») (now «work_u64») ⌝ }
+    requires { ⌜ PositionsRoom (g .frames) candidates (now «work_u32») (now «work_u64») ⌝ }
     ensures { λ _. ⌜
-        now («work_u64» .exit) ≡ positionsIn g count (now («work_u32» .entry)) (now («work_u64» .entry))
+        now («work_u64» .exit) ≡ positionsIn g candidates (now («work_u32» .entry)) (now («work_u64» .entry))
         ⌝ }
 {
-    let side = g.frames + 1;
-    let entries = &work_u32[3 * side..3 * side + 3 * count];
-    ends(g, entries, 0, &mut work_u64[..count]);
-    ends(g, entries, 1, &mut work_u64[side..side + count]);
+    let first = layout::entries_at(g.frames);
+    let entries = &work_u32[first..first + 3 * candidates];
+    ends(g, entries, 0, &mut work_u64[..candidates]);
+    let rights = layout::rights_at(g.frames);
+    ends(g, entries, 1, &mut work_u64[rights..rights + candidates]);
 }

@@ -7,7 +7,7 @@ use Rattle.plan_pieces.specs.declared.answer.Answer.the-variants.{Planne
 -- document 01's number for each case; 0 where the plan was made
 abbrev pub numberOf : Answer → ℕ
 numberOf (Planned pieces) = 0
-numberOf (Refused v) = tests.numberOf v
+numberOf (Refused r) = tests.numberOf r
 numberOf ShortParent = 14
 numberOf NoReach = 18
 numberOf ShortOutput = 12

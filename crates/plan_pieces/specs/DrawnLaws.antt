@@ -6,7 +6,7 @@ use lib.ListN.{length, getD}
 use Rattle.base_terms.specs.Limits.{maxLen}
 use Rattle.path_pieces.specs.Domain.{Candidates}
 use Rattle.path_pieces.specs.DomainLaws.{ends-rise, left-bounded}
-use Rattle.path_by_length.specs.Paths.{Onward, Path, lastOf}
+use Rattle.path_rules.specs.Paths.{Onward, Path, lastOf}
 use Rattle.plan_pieces.specs.Drawn.{Drawn}
 
 module _ {left right : List ℕ} (ok : Candidates left right) where

@@ -20,7 +20,7 @@ pub mod PlanAlong
 pub mod PlanAlongLaws
 -- Answer: document 01's number for each answer of the operation Plan (`numberOf`)
 pub mod Answer
--- AnswerLaws: the number is 0 exactly where a plan was made (`IsPlanned`, `number-zero`), given that a refusal has a number (`Numbered`, `refused-numbered`)
+-- AnswerLaws: the number is 0 exactly where a plan was made (`IsPlanned`, `number-zero`), given that a refusal has a number (`Numbered`)
 pub mod AnswerLaws
 -- Output: the plan handed out whole, or refusal 12 (`handedOutOf`, `hasRoom`)
 pub mod Output

@@ -13,6 +13,7 @@ pub record Output : Type 0 where
   pub pieces : List ℕ
   pub cuts : List ℕ
 
+-- the output, from its two lists
 abbrev pub outputOf : List ℕ → List ℕ → Output
 outputOf pieces cuts = record { pieces = pieces; cuts = cuts }
 
@@ -21,9 +22,11 @@ pub record Handed : Type 0 where
   pub answer : Answer
   pub out : Output
 
+-- an answer with its output, from the two
 abbrev pub handedOf : Answer → Output → Handed
 handedOf answer out = record { answer = answer; out = out }
 
+-- one of two, by a test
 abbrev pub pick : Bool → Handed → Handed → Handed
 pick test a b = cond test a b
 

@@ -2,7 +2,7 @@
 use Prim.Native.Nat.{ℕ}
 use mathlib.Core.List.{List, map}
 use Rattle.grid.specs.declared.boundary.FrameGrid.{FrameGrid}
-use Rattle.candidate_settings.specs.declared.config.PlanConfig.{PlanConfig}
+use Rattle.plan_settings.specs.declared.config.PlanConfig.{PlanConfig}
 use Rattle.candidates.specs.Candidates.{reasonNumber}
 use Rattle.candidates.specs.Samples.{leftsOf, rightsOf}
 use Rattle.candidates.specs.declared.candidate.Candidate.{Candidate}
@@ -15,7 +15,7 @@ reasonsOf cs = map (λ (c : Candidate). reasonNumber (c .reason)) cs
 
 -- the pieces along a path over candidates cs
 unfoldable pub planPieces : FrameGrid → PlanConfig → List Candidate → List ℕ → List ℕ
-planPieces g plan cs path = piecesAlongNumbers (leftsOf g cs) (rightsOf g cs) (minimumIn g plan) (maximumIn g plan) path
+planPieces g settings cs path = piecesAlongNumbers (leftsOf g cs) (rightsOf g cs) (minimumIn g settings) (maximumIn g settings) path
 
 -- the cuts between them
 unfoldable pub planCuts : FrameGrid → List Candidate → List ℕ → List ℕ

@@ -5,7 +5,7 @@ use Prim.Native.Nat.{ℕ, zero, suc, _-_, _*_, _≤_}
 use native.Mathlib.Omega.{arith}
 use lib.ListN.{length, getD}
 use Rattle.grid.specs.declared.boundary.FrameGrid.{FrameGrid}
-use Rattle.candidate_settings.specs.declared.config.PlanConfig.{PlanConfig}
+use Rattle.plan_settings.specs.declared.config.PlanConfig.{PlanConfig}
 use Rattle.candidates.specs.Candidates.{reasonNumber}
 use Rattle.candidates.specs.Entries.{entriesOf}
 use Rattle.candidates.specs.Samples.{leftsOf, rightsOf}
@@ -34,10 +34,10 @@ reasons-few [] j = omega arith
 reasons-few (c ∷ cs) zero = reason-few (c .reason)
 reasons-few (c ∷ cs) (suc j) = reasons-few cs j
 
-module _ (g : FrameGrid) (plan : PlanConfig) (cs : List Candidate) (path : List ℕ) where
+module _ (g : FrameGrid) (settings : PlanConfig) (cs : List Candidate) (path : List ℕ) where
   -- three numbers for each piece, one piece fewer than candidates; and three for each cut, one cut fewer than pieces
-  pub plan-lengths : (length (planPieces g plan cs path) ≡ 3 * (length path - 1)) × (length (planCuts g cs path) ≡ 3 * (length path - 1 - 1))
+  pub plan-lengths : (length (planPieces g settings cs path) ≡ 3 * (length path - 1)) × (length (planCuts g cs path) ≡ 3 * (length path - 1 - 1))
   unfolding planPieces planCuts
   plan-lengths =
-      let pieces = pieces-length (leftsOf g cs) (rightsOf g cs) (minimumIn g plan) (maximumIn g plan) path in
+      let pieces = pieces-length (leftsOf g cs) (rightsOf g cs) (minimumIn g settings) (maximumIn g settings) path in
       (pieces, cuts-length (leftsOf g cs) (rightsOf g cs) (reasonsOf cs) path)

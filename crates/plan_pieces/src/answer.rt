@@ -1,13 +1,13 @@
 // What the operation Plan answers.
 use plan_tests::refusal;
-use plan_tests::refusal::Verdict;
+use plan_tests::refusal::Refusal;
 ghost use mathlib.Core.Path.{_≡_};
 ghost use Rattle.plan_pieces.specs.Answer.{numberOf};
 
 // How many pieces the plan has, or why there is none.
 pub enum Answer {
     Planned(usize),
-    Refused(Verdict),
+    Refused(Refusal),
     ShortParent,
     NoReach,
     ShortOutput,
@@ -15,11 +15,11 @@ pub enum Answer {
 
 // Document 01's number for each case.
 pub fn number(a: Answer) -> u32
-    ensures { λ r. ⌜ r ≡ numberOf a ⌝ }
+    ensures { λ n. ⌜ n ≡ numberOf a ⌝ }
 {
     match a {
         Answer::Planned(_) => 0,
-        Answer::Refused(v) => refusal::number(v),
+        Answer::Refused(r) => refusal::number(r),
         Answer::ShortParent => 14,
         Answer::NoReach => 18,
         Answer::ShortOutput => 12,

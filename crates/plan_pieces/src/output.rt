@@ -35,7 +35,8 @@ pub fn hand_out(
     ensures { λ a. ⌜ handedOf a (outputOf (now (pieces .exit)) (now (cuts .exit)))
         ≡ handedOutOf (length (now (path .entry)) - 1)
         (piecesAlongNumbers (now (left .entry)) (now (right .entry)) min max (now (path .entry)))
-        (cutsAlongNumbers (now (left .entry)) (now (right .entry)) (reasonsIn (now (entries .entry))) (now (path .entry)))
+        (cutsAlongNumbers (now (left .entry)) (now (right .entry)) (reasonsIn (now (entries .entry)))
+        (now (path .entry)))
         (outputOf (now (pieces .entry)) (now (cuts .entry))) ⌝ }
 {
     let count = path.len() - 1;

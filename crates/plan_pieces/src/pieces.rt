@@ -42,7 +42,8 @@ pub fn write_pieces(left: &[u64], right: &[u64], path: &[u32], min: f64, max: u6
     requires { ⌜ Drawn (now left) (now right) (now path) ⌝ }
     requires { ⌜ 3 * (length (now path) - 1) ≤ length (now out) ⌝ }
     ensures { λ _. ⌜ now (out .exit)
-        ≡ onto (piecesAlongNumbers (now (left .entry)) (now (right .entry)) min max (now (path .entry))) (now (out .entry)) ⌝ }
+        ≡ onto (piecesAlongNumbers (now (left .entry)) (now (right .entry)) min max (now (path .entry)))
+        (now (out .entry)) ⌝ }
 {
     let mut i: usize = 0;
     while i + 1 < path.len() {
@@ -53,14 +54,17 @@ pub fn write_pieces(left: &[u64], right: &[u64], path: &[u32], min: f64, max: u6
     }
 }
 
-// Writes the cuts along a path to the front of a list: the end of the piece before, the start of the next and the reason of each.
+// Writes the cuts along a path to the front of a list: the end of the piece before, the start of the next
+// and the reason of each.
 // The reason of candidate j stands at entries[3 j + 2].
 pub fn write_cuts(left: &[u64], right: &[u64], entries: &[u32], path: &[u32], out: &mut [u64])
     requires { ⌜ Drawn (now left) (now right) (now path) ⌝ }
     requires { ⌜ 3 * length (now left) ≤ length (now entries) ⌝ }
     requires { ⌜ 3 * (length (now path) - 2) ≤ length (now out) ⌝ }
     ensures { λ _. ⌜ now (out .exit)
-        ≡ onto (cutsAlongNumbers (now (left .entry)) (now (right .entry)) (reasonsIn (now (entries .entry))) (now (path .entry)))
+        ≡ onto
+        (cutsAlongNumbers (now (left .entry)) (now (right .entry)) (reasonsIn (now (entries .entry)))
+        (now (path .entry)))
         (now (out .entry)) ⌝ }
 {
     let mut i: usize = 0;

@@ -46,7 +46,7 @@ use denote.Exit.{yes}
 use denote.Signature.{plain}
 use borrow.Author.Needs.{scaled-fits}
 use Rattle.plan_records.specs.Records.{recordAt, recordsEnd, recordsEndOf}
-use Rattle.plan_records.specs.RecordsLaws.{written, written-none, written-length, written-next, records-written, records-refused}
+use Rattle.plan_records.specs.RecordsLaws.{recordsUpTo, up-to-none, up-to-length, up-to-next, records-written, records-refused}
 use Rattle.plan_records.proofs.Function.{one-ended, ended, one-clauses, clauses, One, word, numbers-ty, last, record-ty, records-ty, more, turn, writing, body, function}
 
 module _ (T : declared.Declared) (L : LL.Laws T) (make : ℕ → ℕ → ℕ → T .D) (f : Name) (small : Holds (ltb (mem (declared.row T) .size) (2 ^ 64))) where
@@ -80,7 +80,7 @@ module _ (T : declared.Declared) (L : LL.Laws T) (make : ℕ → ℕ → ℕ →
 
       -- the list after i turns, and the record of a turn
       abbrev P : ℕ → List (T .D)
-      P i = written make ns ys i
+      P i = recordsUpTo make ns ys i
 
       abbrev h : ℕ → T .D
       h i = recordAt make ns i
@@ -204,7 +204,7 @@ module _ (T : declared.Declared) (L : LL.Laws T) (make : ℕ → ℕ → ℕ →
               -- the store: [the element; what it owns; the others; what the record owns; the token; what the numbers own; the open borrow; obs; auth; the locals]
               assigns ! (of-opd ! (load ! (from ! (stop !)) (look ! 13 refl))) (from ! (hop ! (look ! 9 refl) (stop !))) (store-raw ! 0 refl (typed r u is)) $
               move ! (1 ∷ []) $ drop ! $ move ! (0 ∷ 2 ∷ 1 ∷ []) $ elem-put ! R fullShare (P (i .0)) (i .0) r (u ∷ []) b o (inside less) $
-              rewrite ! 0 (λ (l : List (T .D)). ‵ (row R fullShare l b o)) (ap (set (P (i .0)) (i .0)) e ∙ written-next make ns ys (i .0) (omega (arith, lt less))) refl $
+              rewrite ! 0 (λ (l : List (T .D)). ‵ (row R fullShare l b o)) (ap (set (P (i .0)) (i .0)) e ∙ up-to-next make ns ys (i .0) (omega (arith, lt less))) refl $
               assigns-last ! (bin ! (load ! (from ! (stop !)) (look ! 18 refl)) (lit ! tt) (record { fits = fits-at (next less) })) (from ! (stop !)) (store ! 18 refl (tt, record { fits = fits-at (next less) })) $
               forget ! 6 refl $ forget ! 8 refl $ forget ! 10 refl $ forget ! 12 refl $
               move ! (0 ∷ 3 ∷ 4 ∷ 5 ∷ 1 ∷ 2 ∷ []) $ again ! Nearer At i (next less) (nearer less)))))))
@@ -225,7 +225,7 @@ module _ (T : declared.Declared) (L : LL.Laws T) (make : ℕ → ℕ → ℕ →
               within less = omega (arith, lt less)
 
               same : (j : Upto) → length (P (j .0)) ≡ length ys
-              same j = written-length make ns ys (j .0) (omega (arith, j .1))
+              same j = up-to-length make ns ys (j .0) (omega (arith, j .1))
 
               inside : Holds (ltb (i .0) n) → i .0 < length (P (i .0))
               inside less = omega (arith, same i, lt less)
@@ -251,7 +251,7 @@ module _ (T : declared.Declared) (L : LL.Laws T) (make : ℕ → ℕ → ℕ →
             ends 12 (lit< tt) ys refl (records-refused make ns ys (ltb→lt (length ys) n short)))
             (λ enough. skips ! $ exec ! C Λ En (writing T f) (atRet En Post) $
             assigns ! (of-opd ! (lit ! tt)) (from ! (stop !)) (init ! 17 refl (tt, record { fits = lit< tt })) $ forget ! 13 refl $ forget ! 15 refl $
-            opens-slice ! tt R ys b o $ rewrite ! 0 (λ (l : List (T .D)). ‵ (row R fullShare l b o)) (sym (written-none make ns ys)) refl $
+            opens-slice ! tt R ys b o $ rewrite ! 0 (λ (l : List (T .D)). ‵ (row R fullShare l b o)) (sym (up-to-none make ns ys)) refl $
             first ! $ blocks ! $ loops ! 𝓣 Nearer Nearer-wf At (turns (nltb→le (length ys) n enough)) (0, zero-le))
 
       walk : (𝓣 : Tables 𝓤 H) → Triple 𝓤 (𝓣 .C f) (One T make 𝓤 H A)

@@ -6,7 +6,7 @@ pub mod Records
 pub mod Pieces
 -- Cuts: the record of a cut, of its numbers (`cutOf`) and of the plan's own terms (`cutRecord`), and its numbers again (`numbersOfCut`)
 pub mod Cuts
--- RecordsLaws: the lent list on the way (`written`), the ends of a call (`records-written`, `records-refused`, `records-at`), and the way back (`numbers-back`)
+-- RecordsLaws: the lent list on the way (`recordsUpTo`), the ends of a call (`records-written`, `records-refused`, `records-at`), and the way back (`numbers-back`)
 pub mod RecordsLaws
 -- PiecesLaws: each flag of a record stands where the plan sets it (`piece-flagged`), and no number is lost (`piece-back`)
 pub mod PiecesLaws

@@ -27,9 +27,11 @@ pub record RecordsEnd (A : Type 0) : Type 0 where
   pub answer : ℕ
   pub records : List A
 
+-- the end of a call, from its two parts
 abbrev pub recordsEnd : {A : Type 0} → ℕ → List A → RecordsEnd A
 recordsEnd answer records = record { answer = answer; records = records }
 
+-- the first where the test passes, and else the second
 abbrev pub pick : {A : Type 0} → Bool → RecordsEnd A → RecordsEnd A → RecordsEnd A
 pick test a b = cond test a b
 

@@ -19,27 +19,30 @@ module _ {A : Type 0} (make : ℕ → ℕ → ℕ → A) (numbers : List ℕ) wh
 
   module _ (records : List A) where
     -- the lent list with the first i records written
-    abbrev pub written : ℕ → List A
-    written i = onto (tabulate (recordAt make numbers) i) records
+    abbrev pub recordsUpTo : ℕ → List A
+    recordsUpTo i = onto (tabulate (recordAt make numbers) i) records
 
-    pub written-none : written 0 ≡ records
+    -- none is written yet
+    pub up-to-none : recordsUpTo 0 ≡ records
     unfolding onto tabulate
-    written-none = refl
+    up-to-none = refl
 
-    pub written-length : (i : ℕ) → i ≤ length records → length (written i) ≡ length records
-    written-length i h = onto-length (tabulate (recordAt make numbers) i) records (rw tabulate-length h)
+    -- it is as long as it was
+    pub up-to-length : (i : ℕ) → i ≤ length records → length (recordsUpTo i) ≡ length records
+    up-to-length i h = onto-length (tabulate (recordAt make numbers) i) records (rw tabulate-length h)
 
-    pub written-next : (i : ℕ) → i < length records → set (written i) i (recordAt make numbers i) ≡ written (i + 1)
-    written-next i h = rw (add-one i) (onto-tabulate-next (recordAt make numbers) records i h)
+    -- one more is written
+    pub up-to-next : (i : ℕ) → i < length records → set (recordsUpTo i) i (recordAt make numbers i) ≡ recordsUpTo (i + 1)
+    up-to-next i h = rw (add-one i) (onto-tabulate-next (recordAt make numbers) records i h)
 
     -- ---- the ends of a call
 
-    -- room for all of them
-    pub records-written : length numbers / 3 ≤ length records → recordsEnd 0 (written (length numbers / 3)) ≡ recordsEndOf make numbers records
+    -- 0: the list has room for all of them
+    pub records-written : length numbers / 3 ≤ length records → recordsEnd 0 (recordsUpTo (length numbers / 3)) ≡ recordsEndOf make numbers records
     unfolding recordsEndOf recordsOf
     records-written h = rw (le-leb (length numbers / 3) (length records) h)
 
-    -- 12
+    -- 12: the list is too short
     pub records-refused : length records < length numbers / 3 → recordsEnd 12 records ≡ recordsEndOf make numbers records
     unfolding recordsEndOf
     records-refused h = rw (lt-leb (length numbers / 3) (length records) h)

@@ -7,7 +7,7 @@ use lib.ListN.{length, getD, take}
 use Rattle.base_terms.specs.Lists.{onto}
 use Rattle.base_code.specs.FrontLaws.{onto-take}
 use Rattle.grid.specs.declared.boundary.FrameGrid.{FrameGrid}
-use Rattle.candidate_settings.specs.declared.config.PlanConfig.{PlanConfig}
+use Rattle.plan_settings.specs.declared.config.PlanConfig.{PlanConfig}
 use Rattle.candidates.specs.Samples.{leftsOf, rightsOf}
 use Rattle.candidates.specs.declared.candidate.Candidate.{Candidate}
 use Rattle.plan_lengths.specs.PlanLengths.{minimumIn, maximumIn}
@@ -28,50 +28,51 @@ use Rattle.plan_records.specs.declared.cuts.Cut.{Cut}
 threes : (ns : List ℕ) (i a b c : ℕ) → Numbers ns i a b c → a ∷ (b ∷ (c ∷ [])) ≡ getD ns (3 * i) 0 ∷ (getD ns (3 * i + 1) 0 ∷ (getD ns (3 * i + 2) 0 ∷ []))
 threes ns i a b c n = rw (n .one, n .two, n .three)
 
-module _ (g : FrameGrid) (plan : PlanConfig) (cs : List Candidate) (path : List ℕ) where
+module _ (g : FrameGrid) (settings : PlanConfig) (cs : List Candidate) (path : List ℕ) where
   -- ---- pieces
 
   -- what the operation wrote to the front of its output is handed on whole
-  pub front-of-pieces : (out : List ℕ) → take (3 * (length path - 1)) (onto (planPieces g plan cs path) out) ≡ planPieces g plan cs path
+  pub front-of-pieces : (out : List ℕ) → take (3 * (length path - 1)) (onto (planPieces g settings cs path) out) ≡ planPieces g settings cs path
   front-of-pieces out =
-      subst (λ (n : ℕ). take n (onto (planPieces g plan cs path) out) ≡ planPieces g plan cs path) (plan-lengths g plan cs path .0) (onto-take (planPieces g plan cs path) out)
+      subst (λ (n : ℕ). take n (onto (planPieces g settings cs path) out) ≡ planPieces g settings cs path) (plan-lengths g settings cs path .0) (onto-take (planPieces g settings cs path) out)
 
-  numbers-of-piece : (i : ℕ) → suc i < length path → recordAt pieceOf (planPieces g plan cs path) i
-      ≡ pieceRecord (leftsOf g cs) (rightsOf g cs) (minimumIn g plan) (maximumIn g plan) (getD path i 0) (getD path (suc i) 0)
+  numbers-of-piece : (i : ℕ) → suc i < length path → recordAt pieceOf (planPieces g settings cs path) i
+      ≡ pieceRecord (leftsOf g cs) (rightsOf g cs) (minimumIn g settings) (maximumIn g settings) (getD path i 0) (getD path (suc i) 0)
   unfolding planPieces
   numbers-of-piece i h =
-      record-of pieceOf _ (piece-numbers (leftsOf g cs) (rightsOf g cs) (minimumIn g plan) (maximumIn g plan) path i h)
-      ∙ piece-flagged (leftsOf g cs) (rightsOf g cs) (minimumIn g plan) (maximumIn g plan) (getD path i 0) (getD path (suc i) 0)
+      record-of pieceOf _ (piece-numbers (leftsOf g cs) (rightsOf g cs) (minimumIn g settings) (maximumIn g settings) path i h)
+      ∙ piece-flagged (leftsOf g cs) (rightsOf g cs) (minimumIn g settings) (maximumIn g settings) (getD path i 0) (getD path (suc i) 0)
 
   -- a list with room for the pieces gets each of them
   pub records-of-plan : (records : List Piece) → length path - 1 ≤ length records
-      → (recordsEndOf pieceOf (planPieces g plan cs path) records .answer ≡ 0)
-      × ((i : ℕ) (z : Piece) → suc i < length path → getD (recordsEndOf pieceOf (planPieces g plan cs path) records .records) i z
-      ≡ pieceRecord (leftsOf g cs) (rightsOf g cs) (minimumIn g plan) (maximumIn g plan) (getD path i 0) (getD path (suc i) 0))
+      → (recordsEndOf pieceOf (planPieces g settings cs path) records .answer ≡ 0)
+      × ((i : ℕ) (z : Piece) → suc i < length path → getD (recordsEndOf pieceOf (planPieces g settings cs path) records .records) i z
+      ≡ pieceRecord (leftsOf g cs) (rightsOf g cs) (minimumIn g settings) (maximumIn g settings) (getD path i 0) (getD path (suc i) 0))
   records-of-plan records room =
-      let l = plan-lengths g plan cs path .0 in
-      let r : length (planPieces g plan cs path) / 3 ≤ length records = omega (arith, l, room) in (
-        sym (ap (λ (e : RecordsEnd Piece). e .answer) (records-written pieceOf (planPieces g plan cs path) records r)),
-        λ i z h. records-at pieceOf (planPieces g plan cs path) records i z r (omega (arith, l, h)) ∙ numbers-of-piece i h,
+      let l = plan-lengths g settings cs path .0 in
+      let r : length (planPieces g settings cs path) / 3 ≤ length records = omega (arith, l, room) in (
+        sym (ap (λ (e : RecordsEnd Piece). e .answer) (records-written pieceOf (planPieces g settings cs path) records r)),
+        λ i z h. records-at pieceOf (planPieces g settings cs path) records i z r (omega (arith, l, h)) ∙ numbers-of-piece i h,
       )
 
   -- the records have every number of the plan
-  pub pieces-kept : numbersOf numbersOfPiece (recordsOf pieceOf (planPieces g plan cs path)) ≡ planPieces g plan cs path
+  pub pieces-kept : numbersOf numbersOfPiece (recordsOf pieceOf (planPieces g settings cs path)) ≡ planPieces g settings cs path
   unfolding planPieces
   pieces-kept =
-      let l = plan-lengths g plan cs path .0 in
+      let l = plan-lengths g settings cs path .0 in
       numbers-back numbersOfPiece pieceOf _ (λ i h. each i (omega (arith, l, h))) (omega (arith, l))
     where
-      each : (i : ℕ) → suc i < length path → numbersOfPiece (recordAt pieceOf (planPieces g plan cs path) i)
-          ≡ getD (planPieces g plan cs path) (3 * i) 0 ∷ (getD (planPieces g plan cs path) (3 * i + 1) 0 ∷ (getD (planPieces g plan cs path) (3 * i + 2) 0 ∷ []))
+      each : (i : ℕ) → suc i < length path → numbersOfPiece (recordAt pieceOf (planPieces g settings cs path) i)
+          ≡ getD (planPieces g settings cs path) (3 * i) 0 ∷ (getD (planPieces g settings cs path) (3 * i + 1) 0 ∷ (getD (planPieces g settings cs path) (3 * i + 2) 0 ∷ []))
       each i h =
-          let n = piece-numbers (leftsOf g cs) (rightsOf g cs) (minimumIn g plan) (maximumIn g plan) path i h in
-          ap numbersOfPiece (record-of pieceOf _ n) ∙ piece-back _ _ _ (flags-most (minimumIn g plan) (maximumIn g plan) _) ∙ threes _ i _ _ _ n
+          let n = piece-numbers (leftsOf g cs) (rightsOf g cs) (minimumIn g settings) (maximumIn g settings) path i h in
+          ap numbersOfPiece (record-of pieceOf _ n) ∙ piece-back _ _ _ (flags-most (minimumIn g settings) (maximumIn g settings) _) ∙ threes _ i _ _ _ n
 
   -- ---- cuts
 
+  -- what the operation wrote to the front of its output is handed on whole
   pub front-of-cuts : (out : List ℕ) → take (3 * (length path - 1 - 1)) (onto (planCuts g cs path) out) ≡ planCuts g cs path
-  front-of-cuts out = subst (λ (n : ℕ). take n (onto (planCuts g cs path) out) ≡ planCuts g cs path) (plan-lengths g plan cs path .1) (onto-take (planCuts g cs path) out)
+  front-of-cuts out = subst (λ (n : ℕ). take n (onto (planCuts g cs path) out) ≡ planCuts g cs path) (plan-lengths g settings cs path .1) (onto-take (planCuts g cs path) out)
 
   numbers-of-cut : (i : ℕ) → suc (suc i) < length path
       → recordAt cutOf (planCuts g cs path) i ≡ cutRecord (leftsOf g cs) (rightsOf g cs) (reasonsOf cs) (getD path (suc i) 0)
@@ -86,7 +87,7 @@ module _ (g : FrameGrid) (plan : PlanConfig) (cs : List Candidate) (path : List 
       × ((i : ℕ) (z : Cut) → suc (suc i) < length path
       → getD (recordsEndOf cutOf (planCuts g cs path) records .records) i z ≡ cutRecord (leftsOf g cs) (rightsOf g cs) (reasonsOf cs) (getD path (suc i) 0))
   cut-records-of-plan records room =
-      let l = plan-lengths g plan cs path .1 in
+      let l = plan-lengths g settings cs path .1 in
       let r : length (planCuts g cs path) / 3 ≤ length records = omega (arith, l, room) in (
         sym (ap (λ (e : RecordsEnd Cut). e .answer) (records-written cutOf (planCuts g cs path) records r)),
         λ i z h. records-at cutOf (planCuts g cs path) records i z r (omega (arith, l, h)) ∙ numbers-of-cut i h,
@@ -96,7 +97,7 @@ module _ (g : FrameGrid) (plan : PlanConfig) (cs : List Candidate) (path : List 
   pub cuts-kept : numbersOf numbersOfCut (recordsOf cutOf (planCuts g cs path)) ≡ planCuts g cs path
   unfolding planCuts
   cuts-kept =
-      let l = plan-lengths g plan cs path .1 in
+      let l = plan-lengths g settings cs path .1 in
       numbers-back numbersOfCut cutOf _ (λ i h. each i (omega (arith, l, h))) (omega (arith, l))
     where
       each : (i : ℕ) → suc (suc i) < length path → numbersOfCut (recordAt cutOf (planCuts g cs path) i)

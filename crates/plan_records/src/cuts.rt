@@ -5,7 +5,8 @@ ghost use lib.ListN.{length};
 ghost use Rattle.plan_records.specs.Records.{recordAt};
 ghost use Rattle.plan_records.specs.Cuts.{reasonOf, cutOf};
 
-// A cut between two pieces, in samples, and the number of its reason: 0 silence, 1 quiet, 2 forced. Laid out as C does: two 64-bit numbers and a byte, 24 bytes.
+// A cut between two pieces, in samples, and the number of its reason: 0 silence, 1 quiet, 2 forced.
+// Laid out as C does: two 64-bit numbers and a byte, 24 bytes.
 // A number leaves the byte free in memory that C lends, where an enum would not.
 #[repr(C)]
 pub struct Cut {

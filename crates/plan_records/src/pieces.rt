@@ -5,7 +5,8 @@ ghost use lib.ListN.{length};
 ghost use Rattle.plan_records.specs.Records.{recordAt};
 ghost use Rattle.plan_records.specs.Pieces.{pieceOf};
 
-// A piece of the recording, from sample `start` to the one before `end`. Laid out as C does: two 64-bit numbers and two bools, 24 bytes.
+// A piece of the recording, from sample `start` to the one before `end`.
+// Laid out as C does: two 64-bit numbers and two bools, 24 bytes.
 #[repr(C)]
 pub struct Piece {
     pub start: u64,

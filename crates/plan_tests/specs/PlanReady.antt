@@ -25,19 +25,19 @@ use Rattle.silence_list.specs.declared.config.SegmentConfig.{SegmentConfig}
 use Rattle.path_pieces.specs.declared.mode.Mode.the-variants.{ByCount}
 use Rattle.path_tests.specs.Refusal as tests
 use Rattle.path_tests.specs.RefusalLaws as lent
-use Rattle.candidate_settings.specs.Tests.{ratioOk, weightsOk}
-use Rattle.candidate_settings.specs.TestsLaws.{Weighed, weights-parts}
-use Rattle.candidate_settings.specs.declared.config.PlanConfig.{PlanConfig}
+use Rattle.plan_settings.specs.Tests.{ratioOk, weightsOk}
+use Rattle.plan_settings.specs.TestsLaws.{Weighed, weights-parts}
+use Rattle.plan_settings.specs.declared.config.PlanConfig.{PlanConfig}
 use Rattle.candidate_span.specs.Spacing.{blockOf}
 use Rattle.candidate_span.specs.SpacingLaws.{Spaced, passed-spaced, block-some}
 use Rattle.candidate_costs.specs.Window.{smoothing, widthOf}
 use Rattle.candidate_costs.specs.NormalizeLaws.{Scaled}
 use Rattle.candidate_costs.specs.LevelLaws.{Measured}
 use Rattle.candidate_costs.specs.Within.{Levelled, levels-scaled, smoothing-frames, passed-measured, passed-levelled}
-use Rattle.plan_tests.specs.Refusal.{pieceLengthsOk, allDurationsOk, firstRefusalOf, isFine}
+use Rattle.plan_tests.specs.Refusal.{pieceLengthsOk, allDurationsOk, firstRefusalOf}
 use Rattle.plan_tests.specs.Fitting.{Fitting}
-use Rattle.plan_tests.specs.RefusalLaws.{TestsPassed, passed, fine-is, valid-passed, valid-few}
-use Rattle.plan_tests.specs.declared.refusal.Verdict.{Verdict}
+use Rattle.plan_tests.specs.RefusalLaws.{TestsPassed, passed, valid-passed, valid-few}
+use Rattle.plan_tests.specs.declared.refusal.Verdict.the-variants.{Fine}
 
 -- test 7 for what a piece should last, taken apart
 pub record Preferring (least target most : ℕ) : Type 0 where
@@ -48,6 +48,7 @@ pub record Preferring (least target most : ℕ) : Type 0 where
   pub least-target : least ≤ target
   pub target-most : target ≤ most
 
+-- which holds of durations that pass it
 pub lengths-parts : (least target most : ℕ) → pieceLengthsOk least target most ≡ true → Preferring least target most
 unfolding pieceLengthsOk
 lengths-parts least target most e =
@@ -71,7 +72,7 @@ lengths-parts least target most e =
     }
 
 -- what each step of a plan asks of a request
-pub record PlanReady (r : Recording) (segment : SegmentConfig) (plan : PlanConfig) (values : List Float) (flags : List ℕ) (levels : List Float) (n32 n64 nf : ℕ) : Type 0 where
+pub record PlanReady (r : Recording) (segment : SegmentConfig) (settings : PlanConfig) (values : List Float) (flags : List ℕ) (levels : List Float) (n32 n64 nf : ℕ) : Type 0 where
   -- the recording, its grid and its frames
   pub recording : validity.AcceptedRecording r values flags levels
   pub accepted : Accepted (gridOf r (length values))
@@ -81,34 +82,35 @@ pub record PlanReady (r : Recording) (segment : SegmentConfig) (plan : PlanConfi
   pub sounds : silences.SoundReady r segment values flags
   pub threshold : thresholdOk (segment .threshold) ≡ true
   -- the durations, and what is made of them on the grid
-  pub preferring : Preferring (plan .min) (plan .target) (plan .max)
+  pub preferring : Preferring (settings .min) (settings .target) (settings .max)
   pub pre-spaced : Spaced (gridOf r (length values)) (segment .pre)
   pub tail-spaced : Spaced (gridOf r (length values)) (segment .tail)
-  pub min-spaced : Spaced (gridOf r (length values)) (plan .min)
-  pub target-spaced : Spaced (gridOf r (length values)) (plan .target)
-  pub max-spaced : Spaced (gridOf r (length values)) (plan .max)
-  pub block-some : 1 ≤ blockOf (gridOf r (length values)) (plan .min) (plan .max)
+  pub min-spaced : Spaced (gridOf r (length values)) (settings .min)
+  pub target-spaced : Spaced (gridOf r (length values)) (settings .target)
+  pub max-spaced : Spaced (gridOf r (length values)) (settings .max)
+  pub block-some : 1 ≤ blockOf (gridOf r (length values)) (settings .min) (settings .max)
   -- the levels
   pub smoothed : InFrames (r .«frame_rate») (r .hop) smoothing
   pub measured : Measured (r .domain) (widthOf (r .«frame_rate») (r .hop)) values levels
   pub scaled : Scaled (levelsOf (r .domain) (segment .threshold) values flags)
   -- the settings
-  pub counted : (count : ℕ) → plan .mode ≡ ByCount count → (0 < count) × (count ≤ tests.maxCount)
-  pub ratio : ratioOk (plan .placement) ≡ true
-  pub weights : weightsOk (plan .weights) ≡ true
-  pub weighed : Weighed (plan .weights)
+  pub counted : (count : ℕ) → settings .mode ≡ ByCount count → (0 < count) × (count ≤ tests.maxCount)
+  pub ratio : ratioOk (settings .placement) ≡ true
+  pub weights : weightsOk (settings .weights) ≡ true
+  pub weighed : Weighed (settings .weights)
   -- 16 entries for each frame and one more, in each work list
   pub work : WorkIn (length values + 1) n32 n64 nf
 
-module _ (r : Recording) (segment : SegmentConfig) (plan : PlanConfig) (values : List Float) (flags : List ℕ) (levels : List Float) (n32 n64 nf : ℕ) where
-  pub passed-ready : TestsPassed r segment plan values flags levels n32 n64 nf → PlanReady r segment plan values flags levels n32 n64 nf
+module _ (r : Recording) (segment : SegmentConfig) (settings : PlanConfig) (values : List Float) (flags : List ℕ) (levels : List Float) (n32 n64 nf : ℕ) where
+  -- tests that have passed leave what planning needs
+  pub passed-ready : TestsPassed r segment settings values flags levels n32 n64 nf → PlanReady r segment settings values flags levels n32 n64 nf
   unfolding allDurationsOk
   passed-ready p =
       let q = valid-passed r values flags levels (p .recording) in
       let accepted = validity.passed-accepted r values flags levels q in
-      let times = both (durationsOk segment) (pieceLengthsOk (plan .min) (plan .target) (plan .max)) (p .durations) in
+      let times = both (durationsOk segment) (pieceLengthsOk (settings .min) (settings .target) (settings .max)) (p .durations) in
       let d = silences.durations-parts segment (times .0) in
-      let l = lengths-parts (plan .min) (plan .target) (plan .max) (times .1) in
+      let l = lengths-parts (settings .min) (settings .target) (settings .max) (times .1) in
       record {
         recording = q;
         accepted = accepted;
@@ -119,25 +121,25 @@ module _ (r : Recording) (segment : SegmentConfig) (plan : PlanConfig) (values :
         preferring = l;
         pre-spaced = passed-spaced r values flags levels q (segment .pre) (d .2);
         tail-spaced = passed-spaced r values flags levels q (segment .tail) (d .3);
-        min-spaced = passed-spaced r values flags levels q (plan .min) (l .least-time);
-        target-spaced = passed-spaced r values flags levels q (plan .target) (l .target-time);
-        max-spaced = passed-spaced r values flags levels q (plan .max) (l .most-time);
-        block-some = block-some (gridOf r (length values)) (plan .min) (plan .max);
+        min-spaced = passed-spaced r values flags levels q (settings .min) (l .least-time);
+        target-spaced = passed-spaced r values flags levels q (settings .target) (l .target-time);
+        max-spaced = passed-spaced r values flags levels q (settings .max) (l .most-time);
+        block-some = block-some (gridOf r (length values)) (settings .min) (settings .max);
         smoothed = smoothing-frames (r .«sample_rate») (r .«frame_rate») (r .hop) (q .frames);
         measured = passed-measured r values flags levels q;
         scaled = levels-scaled (r .domain) (segment .threshold) values flags (values-finite (r .domain) values flags levels (q .within));
-        counted = λ (count : ℕ) (m : plan .mode ≡ ByCount count). lent.count-parts count (sym (ap tests.countOk m) ∙ p .count);
+        counted = λ (count : ℕ) (m : settings .mode ≡ ByCount count). lent.count-parts count (sym (ap tests.countOk m) ∙ p .count);
         ratio = p .ratio;
         weights = p .weights;
-        weighed = weights-parts (plan .weights) (p .weights);
+        weighed = weights-parts (settings .weights) (p .weights);
         work = work-parts (length values + 1) n32 n64 nf (p .work);
       }
 
-  -- from the promise of `first_refusal`
-  pub fine-ready : (v : Verdict) → v ≡ firstRefusalOf r segment plan values flags levels n32 n64 nf → isFine v ≡ true → PlanReady r segment plan values flags levels n32 n64 nf
-  fine-ready v e y = passed-ready (passed r segment plan values flags levels n32 n64 nf (sym e ∙ fine-is v y))
+  -- so does a call in which no test fails
+  pub fine-ready : firstRefusalOf r segment settings values flags levels n32 n64 nf ≡ Fine → PlanReady r segment settings values flags levels n32 n64 nf
+  fine-ready e = passed-ready (passed r segment settings values flags levels n32 n64 nf e)
 
   -- the levels are on their scale, where the lists hold what their types say
-  pub ready-levelled : PlanReady r segment plan values flags levels n32 n64 nf → Fitting values levels
+  pub ready-levelled : PlanReady r segment settings values flags levels n32 n64 nf → Fitting values levels
       → Levelled (r .domain) (levelsOf (r .domain) (segment .threshold) values flags) (widthOf (r .«frame_rate») (r .hop)) values flags levels
   ready-levelled p f = passed-levelled r values flags levels (p .recording) (segment .threshold) (f .values-fit) (f .levels-fit)

@@ -1,14 +1,13 @@
 // Test 7, and the chain of all tests before 14.
-use candidate_settings::config::PlanConfig;
 use grid::validate::Recording;
 use grid::validate::Validity;
+use plan_settings::config::PlanConfig;
 use silence_list::config::SegmentConfig;
 ghost use mathlib.Core.Path.{_≡_};
-ghost use Rattle.plan_tests.specs.Refusal.{pieceLengthsOk, allDurationsOk, firstRefusalOf, isFine, numberOf};
+ghost use Rattle.plan_tests.specs.Refusal.{pieceLengthsOk, allDurationsOk, firstRefusalOf, numberOf};
 
-// What the tests say: that none fails, or the first that does.
-pub enum Verdict {
-    Fine,
+// Why a test fails.
+pub enum Refusal {
     BadRecording(Validity),
     BadDurations,
     BadCount,
@@ -18,35 +17,24 @@ pub enum Verdict {
     ShortWork,
 }
 
-// Document 01's number for each case.
-pub fn number(v: Verdict) -> u32
-    ensures { λ r. ⌜ r ≡ numberOf v ⌝ }
-{
-    match v {
-        Verdict::Fine => 0,
-        Verdict::BadRecording(validity) => grid::validate::refusal(validity),
-        Verdict::BadDurations => 7,
-        Verdict::BadCount => 8,
-        Verdict::BadRatio => 9,
-        Verdict::BadWeights => 10,
-        Verdict::BadThreshold => 11,
-        Verdict::ShortWork => 13,
-    }
+// What the tests say: that none fails, or the first that does.
+pub enum Verdict {
+    Fine,
+    Fails(Refusal),
 }
 
-// Whether no test fails.
-pub fn is_fine(v: Verdict) -> bool
-    ensures { λ r. ⌜ r ≡ isFine v ⌝ }
+// Document 01's number for each case.
+pub fn number(r: Refusal) -> u32
+    ensures { λ n. ⌜ n ≡ numberOf r ⌝ }
 {
-    match v {
-        Verdict::Fine => true,
-        Verdict::BadRecording(_) => false,
-        Verdict::BadDurations => false,
-        Verdict::BadCount => false,
-        Verdict::BadRatio => false,
-        Verdict::BadWeights => false,
-        Verdict::BadThreshold => false,
-        Verdict::ShortWork => false,
+    match r {
+        Refusal::BadRecording(validity) => grid::validate::refusal(validity),
+        Refusal::BadDurations => 7,
+        Refusal::BadCount => 8,
+        Refusal::BadRatio => 9,
+        Refusal::BadWeights => 10,
+        Refusal::BadThreshold => 11,
+        Refusal::ShortWork => 13,
     }
 }
 
@@ -73,17 +61,18 @@ fn piece_lengths_ok(min: u64, target: u64, max: u64) -> bool
 }
 
 // Test 7.
-fn all_durations_ok(segment: SegmentConfig, plan: PlanConfig) -> bool
-    ensures { λ r. ⌜ r ≡ allDurationsOk segment plan ⌝ }
+fn all_durations_ok(segment: SegmentConfig, settings: PlanConfig) -> bool
+    ensures { λ r. ⌜ r ≡ allDurationsOk segment settings ⌝ }
 {
-    silence_list::config::durations_ok(segment) && piece_lengths_ok(plan.min, plan.target, plan.max)
+    silence_list::config::durations_ok(segment)
+        && piece_lengths_ok(settings.min, settings.target, settings.max)
 }
 
 // The tests in document 01's order. It reads the recording alone, and of work memory its lengths.
 pub fn first_refusal(
     r: Recording,
     segment: SegmentConfig,
-    plan: PlanConfig,
+    settings: PlanConfig,
     values: &[f32],
     flags: &[u8],
     levels: &[f64],
@@ -91,33 +80,33 @@ pub fn first_refusal(
     n64: usize,
     nf: usize,
 ) -> Verdict
-    ensures { λ v. ⌜ v
-        ≡ firstRefusalOf r segment plan (now (values .entry)) (now (flags .entry)) (now (levels .entry)) n32 n64 nf ⌝ }
+    ensures { λ v. ⌜ v ≡ firstRefusalOf r segment settings
+        (now (values .entry)) (now (flags .entry)) (now (levels .entry)) n32 n64 nf ⌝ }
 {
     let validity = r.validate(values, flags, levels);
     if !grid::validate::is_valid(validity) {
-        return Verdict::BadRecording(validity);
+        return Verdict::Fails(Refusal::BadRecording(validity));
     }
-    if !all_durations_ok(segment, plan) {
-        return Verdict::BadDurations;
+    if !all_durations_ok(segment, settings) {
+        return Verdict::Fails(Refusal::BadDurations);
     }
-    let mode = plan.mode;
+    let mode = settings.mode;
     if !path_tests::refusal::count_ok(mode) {
-        return Verdict::BadCount;
+        return Verdict::Fails(Refusal::BadCount);
     }
-    let placement = plan.placement;
-    if !candidate_settings::tests::ratio_ok(placement) {
-        return Verdict::BadRatio;
+    let placement = settings.placement;
+    if !plan_settings::tests::ratio_ok(placement) {
+        return Verdict::Fails(Refusal::BadRatio);
     }
-    if !candidate_settings::tests::weights_ok(plan.weights) {
-        return Verdict::BadWeights;
+    if !plan_settings::tests::weights_ok(settings.weights) {
+        return Verdict::Fails(Refusal::BadWeights);
     }
     let threshold = segment.threshold;
     if !silence_list::config::threshold_ok(threshold) {
-        return Verdict::BadThreshold;
+        return Verdict::Fails(Refusal::BadThreshold);
     }
     if !base_code::work::work_ok(values.len() + 1, n32, n64, nf) {
-        return Verdict::ShortWork;
+        return Verdict::Fails(Refusal::ShortWork);
     }
     Verdict::Fine
 }

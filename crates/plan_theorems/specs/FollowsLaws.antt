@@ -11,10 +11,10 @@ use Rattle.grid.specs.Durations.{InSamples}
 use Rattle.grid.specs.DurationsLaws.{samples-small}
 use Rattle.grid.specs.declared.boundary.FrameGrid.{FrameGrid}
 use Rattle.path_pieces.specs.Pieces.{pieceLength}
-use Rattle.path_by_length.specs.Paths.{Onward}
-use Rattle.candidate_settings.specs.declared.config.PlanConfig.{PlanConfig}
+use Rattle.path_rules.specs.Paths.{Onward}
+use Rattle.plan_settings.specs.declared.config.PlanConfig.{PlanConfig}
 use Rattle.candidate_span.specs.Gaps.{Cut}
-use Rattle.division.specs.Division.{Span}
+use Rattle.candidate_span.specs.Span.{Span}
 use Rattle.division.specs.Pieces.{Piece, pieceFrom, piecesOf}
 use Rattle.division.specs.Places.{cutAt}
 use Rattle.candidates.specs.Samples.{leftsOf, rightsOf}
@@ -65,17 +65,17 @@ module _ (cs : List Candidate) where
 
 -- ---- the output's front
 
-module _ (g : FrameGrid) (plan : PlanConfig) (cs : List Candidate) (path : List ℕ) (k : ℕ) (before after : Output) (h : HandedAlong g plan cs path k before after) where
-  pieces-long : length (planPieces g plan cs path) ≡ 3 * k
-  pieces-long = rw (← h .number) (plan-lengths g plan cs path .0)
+module _ (g : FrameGrid) (settings : PlanConfig) (cs : List Candidate) (path : List ℕ) (k : ℕ) (before after : Output) (h : HandedAlong g settings cs path k before after) where
+  pieces-long : length (planPieces g settings cs path) ≡ 3 * k
+  pieces-long = rw (← h .number) (plan-lengths g settings cs path .0)
 
   cuts-long : length (planCuts g cs path) ≡ 3 * (k - 1)
-  cuts-long = rw (← h .number) (plan-lengths g plan cs path .1)
+  cuts-long = rw (← h .number) (plan-lengths g settings cs path .1)
 
-  pieces-front : take (3 * k) (after .pieces) ≡ planPieces g plan cs path
+  pieces-front : take (3 * k) (after .pieces) ≡ planPieces g settings cs path
   pieces-front =
-      ap (λ (o : Output). take (3 * k) (o .pieces)) (h .is) ∙ ap (λ (n : ℕ). take n (onto (planPieces g plan cs path) (before .pieces))) (sym pieces-long)
-      ∙ onto-take (planPieces g plan cs path) (before .pieces)
+      ap (λ (o : Output). take (3 * k) (o .pieces)) (h .is) ∙ ap (λ (n : ℕ). take n (onto (planPieces g settings cs path) (before .pieces))) (sym pieces-long)
+      ∙ onto-take (planPieces g settings cs path) (before .pieces)
 
   cuts-front : take (3 * (k - 1)) (after .cuts) ≡ planCuts g cs path
   cuts-front =
@@ -90,28 +90,28 @@ module _ (g : FrameGrid) (plan : PlanConfig) (cs : List Candidate) (path : List 
     cuts = ap (λ (o : Output). o .cuts) (h .is) ∙ ap (λ (p : List ℕ). onto p (before .cuts)) (sym cuts-front);
   }
 
-  piece-at : (j : ℕ) → j < 3 * k → getD (after .pieces) j 0 ≡ getD (planPieces g plan cs path) j 0
-  piece-at j l = ap (λ (o : Output). getD (o .pieces) j 0) (h .is) ∙ onto-at (planPieces g plan cs path) (before .pieces) j 0 (omega (arith, l, pieces-long))
+  piece-at : (j : ℕ) → j < 3 * k → getD (after .pieces) j 0 ≡ getD (planPieces g settings cs path) j 0
+  piece-at j l = ap (λ (o : Output). getD (o .pieces) j 0) (h .is) ∙ onto-at (planPieces g settings cs path) (before .pieces) j 0 (omega (arith, l, pieces-long))
 
   cut-number-at : (j : ℕ) → j < 3 * (k - 1) → getD (after .cuts) j 0 ≡ getD (planCuts g cs path) j 0
   cut-number-at j l = ap (λ (o : Output). getD (o .cuts) j 0) (h .is) ∙ onto-at (planCuts g cs path) (before .cuts) j 0 (omega (arith, l, cuts-long))
 
 -- ---- number by number
 
-module _ (g : FrameGrid) (plan : PlanConfig) (s : Span) (cs : List Candidate) (path : List ℕ) (k : ℕ) (before after : Output)
-    (across : Across s cs) (rising : Rising cs path) (h : HandedAlong g plan cs path k before after) where
+module _ (g : FrameGrid) (settings : PlanConfig) (s : Span) (cs : List Candidate) (path : List ℕ) (k : ℕ) (before after : Output)
+    (across : Across s cs) (rising : Rising cs path) (h : HandedAlong g settings cs path k before after) where
   -- one piece fewer than candidates on the path
   count : length path ≡ suc k
   count = omega (arith, h .number, count-along s cs across path rising)
 
   -- the output follows the path
-  pub along-follows : Follows g plan cs path k after
-  along-follows = record { number = count; pieces = pieces-front g plan cs path k before after h; cuts = cuts-front g plan cs path k before after h }
+  pub along-follows : Follows g settings cs path k after
+  along-follows = record { number = count; pieces = pieces-front g settings cs path k before after h; cuts = cuts-front g settings cs path k before after h }
 
-  numbers : (i : ℕ) → i < k → Numbers (planPieces g plan cs path) i (getD (rightsOf g cs) (getD path i 0) 0) (getD (leftsOf g cs) (getD path (suc i) 0) 0)
-      (flagsOf (minimumIn g plan) (maximumIn g plan) (pieceLength (leftsOf g cs) (rightsOf g cs) (getD path i 0) (getD path (suc i) 0)))
+  numbers : (i : ℕ) → i < k → Numbers (planPieces g settings cs path) i (getD (rightsOf g cs) (getD path i 0) 0) (getD (leftsOf g cs) (getD path (suc i) 0) 0)
+      (flagsOf (minimumIn g settings) (maximumIn g settings) (pieceLength (leftsOf g cs) (rightsOf g cs) (getD path i 0) (getD path (suc i) 0)))
   unfolding planPieces
-  numbers i l = piece-numbers (leftsOf g cs) (rightsOf g cs) (minimumIn g plan) (maximumIn g plan) path i (omega (arith, l, count))
+  numbers i l = piece-numbers (leftsOf g cs) (rightsOf g cs) (minimumIn g settings) (maximumIn g settings) path i (omega (arith, l, count))
 
   cut-three : (i : ℕ) → suc i < k → Numbers (planCuts g cs path) i (getD (leftsOf g cs) (getD path (suc i) 0) 0) (getD (rightsOf g cs) (getD path (suc i) 0) 0)
       (getD (reasonsOf cs) (getD path (suc i) 0) 0)
@@ -122,10 +122,10 @@ module _ (g : FrameGrid) (plan : PlanConfig) (s : Span) (cs : List Candidate) (p
   named n l = path-named cs path n (omega (arith, across .some)) rising (omega (arith, l, count))
 
   start-is : (i : ℕ) → i < k → startAt after i ≡ getD (rightsOf g cs) (getD path i 0) 0
-  start-is i l = piece-at g plan cs path k before after h (3 * i) (omega arith) ∙ numbers i l .one
+  start-is i l = piece-at g settings cs path k before after h (3 * i) (omega arith) ∙ numbers i l .one
 
   end-is : (i : ℕ) → i < k → endAt after i ≡ getD (leftsOf g cs) (getD path (suc i) 0) 0
-  end-is i l = piece-at g plan cs path k before after h (3 * i + 1) (omega arith) ∙ numbers i l .two
+  end-is i l = piece-at g settings cs path k before after h (3 * i + 1) (omega arith) ∙ numbers i l .two
 
   -- the piece of the division
   piece-is : (i : ℕ) → i < k → getD (piecesOf s (cutsAlong cs path)) i (pieceFrom 0 0) ≡ pieceBetween cs (getD path i 0) (getD path (suc i) 0)
@@ -137,26 +137,26 @@ module _ (g : FrameGrid) (plan : PlanConfig) (s : Span) (cs : List Candidate) (p
     number = omega (arith, h .number, count-along s cs across path rising);
     piece-start = λ i l. start-is i l ∙ right-sample cs g (getD path i 0) (named i (omega (arith, l))) ∙ ap (λ (p : Piece). boundaryOf g (p .start)) (sym (piece-is i l));
     piece-end = λ i l. end-is i l ∙ left-sample cs g (getD path (suc i) 0) (named (suc i) (omega (arith, l))) ∙ ap (λ (p : Piece). boundaryOf g (p .end)) (sym (piece-is i l));
-    cut-start = λ i l. cut-number-at g plan cs path k before after h (3 * i) (omega (arith, l)) ∙ cut-three i l .one ∙ left-sample cs g (getD path (suc i) 0) (named (suc i) (omega (arith, l)))
+    cut-start = λ i l. cut-number-at g settings cs path k before after h (3 * i) (omega (arith, l)) ∙ cut-three i l .one ∙ left-sample cs g (getD path (suc i) 0) (named (suc i) (omega (arith, l)))
         ∙ ap (λ (c : Cut). boundaryOf g (c .left)) (sym (cut-at cs path i (omega (arith, l, count))));
-    cut-end = λ i l. cut-number-at g plan cs path k before after h (3 * i + 1) (omega (arith, l)) ∙ cut-three i l .two ∙ right-sample cs g (getD path (suc i) 0) (named (suc i) (omega (arith, l)))
+    cut-end = λ i l. cut-number-at g settings cs path k before after h (3 * i + 1) (omega (arith, l)) ∙ cut-three i l .two ∙ right-sample cs g (getD path (suc i) 0) (named (suc i) (omega (arith, l)))
         ∙ ap (λ (c : Cut). boundaryOf g (c .right)) (sym (cut-at cs path i (omega (arith, l, count))));
   }
 
   -- the flags are those of a piece's length
-  flags-are : (i : ℕ) → i < k → flagsAt after i ≡ flagsOf (minimumIn g plan) (maximumIn g plan) (lengthAt after i)
+  flags-are : (i : ℕ) → i < k → flagsAt after i ≡ flagsOf (minimumIn g settings) (maximumIn g settings) (lengthAt after i)
   unfolding pieceLength
-  flags-are i l = piece-at g plan cs path k before after h (3 * i + 2) (omega arith) ∙ numbers i l .three ∙ rw (start-is i l, end-is i l)
+  flags-are i l = piece-at g settings cs path k before after h (3 * i + 2) (omega arith) ∙ numbers i l .three ∙ rw (start-is i l, end-is i l)
 
   -- minimum and maximum are within their limits, so that no length is below the one and above the other
-  pub along-flagged : plan .min ≤ plan .max → InSamples (g .«sample_rate») (plan .max) → Flagged (minimumIn g plan) (maximumIn g plan) k after
+  pub along-flagged : settings .min ≤ settings .max → InSamples (g .«sample_rate») (settings .max) → Flagged (minimumIn g settings) (maximumIn g settings) k after
   along-flagged order timed = record {
-    long = λ i l. rw (flags-are i l) (long-stands (minimumIn g plan) (maximumIn g plan) (lengthAt after i));
-    short = λ i l. rw (flags-are i l) (short-stands (minimumIn g plan) (maximumIn g plan) (lengthAt after i));
-    one = λ i l. rw (flags-are i l) (flags-one (g .«sample_rate») (plan .min) (plan .max) (lengthAt after i) order (samples-small (g .«sample_rate») (plan .max) timed));
+    long = λ i l. rw (flags-are i l) (long-stands (minimumIn g settings) (maximumIn g settings) (lengthAt after i));
+    short = λ i l. rw (flags-are i l) (short-stands (minimumIn g settings) (maximumIn g settings) (lengthAt after i));
+    one = λ i l. rw (flags-are i l) (flags-one (g .«sample_rate») (settings .min) (settings .max) (lengthAt after i) order (samples-small (g .«sample_rate») (settings .max) timed));
   }
 
   -- the reasons are those of candidates
   pub along-reasoned : (i : ℕ) → suc i < k → reasonAt after i ≤ 2
   along-reasoned i l =
-      subst (λ (n : ℕ). n ≤ 2) (sym (cut-number-at g plan cs path k before after h (3 * i + 2) (omega (arith, l)) ∙ cut-three i l .three)) (reasons-few cs (getD path (suc i) 0))
+      subst (λ (n : ℕ). n ≤ 2) (sym (cut-number-at g settings cs path k before after h (3 * i + 2) (omega (arith, l)) ∙ cut-three i l .three)) (reasons-few cs (getD path (suc i) 0))

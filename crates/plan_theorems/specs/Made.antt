@@ -16,11 +16,12 @@ use Rattle.grid.specs.declared.boundary.FrameGrid.{FrameGrid}
 use Rattle.grid.specs.declared.validate.Recording.{Recording}
 use Rattle.silence_list.specs.declared.config.SegmentConfig.{SegmentConfig}
 use Rattle.path_pieces.specs.declared.mode.Mode.the-variants.{ByLength, ByCount}
-use Rattle.path_by_length.specs.Paths.{overCount}
-use Rattle.path_by_length.specs.BestPath.{BestPathByLength, BestPathByCount}
-use Rattle.candidate_settings.specs.declared.config.PlanConfig.{PlanConfig}
+use Rattle.path_rules.specs.Paths.{overCount}
+use Rattle.path_rules.specs.BestPath.{BestPathByLength, BestPathByCount}
+use Rattle.plan_settings.specs.declared.config.PlanConfig.{PlanConfig}
 use Rattle.candidate_span.specs.Gaps.{Cut}
-use Rattle.division.specs.Division.{Span}
+use Rattle.candidate_span.specs.Span.{Span, spanOf}
+use Rattle.silence_list.specs.Silences.{silencesIn}
 use Rattle.division.specs.Pieces.{pieceFrom, piecesOf, lengthOf, IsSingle}
 use Rattle.division.specs.Places.{cutAt}
 use Rattle.division.specs.Greedy.{Greedy}
@@ -31,10 +32,11 @@ use Rattle.candidates.specs.Samples.{leftsOf, rightsOf}
 use Rattle.candidates.specs.declared.candidate.Candidate.{Candidate}
 use Rattle.plan_tests.specs.Fitting.{Fitting}
 use Rattle.plan_tests.specs.Refusal as tests
+use Rattle.plan_tests.specs.declared.refusal.Refusal.{Refusal}
 use Rattle.plan_tests.specs.declared.refusal.Verdict.{Verdict}
-use Rattle.plan_tests.specs.declared.refusal.Verdict.the-variants.{Fine}
+use Rattle.plan_tests.specs.declared.refusal.Verdict.the-variants.{Fine, Fails}
 use Rattle.candidate_finder.specs.CandidatesIn.{candidatesIn}
-use Rattle.candidate_finder.specs.SpanIn.{emptyIn}
+use Rattle.candidate_finder.specs.SpanIn.{emptyIn, paddingIn}
 use Rattle.plan_division.specs.Along.{endsAt, pieceBetween}
 use Rattle.plan_division.specs.Added.{addedByCount, addedByLength}
 use Rattle.plan_lengths.specs.PlanLengths.{minimumIn, maximumIn, lengthsByLength, lengthsByCount}
@@ -43,17 +45,19 @@ use Rattle.plan_pieces.specs.PlanAlong.{planPieces, planCuts}
 use Rattle.plan_pieces.specs.Output.{Output}
 use Rattle.plan_pieces.specs.Answer.{numberOf}
 use Rattle.plan_pieces.specs.declared.answer.Answer.the-variants.{Planned, Refused, ShortParent, NoReach, ShortOutput}
-use Rattle.planner.specs.Operation.{End, endOf, spanOfPlan, candidatesWith, planOf}
+use Rattle.planner.specs.Operation.{End, endOf, candidatesWith, planOf}
 
 -- ---- the output by its numbers
 
--- piece i
+-- piece i: its start
 abbrev pub startAt : Output → ℕ → ℕ
 startAt out i = getD (out .pieces) (3 * i) 0
 
+-- its end
 abbrev pub endAt : Output → ℕ → ℕ
 endAt out i = getD (out .pieces) (3 * i + 1) 0
 
+-- its flags: 0 none, 1 short, 2 long
 abbrev pub flagsAt : Output → ℕ → ℕ
 flagsAt out i = getD (out .pieces) (3 * i + 2) 0
 
@@ -61,13 +65,15 @@ flagsAt out i = getD (out .pieces) (3 * i + 2) 0
 abbrev pub lengthAt : Output → ℕ → ℕ
 lengthAt out i = endAt out i - startAt out i
 
--- cut i, between piece i and the next
+-- cut i, between piece i and the next: where piece i ends
 abbrev pub previousEnd : Output → ℕ → ℕ
 previousEnd out i = getD (out .cuts) (3 * i) 0
 
+-- where the next piece starts
 abbrev pub nextStart : Output → ℕ → ℕ
 nextStart out i = getD (out .cuts) (3 * i + 1) 0
 
+-- its reason: 0 silence, 1 quiet, 2 forced
 abbrev pub reasonAt : Output → ℕ → ℕ
 reasonAt out i = getD (out .cuts) (3 * i + 2) 0
 
@@ -117,9 +123,9 @@ pub record Shows (g : FrameGrid) (s : Span) (cuts : List Cut) (k : ℕ) (out : O
   pub cut-end : (i : ℕ) → suc i < k → nextStart out i ≡ boundaryOf g (getD cuts i (cutAt 0) .right)
 
 -- they are the plan of a path over candidates
-pub record Follows (g : FrameGrid) (plan : PlanConfig) (cs : List Candidate) (path : List ℕ) (k : ℕ) (out : Output) : Type 0 where
+pub record Follows (g : FrameGrid) (settings : PlanConfig) (cs : List Candidate) (path : List ℕ) (k : ℕ) (out : Output) : Type 0 where
   pub number : length path ≡ suc k
-  pub pieces : take (3 * k) (out .pieces) ≡ planPieces g plan cs path
+  pub pieces : take (3 * k) (out .pieces) ≡ planPieces g settings cs path
   pub cuts : take (3 * (k - 1)) (out .cuts) ≡ planCuts g cs path
 
 -- where a plan's candidates lie, those that were found and those added later
@@ -135,48 +141,49 @@ pub record InSpan (s : Span) (cs : List Candidate) : Type 0 where
   pub alone : (k : Cut) → List·Memᴰ k (s .gaps) → (i : ℕ) → i < length cs
       → (endsAt cs i ≡ k) ⊎ ((endsAt cs i .right < k .left) ⊎ (k .right < endsAt cs i .left))
 
-module _ (r : Recording) (segment : SegmentConfig) (plan : PlanConfig) (values : List Float) (flags : List ℕ) (lent : List Float) where
+module _ (r : Recording) (segment : SegmentConfig) (settings : PlanConfig) (values : List Float) (flags : List ℕ) (levels : List Float) where
   -- frame grid and span; minimum and maximum in samples
   abbrev g : FrameGrid
   g = gridOf r (length values)
 
   abbrev s : Span
-  s = spanOfPlan r segment plan values flags lent
+  s = spanOf (settings .gap) (paddingIn r segment settings (length values)) (silencesIn r segment values flags)
 
   abbrev minimum : Float
-  minimum = minimumIn g plan
+  minimum = minimumIn g settings
 
   abbrev maximum : ℕ
-  maximum = maximumIn g plan
+  maximum = maximumIn g settings
 
   -- document 01's candidates before completion, and with points added at the boundaries of some cuts
   abbrev found : List Candidate
-  found = candidatesIn r segment plan values flags lent
+  found = candidatesIn r segment settings values flags levels
 
   abbrev completed : List Cut → List Candidate
-  completed added = candidatesWith r segment plan values flags lent added
+  completed added = candidatesWith r segment settings values flags levels added
 
   -- ---- demand 2: the plan is that of document 01's best path
 
   -- the best path by length: its limit is the maximum
   abbrev pub BestByLength : List Candidate → List ℕ → Type 0
-  BestByLength cs path = BestPathByLength (lengthsByLength g plan) (leftsOf g cs) (rightsOf g cs) (costsOf cs) path
+  BestByLength cs path = BestPathByLength (lengthsByLength g settings) (leftsOf g cs) (rightsOf g cs) (costsOf cs) path
 
-  -- the best path of N pieces under a limit
+  -- the best path by count under a limit, of min(N, last index) pieces
   abbrev pub BestByCount : ℕ → ℕ → List Candidate → List ℕ → Type 0
   BestByCount count limit cs path =
-      BestPathByCount (lengthsByCount g plan (s .first) (s .last) count limit) (leftsOf g cs) (rightsOf g cs) (costsOf cs) count path
+      BestPathByCount (lengthsByCount g settings (s .first) (s .last) count limit) (leftsOf g cs) (rightsOf g cs) (costsOf cs) count path
 
   -- by length: over the candidates with points added until neighbours are within the maximum or one frame apart
   abbrev bridged : List Candidate
   bridged = completed (addedByLength g maximum found)
 
+  -- the plan goes along the best path over them
   pub record PlanByLength (k : ℕ) (out : Output) : Type 0 where
     pub candidates : InSpan s bridged
     pub neighbours : (i : ℕ) → suc i < length bridged → (lengthOf g (pieceBetween bridged i (suc i)) ≤ maximum) ⊎ IsSingle (pieceBetween bridged i (suc i))
     pub path : List ℕ
     pub best : BestByLength bridged path
-    pub follows : Follows g plan bridged path k out
+    pub follows : Follows g settings bridged path k out
 
   -- a path has N pieces, and none over the maximum
   abbrev pub Suffices : ℕ → List Candidate → List ℕ → Type 0
@@ -188,7 +195,7 @@ module _ (r : Recording) (segment : SegmentConfig) (plan : PlanConfig) (values :
     pub path : List ℕ
     pub best : BestByCount count maximum found path
     pub suffices : Suffices count found path
-    pub follows : Follows g plan found path k out
+    pub follows : Follows g settings found path k out
 
   -- it does not: the best path over the first candidates has fewer than N pieces, or one over the maximum
   pub record FallsShort (count : ℕ) : Type 0 where
@@ -206,19 +213,19 @@ module _ (r : Recording) (segment : SegmentConfig) (plan : PlanConfig) (values :
     pub candidates : InSpan s (completed (addedByCount s count far))
     pub path : List ℕ
     pub best : BestByCount count limit (completed (addedByCount s count far)) path
-    pub follows : Follows g plan (completed (addedByCount s count far)) path k out
+    pub follows : Follows g settings (completed (addedByCount s count far)) path k out
 
   -- ---- every plan
 
   -- of a span that is not empty
   pub record MadeOfSpan (k : ℕ) (out : Output) : Type 0 where
     -- demand 2
-    pub best-by-length : plan .mode ≡ ByLength → PlanByLength k out
-    pub best-by-count : (count : ℕ) → plan .mode ≡ ByCount count → PlanAtFirst count k out ⊎ PlanWithReach count k out
+    pub best-by-length : settings .mode ≡ ByLength → PlanByLength k out
+    pub best-by-count : (count : ℕ) → settings .mode ≡ ByCount count → PlanAtFirst count k out ⊎ PlanWithReach count k out
     -- demand 3, of the division whose pieces and cuts are handed out. By length every piece over the maximum is a single frame;
     -- by count they are exactly N, or one for each kept frame if those are fewer, and if one exceeds the maximum, no division into at most that many has a shorter longest piece
-    pub demand-by-length : plan .mode ≡ ByLength → (cuts : List Cut) × Shows g s cuts k out × DemandByLength g s maximum cuts
-    pub demand-by-count : (count : ℕ) → plan .mode ≡ ByCount count → (cuts : List Cut) × Shows g s cuts k out × DemandByCount g s count maximum cuts
+    pub demand-by-length : settings .mode ≡ ByLength → (cuts : List Cut) × Shows g s cuts k out × DemandByLength g s maximum cuts
+    pub demand-by-count : (count : ℕ) → settings .mode ≡ ByCount count → (cuts : List Cut) × Shows g s cuts k out × DemandByCount g s count maximum cuts
     -- pieces, cuts and flags; no more pieces than frames
     pub few : k ≤ length values
     pub fills : Fills (boundaryOf g (s .first)) (boundaryOf g (s .last)) k out
@@ -230,8 +237,8 @@ module _ (r : Recording) (segment : SegmentConfig) (plan : PlanConfig) (values :
   pub record Made (k : ℕ) (before after : Output) : Type 0 where
     pub written : Written k before after
     -- document 01: "the span is empty, and so is the plan"
-    pub empty : emptyIn r segment plan values flags ≡ true → (k ≡ 0) × (after ≡ before)
-    pub full : emptyIn r segment plan values flags ≡ false → Fitting values lent → MadeOfSpan k after
+    pub empty : emptyIn r segment settings values flags ≡ true → (k ≡ 0) × (after ≡ before)
+    pub full : emptyIn r segment settings values flags ≡ false → Fitting values levels → MadeOfSpan k after
 
   -- ---- the later refusals
 
@@ -239,13 +246,13 @@ module _ (r : Recording) (segment : SegmentConfig) (plan : PlanConfig) (values :
   -- That it falls short is said of its best path, so it asks for `Fitting`
   pub data SoughtOver (count : ℕ) : List Candidate → Type 0 where
     at-first : SoughtOver count found
-    with-reach : (Fitting values lent → FallsShort count) → (limit : ℕ) (far : List Cut) → IsReach g s count maximum limit → Greedy g s limit far
+    with-reach : (Fitting values levels → FallsShort count) → (limit : ℕ) (far : List Cut) → IsReach g s count maximum limit → Greedy g s limit far
         → SoughtOver count (completed (addedByCount s count far))
 
   -- 14: "parent list under pieces × candidates of the path being sought by count"
   pub record FewParents (parents : ℕ) : Type 0 where
     pub count : ℕ
-    pub asked : plan .mode ≡ ByCount count
+    pub asked : settings .mode ≡ ByCount count
     pub candidates : List Candidate
     pub sought : SoughtOver count candidates
     pub few : parents < min count (length candidates - 1) * length candidates
@@ -253,45 +260,46 @@ module _ (r : Recording) (segment : SegmentConfig) (plan : PlanConfig) (values :
   -- 18: "no reach exists", and one is sought, since the first path falls short
   pub record ReachMissing : Type 0 where
     pub count : ℕ
-    pub asked : plan .mode ≡ ByCount count
-    pub falls-short : Fitting values lent → FallsShort count
+    pub asked : settings .mode ≡ ByCount count
+    pub falls-short : Fitting values levels → FallsShort count
     pub none : (limit : ℕ) → IsReach g s count maximum limit → ⊥
 
   -- ---- every end
 
   module _ (out : Output) (work : Work) (parent : List ℕ) where
     abbrev end : End
-    end = planOf r segment plan values flags lent out work parent
+    end = planOf r segment settings values flags levels out work parent
 
     -- the first test before 14 that fails
     abbrev verdict : Verdict
-    verdict = tests.firstRefusalOf r segment plan values flags lent (length (work .u32s)) (length (work .u64s)) (length (work .f64s))
+    verdict = tests.firstRefusalOf r segment settings values flags levels (length (work .u32s)) (length (work .u64s)) (length (work .f64s))
 
+    -- what is claimed of every call
     pub record Ended : Type 0 where
       -- "Refusals before 14 .. leave work memory untouched", and each is that of the first test that fails
-      pub refused : tests.isFine verdict ≡ false → end ≡ endOf (Refused verdict) out work parent
-      pub first-failed : (v : Verdict) → end .answer ≡ Refused v → v ≡ verdict
+      pub refused : (x : Refusal) → verdict ≡ Fails x → end ≡ endOf (Refused x) out work parent
+      pub first-failed : (x : Refusal) → end .answer ≡ Refused x → verdict ≡ Fails x
       -- "All later ends, success too, leave it zeroed"
       pub zeroed : verdict ≡ Fine → (end .work ≡ cleared work) × (end .parent ≡ filled 0 parent)
       -- where no plan is made the output is as it was
       pub untouched : ((k : ℕ) → end .answer ≡ Planned k → ⊥) → end .out ≡ out
       -- an empty span that passes the tests has the empty plan: no 14, 18 or 12
-      pub empty : verdict ≡ Fine → emptyIn r segment plan values flags ≡ true → (end .answer ≡ Planned 0) × (end .out ≡ out)
+      pub empty : verdict ≡ Fine → emptyIn r segment settings values flags ≡ true → (end .answer ≡ Planned 0) × (end .out ≡ out)
       -- 14, 18 and 12, each under its condition only; at 12 the call makes its plan with any output that has room for it
       pub short-parent : end .answer ≡ ShortParent → FewParents (length parent)
       pub no-reach : end .answer ≡ NoReach → ReachMissing
       pub short-output : end .answer ≡ ShortOutput
-          → (k : ℕ) × (HasRoom k out → ⊥) × ((room : Output) → HasRoom k room → planOf r segment plan values flags lent room work parent .answer ≡ Planned k)
+          → (k : ℕ) × (HasRoom k out → ⊥) × ((room : Output) → HasRoom k room → planOf r segment settings values flags levels room work parent .answer ≡ Planned k)
       -- and each where its condition holds, 14 before 18
-      pub gives-short-parent : verdict ≡ Fine → emptyIn r segment plan values flags ≡ false → Fitting values lent → FewParents (length parent) → end .answer ≡ ShortParent
-      pub gives-no-reach : verdict ≡ Fine → emptyIn r segment plan values flags ≡ false → Fitting values lent → (FewParents (length parent) → ⊥) → ReachMissing
+      pub gives-short-parent : verdict ≡ Fine → emptyIn r segment settings values flags ≡ false → Fitting values levels → FewParents (length parent) → end .answer ≡ ShortParent
+      pub gives-no-reach : verdict ≡ Fine → emptyIn r segment settings values flags ≡ false → Fitting values levels → (FewParents (length parent) → ⊥) → ReachMissing
           → end .answer ≡ NoReach
-      pub gives-short-output : (k : ℕ) (room : Output) → planOf r segment plan values flags lent room work parent .answer ≡ Planned k → (HasRoom k out → ⊥)
+      pub gives-short-output : (k : ℕ) (room : Output) → planOf r segment settings values flags levels room work parent .answer ≡ Planned k → (HasRoom k out → ⊥)
           → end .answer ≡ ShortOutput
       -- 12 never comes where there is room for a piece at each frame
-      pub roomy : Fitting values lent → HasRoom (length values) out → end .answer ≡ ShortOutput → ⊥
+      pub roomy : Fitting values levels → HasRoom (length values) out → end .answer ≡ ShortOutput → ⊥
       -- 14 never comes where there are (frames + 1) × min(N, frames) parents
-      pub parents-enough : (count : ℕ) → plan .mode ≡ ByCount count → (length values + 1) * min count (length values) ≤ length parent
+      pub parents-enough : (count : ℕ) → settings .mode ≡ ByCount count → (length values + 1) * min count (length values) ≤ length parent
           → end .answer ≡ ShortParent → ⊥
       -- a plan is made only where the tests pass
       pub accepted : (k : ℕ) → end .answer ≡ Planned k → verdict ≡ Fine

@@ -8,7 +8,8 @@ use Rattle.grid.specs.Boundary.{boundaryOf}
 use Rattle.grid.specs.BoundaryLaws.{Accepted}
 use Rattle.grid.specs.declared.boundary.FrameGrid.{FrameGrid}
 use Rattle.candidate_span.specs.Gaps.{Cut}
-use Rattle.division.specs.Division.{Span, Division}
+use Rattle.candidate_span.specs.Span.{Span}
+use Rattle.division.specs.Division.{Division}
 use Rattle.division.specs.Pieces.{Piece, pieceFrom, piecesFrom, piecesOf, lengthOf, total, between, InOrder}
 use Rattle.division.specs.PiecesLaws.{pieces-count, pieces-add, pieces-order}
 use Rattle.division.specs.Places.{cutAt}
@@ -94,6 +95,7 @@ module _ (g : FrameGrid) (ok : Accepted g) (s : Span) (inside : s .last ≤ g .f
       (λ i h. omega (arith, shown .cut-start i (omega (arith, h)), shown .cut-end i (omega (arith, h))))
       ∙ ap (sumOf (λ (i : ℕ). boundaryOf g (cutIn cuts i .right) - boundaryOf g (cutIn cuts i .left))) n ∙ sym (between-sum g cuts)
 
+  -- an output that shows a division fills the span with its pieces
   pub shows-fills : Fills (boundaryOf g (s .first)) (boundaryOf g (s .last)) k out
   shows-fills = record {
     some = omega (arith, count);

@@ -31,14 +31,15 @@ use Rattle.path_pieces.specs.Least.{lowestLeast, predecessorOf}
 use Rattle.path_pieces.specs.Pieces.{pieceLength, lengthCostOf, overOf, mayStart, withPiece, withCut, withCutAt}
 use Rattle.path_pieces.specs.Pieces as pieces
 use Rattle.path_by_length.specs.Table.{nextScore, tableOf, bestScore, parentOf, wayBack, bestPath}
-use Rattle.path_by_length.specs.ByCount.{bestWith, parentWith, wayWith, bestPathByCount, bestScoreByCount}
+use Rattle.path_by_count.specs.Table.{bestWith, parentWith, wayWith, bestPathByCount, bestScoreByCount}
 use Rattle.path_tests.specs.Refusal.{isCount, countOk}
-use Rattle.candidate_settings.specs.Tests.{ratioOk, isWeight, isCutCost, isReference, weightsOk}
+use Rattle.plan_settings.specs.Tests.{ratioOk, isWeight, isCutCost, isReference, weightsOk}
 use Rattle.candidate_span.specs.Bounds.{lowOf, highOf, isInner}
 use Rattle.candidate_span.specs.Gaps.{isGap, innerGaps, gapsOf, dropped}
 use Rattle.candidate_span.specs.Kept.{keptFrames, boundaries}
 use Rattle.candidate_span.specs.Spacing.{blockOf, paddingOf, edgeLimit, spacingOf}
-use Rattle.candidate_span.specs.Span.{isLeading, isTrailing, allSilent, emptySpan, firstOf, lastOf}
+use Rattle.candidate_span.specs.Span.{isLeading, isTrailing, allSilent, emptySpan, firstOf, lastOf, Span, spanOf}
+use Rattle.candidate_finder.specs.SpanIn.{paddingIn}
 use Rattle.division.specs.Divisions.{divisionsOf, keeps, anyOf, isFeasible}
 use Rattle.candidate_points.specs.Blocked.{getsGrid, touches, opens, blocksAt, blockedBy, isBlocked}
 use Rattle.candidate_points.specs.Points.{openTo, blockEnd, pointsFrom, gridPoints}
@@ -68,21 +69,20 @@ use Rattle.plan_pieces.specs.Along as along
 use Rattle.plan_pieces.specs.Flags.{shortFlag, longFlag, flagsOf}
 use Rattle.plan_pieces.specs.Output.{Output, outputOf, hasRoom, handedOutOf}
 use Rattle.plan_pieces.specs.PlanAlong.{planPieces, planCuts}
-use Rattle.planner.specs.Operation.{End, endOf, spanOfPlan, candidatesWith, plannedOf, planOf}
-use Rattle.planner.specs.Plan.{planByLength, hasParents, suffices, plannedUnder, planByCount, planBy}
+use Rattle.planner.specs.Operation.{End, endOf, candidatesWith, plannedOf, planOf}
+use Rattle.plan_modes.specs.Plan.{planByLength, hasParents, suffices, plannedUnder, planByCount, planBy}
 use Rattle.grid.specs.declared.boundary.FrameGrid.{FrameGrid}
 use Rattle.grid.specs.declared.validate.Recording.{Recording}
-use Rattle.division.specs.Division.{Span}
 use Rattle.grid.specs.declared.validate.Domain.the-variants.{Scores}
 use Rattle.silence_levels.specs.declared.threshold.Threshold.the-variants.{Auto}
 use Rattle.silence_list.specs.declared.config.SegmentConfig.{SegmentConfig}
 use Rattle.path_pieces.specs.declared.mode.Mode.{Mode}
 use Rattle.path_pieces.specs.declared.mode.Mode.the-variants.{ByLength, ByCount}
-use Rattle.candidate_settings.specs.declared.config.PlanConfig.{PlanConfig}
-use Rattle.candidate_settings.specs.declared.config.Gap.{Gap}
-use Rattle.candidate_settings.specs.declared.config.Gap.the-variants.{Keep, Drop}
-use Rattle.candidate_settings.specs.declared.config.Placement.the-variants.{Quietest}
-use Rattle.plan_tests.specs.declared.refusal.Verdict.the-variants.{ShortWork}
+use Rattle.plan_settings.specs.declared.config.PlanConfig.{PlanConfig}
+use Rattle.plan_settings.specs.declared.config.Gap.{Gap}
+use Rattle.plan_settings.specs.declared.config.Gap.the-variants.{Keep, Drop}
+use Rattle.plan_settings.specs.declared.config.Placement.the-variants.{Quietest}
+use Rattle.plan_tests.specs.declared.refusal.Refusal.the-variants.{ShortWork}
 use Rattle.plan_pieces.specs.declared.answer.Answer.{Answer}
 use Rattle.plan_pieces.specs.declared.answer.Answer.the-variants.{Planned, Refused, ShortParent, ShortOutput}
 
@@ -135,7 +135,7 @@ abbrev grid2 : FrameGrid
 grid2 = gridOf recording 7
 
 abbrev span2 : Span
-span2 = spanOfPlan recording defaults plan2 scores (replicate 7 0) []
+span2 = spanOf (plan2 .gap) (paddingIn recording defaults plan2 7) (silencesIn recording defaults scores (replicate 7 0))
 
 -- a is what the output held, b, c and x what the work lists held, and d what the parent list held; a work list has 128 entries, 16 for each of R's eight frame boundaries
 module _ (a b c d : ℕ) (x : Float) where
@@ -144,8 +144,8 @@ module _ (a b c d : ℕ) (x : Float) where
 
   -- a call whose output has so many numbers for pieces and cuts, and its parent list so many entries
   abbrev callWith : SegmentConfig → PlanConfig → List Float → ℕ → ℕ → ℕ → End
-  callWith segment plan values pieces cuts parents =
-      planOf recording segment plan values (replicate 7 0) [] (output pieces cuts) (workOf (replicate 128 b) (replicate 128 c) (replicate 128 x)) (replicate parents d)
+  callWith segment settings values pieces cuts parents =
+      planOf recording segment settings values (replicate 7 0) [] (output pieces cuts) (workOf (replicate 128 b) (replicate 128 c) (replicate 128 x)) (replicate parents d)
 
   abbrev call : PlanConfig → List Float → ℕ → ℕ → ℕ → End
   call = callWith defaults
@@ -154,6 +154,7 @@ module _ (a b c d : ℕ) (x : Float) where
   abbrev later : Answer → Output → ℕ → End
   later answer out parents = endOf answer out (workOf (replicate 128 0) (replicate 128 0) (replicate 128 (ofBits binary64 0))) (replicate parents 0)
 
+  -- document 01's trials of plans, and beside them the other ends of a call: an empty plan, 12, 13 and 14
   pub record PlanTrials : Type 0 where
     -- "piece 0 400 -, piece 400 700 -, cut 400 400 silence"; one number more in each list stays as it was
     pub printed : call (settings ByLength 400000000 Keep) scores 7 4 0

@@ -1,4 +1,5 @@
-// Shows the frame grid of document 01's recording R: its frames, which lengths its seven frames cover, and durations on its grid.
+// Shows the frame grid of document 01's recording R: its frames, which lengths its seven frames cover, and durations on
+// its grid.
 use capi::convert;
 use capi::recording;
 
@@ -12,10 +13,12 @@ const FRAMES: usize = 7;
 
 const LEN: u64 = 700;
 
+// A number in decimal.
 fn number(n: u64) {
     io::print_decimal(1, n);
 }
 
+// From which sample to which a frame goes.
 fn show_frame(k: usize) {
     io::write_all(1, b"frame ");
     number(k as u64);
@@ -28,6 +31,7 @@ fn show_frame(k: usize) {
     io::write_all(1, b"\n");
 }
 
+// Whether the seven frames cover a recording of this length.
 fn show_length(len: u64) {
     let scores = [1.0f32, 1.0, 0.0, 0.0, 0.0, 1.0, 1.0];
     let flags = [0u8; 7];
@@ -54,6 +58,7 @@ fn show_length(len: u64) {
     }
 }
 
+// A duration in samples and in frames, by each way of rounding.
 fn show_duration(millis: u64) {
     if 86_400_000 < millis {
         return;
@@ -71,6 +76,7 @@ fn show_duration(millis: u64) {
     io::write_all(1, b"\n");
 }
 
+// All of it, a line for each.
 fn main() {
     io::write_all(
         1,

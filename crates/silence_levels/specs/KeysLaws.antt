@@ -88,6 +88,7 @@ with-signal-more (w ∷ vs) (g ∷ fs) v f e =
     let h = with-signal-more vs fs v f (omega arith) in
     elim (tested (eqb g 0)) [ inl t ↦ rw t (ap (λ (k : List Float). w ∷ k) h) | inr t ↦ rw t h ]
 
+-- there are no more of them than values
 pub with-signal-length : (vs : List Float) (fs : List ℕ) → length (withSignal vs fs) ≤ length vs
 unfolding withSignal
 with-signal-length [] fs = omega arith
@@ -142,6 +143,7 @@ module _ (values : List Float) (flags keys₀ : List ℕ) (end : ℕ) where
       rw (ne-eqb (getD flags i 0) 0 f, append-nil) at (with-signal-suc i nan (omega arith) c) in
       (omega arith, b, c, d, omega arith, rw (add-one, s) g, rw (add-one, s) h)
 
+  -- every frame is seen
   pub collecting-done : (keys : List ℕ) (n i : ℕ) → end ≤ i → Collecting values flags keys₀ end keys n i → Collected values flags keys₀ keys n
   unfolding collected
   collecting-done keys n i l (a, b, c, d, e, g, h) =
@@ -214,6 +216,7 @@ with-signal-same (v ∷ vs) (w ∷ ws) (f ∷ fs) e = elim (tested (eqb f 0)) [
 
 -- ---- the list that collecting leaves
 
+-- it is as long as it was
 pub collected-length : (values : List Float) (flags keys : List ℕ) → length values ≤ length keys → length (collected values flags keys) ≡ length keys
 unfolding collected
 collected-length values flags keys l =

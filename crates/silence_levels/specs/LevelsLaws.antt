@@ -27,11 +27,13 @@ use Rattle.silence_levels.specs.Levels.{levelsOver, levelsOf, thresholds
 
 -- ---- by whether there is a value
 
+-- there is none: the levels of no signal
 pub over-none : (domain : Domain) (threshold : Threshold) (values : List Float) → length values ≡ 0 → noSignal ≡ levelsOver domain threshold values
 unfolding levelsOver
 over-none domain threshold [] e = refl
 over-none domain threshold (v ∷ vs) e = absurd (not-suc-le-zero {n = 0} (omega arith))
 
+-- there is one: the setting's thresholds, from percentiles 10 and 99
 pub over-some : (domain : Domain) (threshold : Threshold) (values : List Float) → 0 < length values
     → resolveOf domain threshold (percentileOf values 10) (percentileOf values 99) ≡ levelsOver domain threshold values
 unfolding levelsOver
@@ -103,6 +105,7 @@ abbrev pub thresholdsIn : Levels → Thresholds
 thresholdsIn l = record { on = l .on; off = l .off }
 
 module _ (domain : Domain) (threshold : Threshold) (values : List Float) (flags : List ℕ) where
+  -- they are those of the recording's levels
   pub thresholds-levels : (l : Levels) → l ≡ levelsOf domain threshold values flags → thresholdsIn l ≡ thresholdsOf domain threshold values flags
   unfolding thresholdsOf
   thresholds-levels l e = ap thresholdsIn e

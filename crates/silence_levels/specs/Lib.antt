@@ -9,7 +9,7 @@ pub mod Keys
 --   value-key, values-back, collected-values   a value comes back from its key, and so do the collected ones
 --   with-signal-*, signal-none, signal-some          what holds of the values with signal
 pub mod KeysLaws
--- Select: keys counted by digits of 11 bits (`hits`, `countsOf`, `total`), the digit on which a rank falls (`DigitFound`), a narrower block (`Narrowed`)
+-- Select: keys counted by digits of 11 bits (`hits`, `countsOf`, `totalCount`), the digit on which a rank falls (`DigitFound`), a narrower block (`Narrowed`)
 pub mod Select
 --   DigitSought           what holds while the digit is sought; narrowed, selected   three digits give the key
 pub mod SelectLaws

@@ -23,6 +23,7 @@ use Rattle.silence_levels.specs.Percentile.{percentileIndex, percentileO
 pub index-product : (n p : ℕ) → p ≤ 100 → p * (n - 1) ≤ 100 * (n - 1)
 index-product n p l = mul-le-mul-right (n - 1) l
 
+-- the index lies inside the list
 pub index-below : (n p : ℕ) → 0 < n → p ≤ 100 → percentileIndex n p < n
 unfolding percentileIndex
 index-below n p h l = omega (arith, index-product n p l)

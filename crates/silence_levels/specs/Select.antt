@@ -22,14 +22,22 @@ unfoldable pub countsOf : List ℕ → ℕ → ℕ → List ℕ
 countsOf keys shift prefix = hitsFrom keys shift (prefix * 2048) 2048
 
 -- the sum of a table of counts
-unfoldable pub total : List ℕ → ℕ
-total [] = 0
-total (c ∷ cs) = c + total cs
+unfoldable pub totalCount : List ℕ → ℕ
+totalCount [] = 0
+totalCount (c ∷ cs) = c + totalCount cs
+
+-- a digit, and a rank among the keys that have it
+abbrev pub withDigit : ℕ → ℕ → Place
+withDigit digit rank = record { digit = digit; rank = rank }
+
+-- the block of a prefix, and a rank among its keys
+abbrev pub withPrefix : ℕ → ℕ → Block
+withPrefix prefix rank = record { prefix = prefix; rank = rank }
 
 -- the rank falls on the digit: the counts before it, and the rank left among its own
 pub record DigitFound (counts : List ℕ) (rank : ℕ) (r : Place) : Type 0 where
   pub digit : r .digit < 2048
-  pub passed : total (take (r .digit) counts) + r .rank ≡ rank
+  pub passed : totalCount (take (r .digit) counts) + r .rank ≡ rank
   pub within : r .rank < getD counts (r .digit) 0
 
 -- the block is one of the next digit, and the rank stays on the same key

@@ -17,47 +17,50 @@ use Rattle.silence_levels.specs.declared.select.Place.{Place}
 use Rattle.silence_levels.specs.declared.select.Block.{Block}
 use Rattle.silence_levels.specs.Sorted.{sorted, countOf, belows}
 use Rattle.silence_levels.specs.SortedLaws.{ranked-sorted}
-use Rattle.silence_levels.specs.Select.{hits, hitsFrom, countsOf, total, DigitFound, Narrowed}
+use Rattle.silence_levels.specs.Select.{hits, hitsFrom, countsOf, totalCount, withDigit, withPrefix, DigitFound, Narrowed}
 
 -- ---- walking over a table of counts
 
-total-drop : (cs : List ℕ) (d : ℕ) → total (drop d cs) ≡ getD cs d 0 + total (drop (suc d) cs)
-unfolding total
+total-drop : (cs : List ℕ) (d : ℕ) → totalCount (drop d cs) ≡ getD cs d 0 + totalCount (drop (suc d) cs)
+unfolding totalCount
 total-drop [] zero = refl
 total-drop [] (suc d) = refl
 total-drop (c ∷ cs) zero = refl
 total-drop (c ∷ cs) (suc d) = total-drop cs d
 
-total-take : (cs : List ℕ) (d : ℕ) → total (take (suc d) cs) ≡ total (take d cs) + getD cs d 0
-unfolding total
+total-take : (cs : List ℕ) (d : ℕ) → totalCount (take (suc d) cs) ≡ totalCount (take d cs) + getD cs d 0
+unfolding totalCount
 total-take [] zero = refl
 total-take [] (suc d) = refl
 total-take (c ∷ cs) zero = omega arith
 total-take (c ∷ cs) (suc d) = let h = total-take cs d in omega arith
 
-in-table : (cs : List ℕ) (d left : ℕ) → left < total (drop d cs) → d < length cs
-unfolding total
+in-table : (cs : List ℕ) (d left : ℕ) → left < totalCount (drop d cs) → d < length cs
+unfolding totalCount
 in-table cs d left h =
     elim (lt-or-le d (length cs)) [ inl l ↦ l | inr l ↦ absurd (not-suc-le-zero (rw (drop-of-length-le cs {i = d} l) at h)) ]
 
 -- the counts before the digit are passed, and what is left of the rank lies among the others
 abbrev pub DigitSought : List ℕ → ℕ → ℕ → ℕ → Type 0
-DigitSought counts rank digit left = (left < total (drop digit counts)) × (total (take digit counts) + left ≡ rank) × (digit < length counts)
+DigitSought counts rank digit left = (left < totalCount (drop digit counts)) × (totalCount (take digit counts) + left ≡ rank) × (digit < length counts)
 
 module _ (counts : List ℕ) (rank : ℕ) where
-  pub seeking-starts : rank < total counts → DigitSought counts rank 0 rank
-  unfolding total
-  seeking-starts h = (h, omega arith, in-table counts 0 rank h)
+  -- no count is passed yet
+  pub digit-starts : rank < totalCount counts → DigitSought counts rank 0 rank
+  unfolding totalCount
+  digit-starts h = (h, omega arith, in-table counts 0 rank h)
 
-  pub seeking-next : (digit left : ℕ) → getD counts digit 0 ≤ left → DigitSought counts rank digit left → DigitSought counts rank (digit + 1) (left - getD counts digit 0)
-  seeking-next digit left l (a, b, c) =
+  -- the count at the digit is passed
+  pub digit-next : (digit left : ℕ) → getD counts digit 0 ≤ left → DigitSought counts rank digit left → DigitSought counts rank (digit + 1) (left - getD counts digit 0)
+  digit-next digit left l (a, b, c) =
       let d = total-drop counts digit in
       let t = total-take counts digit in
-      let more : left - getD counts digit 0 < total (drop (suc digit) counts) = omega arith in
+      let more : left - getD counts digit 0 < totalCount (drop (suc digit) counts) = omega arith in
       rw add-one (more, omega arith, in-table counts (suc digit) (left - getD counts digit 0) more)
 
-  pub seeking-done : (digit left : ℕ) → length counts ≡ 2048 → left < getD counts digit 0 → DigitSought counts rank digit left → DigitFound counts rank (record { digit = digit; rank = left })
-  seeking-done digit left e l (a, b, c) = record { digit = omega arith; passed = b; within = l }
+  -- what is left of the rank is below the count at the digit: the rank falls on it
+  pub digit-done : (digit left : ℕ) → length counts ≡ 2048 → left < getD counts digit 0 → DigitSought counts rank digit left → DigitFound counts rank (withDigit digit left)
+  digit-done digit left e l (a, b, c) = record { digit = omega arith; passed = b; within = l }
 
 -- ---- counting one key more
 
@@ -122,24 +125,26 @@ counts-at : (keys : List ℕ) (shift p d : ℕ) → d < 2048 → getD (countsOf 
 unfolding countsOf
 counts-at keys shift p d l = hits-at shift keys (p * 2048) 2048 d l
 
+-- the table has a count for each digit
 pub length-counts : (keys : List ℕ) (shift p : ℕ) → length (countsOf keys shift p) ≡ 2048
 unfolding countsOf
 length-counts keys shift p = length-hits shift keys (p * 2048) 2048
 
 -- the counts are those of the keys before i: what holds while a loop that ends at `end` counts one key after another
-abbrev pub Counting : List ℕ → ℕ → ℕ → ℕ → List ℕ → ℕ → Type 0
-Counting keys shift prefix end counts i = (i ≤ length keys) × (end ≡ length keys) × (counts ≡ countsOf (take i keys) shift prefix)
+abbrev pub DigitsCounted : List ℕ → ℕ → ℕ → ℕ → List ℕ → ℕ → Type 0
+DigitsCounted keys shift prefix end counts i = (i ≤ length keys) × (end ≡ length keys) × (counts ≡ countsOf (take i keys) shift prefix)
 
 module _ (keys : List ℕ) (shift prefix end : ℕ) where
-  pub counting-starts : end ≡ length keys → Counting keys shift prefix end (replicate 2048 0) 0
+  -- no key is counted yet
+  pub counted-starts : end ≡ length keys → DigitsCounted keys shift prefix end (replicate 2048 0) 0
   unfolding countsOf
-  counting-starts e = (omega arith, e, no-hits shift (prefix * 2048) 2048)
+  counted-starts e = (omega arith, e, no-hits shift (prefix * 2048) 2048)
 
   -- the key at i has another prefix
-  pub counting-miss : (counts : List ℕ) (i : ℕ) → i < end → (getD keys i 0 / 2 ^ shift / 2048 ≡ prefix → ⊥)
-      → Counting keys shift prefix end counts i → Counting keys shift prefix end counts (i + 1)
+  pub counted-miss : (counts : List ℕ) (i : ℕ) → i < end → (getD keys i 0 / 2 ^ shift / 2048 ≡ prefix → ⊥)
+      → DigitsCounted keys shift prefix end counts i → DigitsCounted keys shift prefix end counts (i + 1)
   unfolding countsOf
-  counting-miss counts i l n (a, b, c) = (
+  counted-miss counts i l n (a, b, c) = (
     omega arith,
     b,
     rw (add-one, take-suc keys i 0 (omega arith))
@@ -147,11 +152,11 @@ module _ (keys : List ℕ) (shift prefix end : ℕ) where
   )
 
   -- it has this prefix
-  pub counting-hit : (counts : List ℕ) (i : ℕ) → i < end → getD keys i 0 / 2 ^ shift / 2048 ≡ prefix
-      → Counting keys shift prefix end counts i
-      → Counting keys shift prefix end (set counts (getD keys i 0 / 2 ^ shift % 2048) (getD counts (getD keys i 0 / 2 ^ shift % 2048) 0 + 1)) (i + 1)
+  pub counted-hit : (counts : List ℕ) (i : ℕ) → i < end → getD keys i 0 / 2 ^ shift / 2048 ≡ prefix
+      → DigitsCounted keys shift prefix end counts i
+      → DigitsCounted keys shift prefix end (set counts (getD keys i 0 / 2 ^ shift % 2048) (getD counts (getD keys i 0 / 2 ^ shift % 2048) 0 + 1)) (i + 1)
   unfolding countsOf
-  counting-hit counts i l n (a, b, c) = (
+  counted-hit counts i l n (a, b, c) = (
     omega arith,
     b,
     rw (add-one i, take-suc keys i 0 (omega arith), c)
@@ -159,27 +164,28 @@ module _ (keys : List ℕ) (shift prefix end : ℕ) where
   )
 
   -- it adds 1 or 0, by its prefix
-  pub counting-adds : (counts : List ℕ) (i r : ℕ) → i < end → r ≡ cond (eqb (getD keys i 0 / 2 ^ shift / 2048) prefix) 1 0
-      → Counting keys shift prefix end counts i
-      → Counting keys shift prefix end (set counts (getD keys i 0 / 2 ^ shift % 2048) (getD counts (getD keys i 0 / 2 ^ shift % 2048) 0 + r)) (i + 1)
-  counting-adds counts i r l e h = elim (tested (eqb (getD keys i 0 / 2 ^ shift / 2048) prefix)) [
-    | inl q ↦ rw (rw q at e) (counting-hit counts i l (eqb-true (getD keys i 0 / 2 ^ shift / 2048) prefix q) h)
+  pub counted-adds : (counts : List ℕ) (i r : ℕ) → i < end → r ≡ cond (eqb (getD keys i 0 / 2 ^ shift / 2048) prefix) 1 0
+      → DigitsCounted keys shift prefix end counts i
+      → DigitsCounted keys shift prefix end (set counts (getD keys i 0 / 2 ^ shift % 2048) (getD counts (getD keys i 0 / 2 ^ shift % 2048) 0 + r)) (i + 1)
+  counted-adds counts i r l e h = elim (tested (eqb (getD keys i 0 / 2 ^ shift / 2048) prefix)) [
+    | inl q ↦ rw (rw q at e) (counted-hit counts i l (eqb-true (getD keys i 0 / 2 ^ shift / 2048) prefix q) h)
     | inr q ↦
         let same : getD counts (getD keys i 0 / 2 ^ shift % 2048) 0 + r ≡ getD counts (getD keys i 0 / 2 ^ shift % 2048) 0 = omega (arith, rw q at e) in
-        rw (same, set-getD) (counting-miss counts i l (eqb-false (getD keys i 0 / 2 ^ shift / 2048) prefix q) h)
+        rw (same, set-getD) (counted-miss counts i l (eqb-false (getD keys i 0 / 2 ^ shift / 2048) prefix q) h)
   ]
 
   -- no count is larger than the number of keys
-  pub counting-small : (counts : List ℕ) (i d : ℕ) → d < 2048 → i < end → Counting keys shift prefix end counts i → getD counts d 0 < length keys
+  pub counted-small : (counts : List ℕ) (i d : ℕ) → d < 2048 → i < end → DigitsCounted keys shift prefix end counts i → getD counts d 0 < length keys
   unfolding countsOf
-  counting-small counts i d l m (a, b, c) =
+  counted-small counts i d l m (a, b, c) =
       let e = hits-at shift (take i keys) (prefix * 2048) 2048 d l in
       let n = count-length (λ (x : ℕ). eqb (x / 2 ^ shift) (prefix * 2048 + d)) (take i keys) in
       let t = length-take-le i keys a in
       rw c (omega arith)
 
-  pub counting-done : (counts : List ℕ) (i : ℕ) → end ≤ i → Counting keys shift prefix end counts i → counts ≡ countsOf keys shift prefix
-  counting-done counts i l (a, b, c) = c ∙ ap (λ (k : List ℕ). countsOf k shift prefix) (take-all i keys (omega arith))
+  -- every key is counted
+  pub counted-done : (counts : List ℕ) (i : ℕ) → end ≤ i → DigitsCounted keys shift prefix end counts i → counts ≡ countsOf keys shift prefix
+  counted-done counts i l (a, b, c) = c ∙ ap (λ (k : List ℕ). countsOf k shift prefix) (take-all i keys (omega arith))
 
 -- ---- from one digit to the next
 
@@ -230,8 +236,8 @@ belows-next (x ∷ xs) shift q =
     let p = place x q (2 ^ shift) (pow-pos shift) in
     omega arith
 
-belows-passed : (keys : List ℕ) (shift q n d : ℕ) → d ≤ n → belows (q * 2 ^ shift) keys + total (take d (hitsFrom keys shift q n)) ≡ belows ((q + d) * 2 ^ shift) keys
-unfolding total hitsFrom
+belows-passed : (keys : List ℕ) (shift q n d : ℕ) → d ≤ n → belows (q * 2 ^ shift) keys + totalCount (take d (hitsFrom keys shift q n)) ≡ belows ((q + d) * 2 ^ shift) keys
+unfolding totalCount hitsFrom
 belows-passed keys shift q n zero l = let e : q + 0 ≡ q = omega arith in rw e (omega arith)
 belows-passed keys shift q zero (suc d) l = absurd (not-suc-le-zero l)
 belows-passed keys shift q (suc n) (suc d) l =
@@ -245,12 +251,12 @@ wider : (shift p : ℕ) → p * 2 ^ (shift + 11) ≡ p * 2048 * 2 ^ shift
 wider shift p = ap (λ (k : ℕ). p * k) (pow-add 2 shift 11 ∙ mul-comm (2 ^ shift) 2048) ∙ sym (mul-assoc p 2048 (2 ^ shift))
 
 module _ (keys : List ℕ) (shift : ℕ) where
-  counts-passed : (p d : ℕ) → d ≤ 2048 → belows (p * 2 ^ (shift + 11)) keys + total (take d (countsOf keys shift p)) ≡ belows ((p * 2048 + d) * 2 ^ shift) keys
+  counts-passed : (p d : ℕ) → d ≤ 2048 → belows (p * 2 ^ (shift + 11)) keys + totalCount (take d (countsOf keys shift p)) ≡ belows ((p * 2048 + d) * 2 ^ shift) keys
   unfolding countsOf
   counts-passed p d l = rw (wider shift p) (belows-passed keys shift (p * 2048) 2048 d l)
 
   -- the table's sum is the number of keys in the block
-  pub counts-total : (p : ℕ) → total (countsOf keys shift p) ≡ hits keys (shift + 11) p
+  pub counts-total : (p : ℕ) → totalCount (countsOf keys shift p) ≡ hits keys (shift + 11) p
   counts-total p =
       let t : take 2048 (countsOf keys shift p) ≡ countsOf keys shift p = take-all 2048 (countsOf keys shift p) (omega (arith, length-counts keys shift p)) in
       let a = rw t at (counts-passed p 2048 (omega arith)) in
@@ -260,7 +266,7 @@ module _ (keys : List ℕ) (shift : ℕ) where
 
   -- the digit's block is the next one
   pub narrowed : (block : Block) (place : Place) → DigitFound (countsOf keys shift (block .prefix)) (block .rank) place
-      → Narrowed keys shift block (record { prefix = block .prefix * 2048 + place .digit; rank = place .rank })
+      → Narrowed keys shift block (withPrefix (block .prefix * 2048 + place .digit) (place .rank))
   narrowed block place w =
       let e : getD (countsOf keys shift (block .prefix)) (place .digit) 0 ≡ hits keys shift (block .prefix * 2048 + place .digit) =
       counts-at keys shift (block .prefix) (place .digit) (w .digit) in
@@ -298,20 +304,20 @@ whole-block keys h =
     omega arith
 
 -- so the first table counts them all
-pub first-total : (keys : List ℕ) → ((i : ℕ) → getD keys i 0 < 4294967296) → total (countsOf keys 22 0) ≡ length keys
+pub first-total : (keys : List ℕ) → ((i : ℕ) → getD keys i 0 < 4294967296) → totalCount (countsOf keys 22 0) ≡ length keys
 first-total keys h = counts-total keys 22 0 ∙ whole-block keys h
 
 -- the next passes find the rank in the first digit's block
 pub first-within : (keys : List ℕ) (rank : ℕ) (first : Place) → DigitFound (countsOf keys 22 0) rank first → first .rank < hits keys (11 + 11) (first .digit)
 first-within keys rank first w =
     let o : 0 * 2048 + first .digit ≡ first .digit = omega arith in
-    rw o at (narrowed keys 22 (record { prefix = 0; rank = rank }) first w .within)
+    rw o at (narrowed keys 22 (withPrefix 0 rank) first w .within)
 
 -- a block of single numbers is the key at the rank
 pub selected : (keys : List ℕ) (rank : ℕ) (first : Place) (second last : Block) → DigitFound (countsOf keys 22 0) rank first
-    → Narrowed keys 11 (record { prefix = first .digit; rank = first .rank }) second → Narrowed keys 0 second last → last .prefix ≡ getD (sorted keys) rank 0
+    → Narrowed keys 11 (withPrefix (first .digit) (first .rank)) second → Narrowed keys 0 second last → last .prefix ≡ getD (sorted keys) rank 0
 selected keys rank first second last w b d =
-    let a = narrowed keys 22 (record { prefix = 0; rank = rank }) first w in
+    let a = narrowed keys 22 (withPrefix 0 rank) first w in
     let z : belows (0 * 2 ^ 33) keys ≡ 0 = no-belows keys in
     let o : 0 * 2048 + first .digit ≡ first .digit = omega arith in
     let f = rw o at (a .rank) in

@@ -31,6 +31,7 @@ module _ {A : Type 0} (key : A → ℕ) where
   length-insert x [] = refl
   length-insert x (y ∷ ys) = by-key key x y ys (λ (l : List A). length l ≡ suc (suc (length ys))) refl (ap suc (length-insert x ys))
 
+  -- the sorted list is as long
   pub length-sorted : (xs : List A) → length (sortedBy key xs) ≡ length xs
   unfolding sortedBy
   length-sorted [] = refl

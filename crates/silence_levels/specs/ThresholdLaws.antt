@@ -78,6 +78,7 @@ on-number floor reference p q =
     either (lt reference on) floor on f
     (max-number (add binary32 floor (decibels 4)) low a (min-number (add binary32 floor (decibels 6)) (sub binary32 reference (decibels 20)) b c))
 
+-- where test 11 passes and floor and reference are finite, both are numbers
 pub resolve-numbers : (domain : Domain) (threshold : Threshold) (floor reference : Float) → thresholdOk threshold ≡ true → isFinite floor ≡ true → isFinite reference ≡ true
     → Number (resolveOf domain threshold floor reference .on) × Number (resolveOf domain threshold floor reference .off)
 unfolding resolveOf autoOf thresholdOk ofInt round isNan
@@ -92,6 +93,7 @@ resolve-numbers domain (BelowRef v) floor reference t p q =
 
 -- ---- thresholds that do not depend on the values
 
+-- any other floor and reference give the same
 pub fixed-same : (domain : Domain) (threshold : Threshold) (floor reference floor′ reference′ : Float) → isFixed domain threshold ≡ true
     → (resolveOf domain threshold floor reference .on ≡ resolveOf domain threshold floor′ reference′ .on)
     × (resolveOf domain threshold floor reference .off ≡ resolveOf domain threshold floor′ reference′ .off)

@@ -1,16 +1,16 @@
 // A key for each frame value: keys stand in the order of `f32::total_cmp`.
 ghost use mathlib.Core.Path.{_≡_};
 ghost use mathlib.Core.Bool.{true, not};
-ghost use mathlib.Core.List.{_++_, map};
 ghost use lib.Dec.{T};
-ghost use lib.Ieee.{isNan, nanBits, binary32};
-ghost use lib.ListN.{length, drop};
+ghost use lib.Ieee.{isNan};
+ghost use lib.ListN.{length};
 ghost use Prim.Native.Nat.{_≤_};
 ghost use Rattle.base_terms.specs.Lists.{allOf};
 ghost use Rattle.grid.specs.Values.{isFinite};
-ghost use Rattle.silence_levels.specs.Keys.{keyOf, valueOf, patternOf, withSignal, Collected};
+ghost use Rattle.silence_levels.specs.Keys.{keyOf, valueOf, Collected};
 
-// The key of x. Patterns with the sign clear come after all others; among those with it set the larger pattern comes first.
+// The key of x. Patterns with the sign clear come after all others; among those with it set the larger pattern comes
+// first.
 fn key_of(x: f32) -> u32
     requires { ⌜ T (not (isNan x)) ⌝ }
     ensures { λ r. ⌜ r ≡ keyOf x ⌝ }

@@ -37,7 +37,8 @@ fn over_keys(domain: Domain, threshold: Threshold, keys: &[u32]) -> Levels
     threshold::resolve(domain, threshold, floor, reference)
 }
 
-// The floor, the reference and the thresholds of a recording. The keys of the frames with signal are left in front of `keys`.
+// The floor, the reference and the thresholds of a recording.
+// The keys of the frames with signal are left in front of `keys`.
 pub fn levels(
     domain: Domain,
     threshold: Threshold,
@@ -50,7 +51,10 @@ pub fn levels(
     requires { ⌜ length (now values) ≤ length (now keys) ⌝ }
     requires { ⌜ allOf isFinite (now values) ≡ true ⌝ }
     ensures result { λ r. ⌜ r ≡ levelsOf domain threshold (now (values .entry)) (now (flags .entry)) ⌝ }
-    ensures list { λ _. ⌜ now (keys .exit) ≡ collected (now (values .entry)) (now (flags .entry)) (now (keys .entry)) ⌝ }
+    ensures list { λ _. ⌜
+        now (keys .exit)
+        ≡ collected (now (values .entry)) (now (flags .entry)) (now (keys .entry))
+        ⌝ }
 {
     let count = keys::collect(values, flags, keys);
     over_keys(domain, threshold, &keys[..count])
@@ -81,7 +85,8 @@ fn fixed_thresholds(
     }
 }
 
-// The thresholds of a recording alone. No percentile is sought where they do not depend on it; else `keys` is overwritten.
+// The thresholds of a recording alone.
+// No percentile is sought where they do not depend on it; else `keys` is overwritten.
 pub fn thresholds(
     domain: Domain,
     threshold: Threshold,

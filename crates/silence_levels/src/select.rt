@@ -1,9 +1,9 @@
 // The k-th smallest of a list of keys, found digit by digit from the top: three passes, none of which moves a key.
 ghost use mathlib.Core.Path.{_≡_};
 ghost use mathlib.Core.Bool.{cond};
-ghost use Prim.Native.Nat.{_≤_, _<_, _+_};
+ghost use Prim.Native.Nat.{_<_, _+_};
 ghost use lib.ListN.{length, getD};
-ghost use Rattle.silence_levels.specs.Select.{countsOf, hits, total, DigitFound, Narrowed};
+ghost use Rattle.silence_levels.specs.Select.{countsOf, hits, totalCount, DigitFound, Narrowed};
 ghost use Rattle.silence_levels.specs.Sorted.{sorted};
 
 // Where a rank falls in a table of counts: the digit, and the rank among the keys with that digit.
@@ -18,8 +18,8 @@ pub struct Block {
     pub rank: usize,
 }
 
-// How many keys have each next digit, among those whose bits above it are `prefix`. The branch is guessed right where almost
-// all keys have that prefix, or almost none.
+// How many keys have each next digit, among those whose bits above it are `prefix`.
+// The branch is guessed right where almost all keys have that prefix, or almost none.
 fn histogram_branching(keys: &[u32], shift: u32, prefix: u32) -> [usize; 2048]
     requires { ⌜ shift < 32 ⌝ }
     ensures { λ r. ⌜ r ≡ countsOf (now (keys .entry)) shift prefix ⌝ }
@@ -69,7 +69,7 @@ fn histogram(keys: &[u32], shift: u32, prefix: u32) -> [usize; 2048]
 
 // The digit at which the counts passed rise above the rank.
 fn walk(counts: [usize; 2048], rank: usize) -> Place
-    requires { ⌜ rank < total counts ⌝ }
+    requires { ⌜ rank < totalCount counts ⌝ }
     ensures { λ r. ⌜ DigitFound counts rank r ⌝ }
 {
     let mut digit = 0;

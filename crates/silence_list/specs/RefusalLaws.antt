@@ -49,6 +49,7 @@ pub record SoundReady (r : Recording) (c : SegmentConfig) (values : List Float) 
   pub sound : InFrames (r .«frame_rate») (r .hop) (c .«min_sound»)
   pub silence : InFrames (r .«frame_rate») (r .hop) (c .«min_silence»)
 
+-- a recording that 1 to 6 accept is ready, with settings that 7 accepts
 pub sound-ready : (r : Recording) (c : SegmentConfig) (values : List Float) (flags : List ℕ) (levels : List Float)
     → validityOf r values flags levels ≡ Valid → durationsOk c ≡ true → SoundReady r c values flags
 sound-ready r c values flags levels v d =
@@ -101,6 +102,8 @@ module _ (r : Recording) (c : SegmentConfig) (values : List Float) (flags : List
         pub passes : workOk (length values + 1) n32 n64 nf ≡ true → Fine ≡ firstRefusalOf r c values flags levels n32 n64 nf
         unfolding firstRefusalOf
         passes n = rw (v, d, t, n)
+
+  -- ---- and back
 
   -- without a refusal the recording is ready, and the work lists are long enough
   pub fine-ready : firstRefusalOf r c values flags levels n32 n64 nf ≡ Fine → SoundReady r c values flags × WorkIn (length values + 1) n32 n64 nf

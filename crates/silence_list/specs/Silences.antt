@@ -28,7 +28,7 @@ soundsIn r c values flags =
     let minSilence = framesIn (r .«frame_rate») (r .hop) (c .«min_silence») in
     soundsOf (levels .on) (levels .off) minSound minSilence values flags
 
--- the silences: for each its first frame and the frame after its last, side by side
+-- document 01's list of silences: "for each silence its first frame and the frame after its last", side by side
 unfoldable pub silencesIn : Recording → SegmentConfig → List Float → List ℕ → List ℕ
 silencesIn r c values flags = silencesOf (soundsIn r c values flags)
 
@@ -44,6 +44,7 @@ pub record End : Type 0 where
   pub out : List ℕ
   pub work : Work
 
+-- what a call leaves, from its parts
 abbrev pub endOf : Answer → List ℕ → Work → End
 endOf answer out work = record { answer = answer; out = out; work = work }
 
@@ -59,6 +60,7 @@ abbrev pub endAfter : Verdict → List ℕ → List ℕ → Work → End
 endAfter Fine silences out work = silencesHandedOut silences out work
 endAfter (Fails r) silences out work = endOf (Refused r) out work
 
+-- document 01's "silence list": what a call of it leaves
 unfoldable pub silenceListOf : Recording → SegmentConfig → List Float → List ℕ → List Float → List ℕ → Work → End
 silenceListOf r c values flags levels out work =
     endAfter

@@ -60,11 +60,13 @@ front-fits n list silences l e = omega (arith, length-take n list, ap length e)
 -- ---- the operation
 
 module _ (r : Recording) (c : SegmentConfig) (values : List Float) (flags : List ℕ) (levels : List Float) (out : List ℕ) (work : Work) where
+  -- where a test before 12 fails, every list is as it was
   pub list-refused : (x : Refusal) → Fails x ≡ firstRefusalOf r c values flags levels (length (work .u32s)) (length (work .u64s)) (length (work .f64s))
       → endOf (Refused x) out work ≡ silenceListOf r c values flags levels out work
   unfolding silenceListOf
   list-refused x e = rw (← e)
 
+  -- where none fails, the silences are handed out
   pub list-handed : Fine ≡ firstRefusalOf r c values flags levels (length (work .u32s)) (length (work .u64s)) (length (work .f64s))
       → silencesHandedOut (silencesIn r c values flags) out work ≡ silenceListOf r c values flags levels out work
   unfolding silenceListOf

@@ -14,6 +14,7 @@ use Rattle.silence_runs.specs.Fill.{filledAs, fillShort}
 use Rattle.base_laws.specs.Tests.{lt-or-le}
 
 module _ (kind min : ℕ) where
+  -- where there is no frame, nothing is filled
   pub fill-none : fillShort kind min [] ≡ []
   unfolding fillShort
   fill-none = each-none kind (filledAs kind min)

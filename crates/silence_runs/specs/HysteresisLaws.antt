@@ -16,6 +16,7 @@ reached-small : (threshold value : Float) → reached threshold value ≤ 1
 unfolding reached
 reached-small threshold value = elim (tested (le threshold value)) [ inl e ↦ rw e (omega arith) | inr e ↦ rw e (omega arith) ]
 
+-- whether a frame sounds is 0 or 1
 pub sound-small : (on off : Float) (before : ℕ) (value : Float) (flag : ℕ) → soundAt on off before value flag ≤ 1
 unfolding soundAt
 sound-small on off before value flag = elim (tested (eqb flag 1)) [
@@ -24,6 +25,7 @@ sound-small on off before value flag = elim (tested (eqb flag 1)) [
 ]
 
 module _ (on off : Float) where
+  -- the sound flags from frame i on: that of frame i, and those after it
   pub after-cons : (before : ℕ) (values : List Float) (flags : List ℕ) (i : ℕ) → i < length values → i < length flags
       → soundsAfter on off before (drop i values) (drop i flags)
       ≡ soundAt on off before (getD values i nan) (getD flags i 0) ∷ soundsAfter on off (soundAt on off before (getD values i nan) (getD flags i 0)) (drop (suc i) values) (drop (suc i) flags)

@@ -31,12 +31,12 @@ pub mod SilencesLaws
 pub mod OnePass
 --   one-pass              they are the silences of `soundsOf`
 pub mod OnePassLaws
--- OnePassWalk: what holds during the pass (`Passing`, `Turn`, `SoundRun`), turn by turn
+-- OnePassWalk: what holds during the pass (`PassHolds`, `Turn`, `SoundRun`), turn by turn
 pub mod OnePassWalk
 -- SoundsMono: the law behind S-13, for thresholds with off ≤ on, the same on both sides, and the same flags
 --   hysteresis-mono, fill-sound-mono, fill-silence-mono, sounds-mono   louder frames (`Louder`) sound wherever softer ones do
 pub mod SoundsMono
 -- Quiet: frames below off, with no hysteresis and no filling (`belowAt`, `belowOff`), and how long each stretch of them is (`quietRuns`)
 pub mod Quiet
---   Marking               what holds while they are written; quiet-length, below-length
+--   BelowWritten          what holds while they are written; quiet-length, below-length
 pub mod QuietLaws

@@ -29,6 +29,7 @@ lasts-none : (min : ℕ) → lasts min 0 ≡ false
 unfolding lasts
 lasts-none min = elim (tested (leb min 0)) [ inl e ↦ rw e | inr e ↦ rw e ]
 
+-- fewer frames than the minimum do not last
 pub lasts-short : (min n : ℕ) → n < min → lasts min n ≡ false
 unfolding lasts
 lasts-short min n l = rw (lt-leb min n l)
@@ -44,11 +45,12 @@ between-at min first n b e = rw (add-sub-cancel-left first n, e)
 between-none : (min first : ℕ) → silenceBetween min first first ≡ []
 between-none min first = ap (silenceBetween min first) (sym (add-zero first)) ∙ between-at min first 0 false (lasts-none min)
 
--- a silence by whether it lasts
+-- a silence that lasts is listed by its two numbers
 pub between-is : (min first end : ℕ) → lasts min (end - first) ≡ true → silenceBetween min first end ≡ first ∷ (end ∷ [])
 unfolding silenceBetween
 between-is min first end e = rw e
 
+-- one that does not is left out
 pub between-not : (min first end : ℕ) → lasts min (end - first) ≡ false → silenceBetween min first end ≡ []
 unfolding silenceBetween
 between-not min first end e = rw e
@@ -80,6 +82,7 @@ module _ (minSound minSilence : ℕ) where
   unfolding silencesFrom
   from-silent k last y ys h = rw (ne-eqb y 1 h, lasts-none minSound)
 
+  -- no frame is left: the last silence, up to here
   pub from-end : (k last : ℕ) → from k last 0 [] ≡ lastSilence minSilence last k
   unfolding silencesFrom
   from-end k last = rw (lasts-none minSound)

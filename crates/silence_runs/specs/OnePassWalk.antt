@@ -31,28 +31,31 @@ module _ (threshold : Float) (sound : ℕ) where
   stay-cons values flags i l e = rw (drop-cons values i nan l, drop-cons flags i 0 (omega arith))
 
   -- what holds while a loop that ends at `end` seeks the change
-  pub record Seeking (values : List Float) (flags : List ℕ) (from end i : ℕ) : Type 0 where
+  pub record ChangeSought (values : List Float) (flags : List ℕ) (from end i : ℕ) : Type 0 where
     pub within : i ≤ length values
     pub ends : end ≡ length values
     pub flagged : length flags ≡ length values
     pub left : i + stay threshold sound (drop i values) (drop i flags) ≡ from + stay threshold sound (drop from values) (drop from flags)
 
-  module _ (values : List Float) (flags : List ℕ) (from end i : ℕ) (w : Seeking values flags from end i) where
-    pub seeking-next : i < end → soundBy threshold (getD values i nan) (getD flags i 0) ≡ sound → Seeking values flags from end (i + 1)
-    seeking-next l e =
+  module _ (values : List Float) (flags : List ℕ) (from end i : ℕ) (w : ChangeSought values flags from end i) where
+    -- frame i is as those before it
+    pub change-next : i < end → soundBy threshold (getD values i nan) (getD flags i 0) ≡ sound → ChangeSought values flags from end (i + 1)
+    change-next l e =
         let s = stay-cons values flags i (omega (arith, w .ends)) (w .flagged) in
         let t : stay threshold sound (drop i values) (drop i flags) ≡ suc (stay threshold sound (drop (suc i) values) (drop (suc i) flags)) = (rw (eq-eqb (soundBy threshold (getD values i nan) (getD flags i 0)) sound e) at s) in
         record { within = omega (arith, w .ends); ends = w .ends; flagged = w .flagged; left = rw (add-one i) (omega (arith, w .left, t)) }
 
-    pub seeking-found : i < end → (soundBy threshold (getD values i nan) (getD flags i 0) ≡ sound → ⊥) → i ≡ from + stay threshold sound (drop from values) (drop from flags)
-    seeking-found l h =
+    -- frame i is another: the change is there
+    pub change-found : i < end → (soundBy threshold (getD values i nan) (getD flags i 0) ≡ sound → ⊥) → i ≡ from + stay threshold sound (drop from values) (drop from flags)
+    change-found l h =
         let s = stay-cons values flags i (omega (arith, w .ends)) (w .flagged) in
         let t : stay threshold sound (drop i values) (drop i flags) ≡ 0 = (rw (ne-eqb (soundBy threshold (getD values i nan) (getD flags i 0)) sound h) at s) in
         omega (arith, w .left, t)
 
-    pub seeking-done : end ≤ i → end ≡ from + stay threshold sound (drop from values) (drop from flags)
+    -- no frame is left: the change is the end
+    pub change-done : end ≤ i → end ≡ from + stay threshold sound (drop from values) (drop from flags)
     unfolding stay
-    seeking-done l =
+    change-done l =
         let t : stay threshold sound (drop i values) (drop i flags) ≡ 0 = rw (drop-of-length-le values {i = i} (omega (arith, w .ends))) in
         omega (arith, w .left, w .within, w .ends, t)
 
@@ -65,6 +68,7 @@ module _ (threshold : Float) (sound : ℕ) where
     | inr e ↦ rw e (omega (arith, stay-within values flags))
   ]
 
+  -- the change lies within the frames
   pub stay-to : (values : List Float) (flags : List ℕ) (from : ℕ) → from ≤ length values → from + stay threshold sound (drop from values) (drop from flags) ≤ length values
   stay-to values flags from l = omega (arith, stay-within (drop from values) (drop from flags), length-drop from values)
 
@@ -167,9 +171,11 @@ module _ (on off : Float) (values : List Float) (flags : List ℕ) (flagged : le
         let m : end - start ≡ 0 = omega arith in
         search (arith, m, ahead-none start 0 l, ahead-none end 1 (omega arith))
 
+    -- from start to end there is a run of sound, empty where no sound is left
     pub turn-run : SoundRun start end
     turn-run = elim (lt-or-le start (length values)) [ inl l ↦ run-some l | inr l ↦ run-none l ]
 
+    -- the turn's silence ends no earlier than it starts
     pub turn-order : from ≤ start
     turn-order = omega (arith, t .starts)
 
@@ -197,10 +203,12 @@ module _ (on off : Float) (values : List Float) (flags : List ℕ) (flagged : le
           ∙ from-run minSound minSilence (end - start) start last (ahead end 1) (r .ended)
           ∙ rw e refl
 
+      -- the sound lasts: the silence before it, where that lasts, and what comes after the sound
       pub turn-long : lasts minSound (end - start) ≡ true → silencesFrom minSound minSilence from last 0 (ahead from 0)
           ≡ silenceBetween minSilence last start ++ silencesFrom minSound minSilence (nextFrame end (length values)) end 0 (ahead (nextFrame end (length values)) 0)
       turn-long b = turned ∙ rw b (ap (λ (l : List ℕ). silenceBetween minSilence last start ++ l) (passed end))
 
+      -- the sound is too short: the silence goes on
       pub turn-short : lasts minSound (end - start) ≡ false → silencesFrom minSound minSilence from last 0 (ahead from 0)
           ≡ silencesFrom minSound minSilence (nextFrame end (length values)) last 0 (ahead (nextFrame end (length values)) 0)
       turn-short b = turned ∙ rw b (passed last)
@@ -224,7 +232,7 @@ put-kept out out₀ ws at l e =
     (sym (drop-drop (length ws) at out) ∙ ap (drop (length ws)) e ∙ drop-drop (length ws) at out₀)
 
 -- what holds at frame `from`, after silence; `at` is the place of the next number
-pub record Passing (on off : Float) (minSound minSilence : ℕ) (values : List Float) (flags out₀ out : List ℕ) (from last at : ℕ) : Type 0 where
+pub record PassHolds (on off : Float) (minSound minSilence : ℕ) (values : List Float) (flags out₀ out : List ℕ) (from last at : ℕ) : Type 0 where
   pub flagged : length flags ≡ length values
   pub room : length values + 2 ≤ length out₀
   pub same : length out ≡ length out₀
@@ -235,55 +243,60 @@ pub record Passing (on off : Float) (minSound minSilence : ℕ) (values : List F
   pub left : take at out ++ silencesFrom minSound minSilence from last 0 (soundsAfter on off 0 (drop from values) (drop from flags)) ≡ silencesOf (soundsOf on off minSound minSilence values flags)
 
 module _ (on off : Float) (minSound minSilence : ℕ) (values : List Float) (flags out₀ : List ℕ) where
-  pub passing-start : length flags ≡ length values → length values + 2 ≤ length out₀ → Passing on off minSound minSilence values flags out₀ out₀ 0 0 0
+  -- no frame is passed yet
+  pub pass-start : length flags ≡ length values → length values + 2 ≤ length out₀ → PassHolds on off minSound minSilence values flags out₀ out₀ 0 0 0
   unfolding hysteresis
-  passing-start f r = search (arith, one-pass on off minSound minSilence values flags)
+  pass-start f r = search (arith, one-pass on off minSound minSilence values flags)
 
-  module _ (out : List ℕ) (from last at : ℕ) (w : Passing on off minSound minSilence values flags out₀ out from last at) where
+  module _ (out : List ℕ) (from last at : ℕ) (w : PassHolds on off minSound minSilence values flags out₀ out from last at) where
     -- where the run of sound is sought
     pub sought-within : (start next : ℕ) → start ≡ from + stay on 0 (drop from values) (drop from flags) → next ≡ nextFrame start (length values) → next ≤ length values
     sought-within start next e f = omega (arith, next-is start (length values))
 
+    -- what the two searches find makes a turn
     pub turn-of : (start next end : ℕ) → start ≡ from + stay on 0 (drop from values) (drop from flags) → next ≡ nextFrame start (length values)
         → end ≡ next + stay off 1 (drop next values) (drop next flags) → Turn on off values flags (w .flagged) from start end
     turn-of start next end e f g = search (arith, subst (λ (k : ℕ). end ≡ k + stay off 1 (drop k values) (drop k flags)) f g)
 
     module _ (start end : ℕ) (t : Turn on off values flags (w .flagged) from start end) where
+      -- the turn's sound ends no earlier than it starts
       pub turn-sound : start ≤ end
       turn-sound = turn-run on off values flags (w .flagged) from start end t .order
 
+      -- it starts within the frames
       pub turn-start : start ≤ length values
       turn-start = let r = turn-run on off values flags (w .flagged) from start end t in omega (arith, r .order, r .stop)
 
       -- the pass moves on
-      pub passing-less : (next : ℕ) → from < length values → next ≡ nextFrame end (length values) → length values - next < length values - from
-      passing-less next l e =
+      pub pass-less : (next : ℕ) → from < length values → next ≡ nextFrame end (length values) → length values - next < length values - from
+      pass-less next l e =
           let r = turn-run on off values flags (w .flagged) from start end t in
           omega (arith, r .order, turn-order on off values flags (w .flagged) from start end t, next-is end (length values))
 
       -- the sound is too short: nothing is written
-      pub passing-short : lasts minSound (end - start) ≡ false → Passing on off minSound minSilence values flags out₀ out (nextFrame end (length values)) last at
-      passing-short b =
+      pub pass-short : lasts minSound (end - start) ≡ false → PassHolds on off minSound minSilence values flags out₀ out (nextFrame end (length values)) last at
+      pass-short b =
           let r = turn-run on off values flags (w .flagged) from start end t in
           let n = next-is end (length values) in
           let o = turn-order on off values flags (w .flagged) from start end t in
           search (arith, ap (λ (l : List ℕ). take at out ++ l) (sym (turn-short on off values flags (w .flagged) from start end t minSound minSilence last b)) ∙ w .left)
 
       -- the silence before a sound has room
-      pub passing-room : at + 2 ≤ length out
-      passing-room = omega (arith, w .front, w .order, w .within, w .same, w .room)
+      pub pass-room : at + 2 ≤ length out
+      pass-room = omega (arith, w .front, w .order, w .within, w .same, w .room)
 
-      pub passing-between : last ≤ start
-      passing-between = omega (arith, w .order, turn-order on off values flags (w .flagged) from start end t)
+      -- the silence before a sound ends no earlier than it starts
+      pub pass-between : last ≤ start
+      pass-between = omega (arith, w .order, turn-order on off values flags (w .flagged) from start end t)
 
       -- the sound lasts: the silence before it is written, where that lasts
-      pub passing-long : (out′ : List ℕ) (at′ : ℕ) → lasts minSound (end - start) ≡ true → out′ ≡ sets out at (silenceBetween minSilence last start) → at′ ≡ at + length (silenceBetween minSilence last start)
-          → Passing on off minSound minSilence values flags out₀ out′ (nextFrame end (length values)) end at′
-      passing-long out′ at′ b e f =
+      pub pass-long : (out′ : List ℕ) (at′ : ℕ) → lasts minSound (end - start) ≡ true → out′ ≡ sets out at (silenceBetween minSilence last start) → at′ ≡ at + length (silenceBetween minSilence last start)
+          → PassHolds on off minSound minSilence values flags out₀ out′ (nextFrame end (length values)) end at′
+      pass-long out′ at′ b e f =
           let r = turn-run on off values flags (w .flagged) from start end t in
           let n = next-is end (length values) in
-          let g = between-small minSilence last start passing-between in
-          let l : at + length (silenceBetween minSilence last start) ≤ length out = omega (arith, passing-room, g .0) in
+          let g = between-small minSilence last start pass-between in
+          let l : at + length (silenceBetween minSilence last start) ≤ length out = omega (arith, pass-room, g .0) in
           let some = lasts-some minSound (end - start) b in
           record {
             flagged = w .flagged;
@@ -298,19 +311,19 @@ module _ (on off : Float) (minSound minSilence : ℕ) (values : List Float) (fla
           }
 
     -- at the end there is room for the last silence
-    pub passing-last-room : at + 2 ≤ length out
-    passing-last-room = omega (arith, w .front, w .order, w .within, w .same, w .room)
+    pub pass-last-room : at + 2 ≤ length out
+    pass-last-room = omega (arith, w .front, w .order, w .within, w .same, w .room)
 
     -- and with it all are written
-    pub passing-done : (out′ : List ℕ) (at′ : ℕ) → length values ≤ from → out′ ≡ sets out at (lastSilence minSilence last (length values)) → at′ ≡ at + length (lastSilence minSilence last (length values))
+    pub pass-done : (out′ : List ℕ) (at′ : ℕ) → length values ≤ from → out′ ≡ sets out at (lastSilence minSilence last (length values)) → at′ ≡ at + length (lastSilence minSilence last (length values))
         → (at′ ≡ length (silencesOf (soundsOf on off minSound minSilence values flags)))
         × (out′ ≡ onto (silencesOf (soundsOf on off minSound minSilence values flags)) out₀)
     unfolding lastSilence onto
-    passing-done out′ at′ l e f =
+    pass-done out′ at′ l e f =
         let rest : List ℕ = lastSilence minSilence last (length values) in
         let q : from ≡ length values = omega (arith, w .within) in
         let g = between-small (cond (eqb last 0) 0 minSilence) last (length values) (omega (arith, w .order)) in
-        let m : at + length rest ≤ length out = omega (arith, passing-last-room, g .0) in
+        let m : at + length rest ≤ length out = omega (arith, pass-last-room, g .0) in
         let z : silencesFrom minSound minSilence from last 0 (soundsAfter on off 0 (drop from values) (drop from flags)) ≡ rest =
         rw (ahead-none on off values flags (w .flagged) from 0 l) (from-end minSound minSilence from last ∙ ap (lastSilence minSilence last) q) in
         let v : take at out ++ (rest ++ []) ≡ silencesOf (soundsOf on off minSound minSilence values flags) =

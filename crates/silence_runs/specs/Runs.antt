@@ -10,6 +10,7 @@ pub record Run : Type 0 where
   pub flag : ℕ
   pub frames : ℕ
 
+-- n frames of flag x
 abbrev pub run : ℕ → ℕ → Run
 run x n = record { flag = x; frames = n }
 
@@ -27,6 +28,7 @@ runs (x ∷ xs) = joined x (runs xs)
 unfoldable pub rewritten : ℕ → (ℕ → ℕ) → Run → List ℕ
 rewritten kind v r = replicate (r .frames) (cond (eqb (r .flag) kind) (v (r .frames)) (r .flag))
 
+-- the frames of some runs, each rewritten
 unfoldable pub rewrittenAll : ℕ → (ℕ → ℕ) → List Run → List ℕ
 rewrittenAll kind v [] = []
 rewrittenAll kind v (r ∷ rs) = rewritten kind v r ++ rewrittenAll kind v rs

@@ -55,6 +55,7 @@ module _ (kind : ℕ) (v : ℕ → ℕ) where
   other-joined y [] h = rw (ne-eqb y kind h)
   other-joined y (r ∷ rs) h = elim (tested (eqb y (r .flag))) [ inl e ↦ rw (e, ← eqb-true y (r .flag) e, ne-eqb y kind h) | inr e ↦ rw (e, ne-eqb y kind h) ]
 
+  -- where there is no frame, nothing is rewritten
   pub each-none : eachRun kind v [] ≡ []
   unfolding eachRun runs rewrittenAll
   each-none = refl

@@ -33,6 +33,7 @@ edges k before (x ∷ xs) = cond (isEdge before x) (k ∷ edges (suc k) x xs) (e
 unfoldable pub startsAt : ℕ → ℕ → ℕ
 startsAt before here = cond (eqb before 0) 0 (cond (eqb here 0) 1 0)
 
+-- how many silences start in some frames, after one with the flag `before`
 unfoldable pub startsAfter : ℕ → List ℕ → ℕ
 startsAfter before [] = 0
 startsAfter before (x ∷ xs) = startsAt before x + startsAfter x xs
@@ -101,16 +102,19 @@ silences-rise xs = rw (silences-edges xs) (edges-rise xs 0 1 (length xs) (omega 
 
 -- ---- numbers that rise strictly
 
+-- none is below lo
 pub rising-least : (lo hi : ℕ) (ys : List ℕ) (i : ℕ) → Rising lo hi ys → i < length ys → lo ≤ getD ys i 0
 rising-least lo hi [] i r h = absurd (omega arith)
 rising-least lo hi (y ∷ ys) zero r h = r .0
 rising-least lo hi (y ∷ ys) (suc i) r h = omega (arith, r .0, rising-least (suc y) hi ys i (r .2) (omega arith))
 
+-- none is above hi
 pub rising-most : (lo hi : ℕ) (ys : List ℕ) (i : ℕ) → Rising lo hi ys → i < length ys → getD ys i 0 ≤ hi
 rising-most lo hi [] i r h = absurd (omega arith)
 rising-most lo hi (y ∷ ys) zero r h = r .1
 rising-most lo hi (y ∷ ys) (suc i) r h = rising-most (suc y) hi ys i (r .2) (omega arith)
 
+-- a later one is above an earlier one
 pub rising-apart : (lo hi : ℕ) (ys : List ℕ) (i j : ℕ) → Rising lo hi ys → i < j → j < length ys → getD ys i 0 < getD ys j 0
 rising-apart lo hi [] i j r h l = absurd (omega arith)
 rising-apart lo hi (y ∷ ys) i zero r h l = absurd (omega arith)
@@ -140,6 +144,7 @@ unfolding edges
 edges-few [] k p = elim (tested (eqb p 0)) [ inl e ↦ rw e (omega arith) | inr e ↦ rw e (omega arith) ]
 edges-few (x ∷ xs) k p = elim (tested (isEdge p x)) [ inl e ↦ rw e (omega (arith, edges-few xs (suc k) x)) | inr e ↦ rw e (omega (arith, edges-few xs (suc k) x)) ]
 
+-- they take at most one number more than there are frames
 pub silences-room : (xs : List ℕ) → length (silencesOf xs) ≤ length xs + 1
 silences-room xs = rw (silences-edges xs) (edges-few xs 0 1)
 
@@ -198,10 +203,11 @@ silences-exact xs f = rw (silences-edges xs) (subst (λ (g : ℕ). inSilence g (
 
 -- ---- membership by number
 
--- the silences after the first
+-- silence i + 1 of a list is silence i of what follows the first: its first frame
 pub start-after : (s e : ℕ) (ss : List ℕ) (i : ℕ) → startAt (s ∷ (e ∷ ss)) (suc i) ≡ startAt ss i
 start-after s e ss i = let more : 2 * suc i ≡ suc (suc (2 * i)) = omega arith in rw more
 
+-- and the frame after its last
 pub end-after : (s e : ℕ) (ss : List ℕ) (i : ℕ) → endAt (s ∷ (e ∷ ss)) (suc i) ≡ endAt ss i
 end-after s e ss i = let more : 2 * suc i + 1 ≡ suc (suc (2 * i + 1)) = omega arith in rw more
 
@@ -220,6 +226,7 @@ in-later n s e ss f w = record {
   to = rw (end-after s e ss (w .which)) (w .to);
 }
 
+-- a frame that is in one of n silences is in the one of some number below n
 pub in-some : (n : ℕ) (ss : List ℕ) (f : ℕ) → length ss ≡ 2 * n → inSilence f ss ≡ true → InOne n ss f
 unfolding inSilence
 in-some n [] f l t = absurd (holds t)
@@ -230,6 +237,7 @@ in-some (suc n) (a ∷ (b ∷ ss)) f l t = elim (or-split (leb a f && ltb f b) (
   | inr h ↦ in-later n a b ss f (in-some n ss f (omega arith) (is-true (inSilence f ss) h))
 ]
 
+-- and back: a frame of silence i, of n, is in one of them
 pub some-in : (n : ℕ) (ss : List ℕ) (f : ℕ) → length ss ≡ 2 * n → (i : ℕ) → i < n → startAt ss i ≤ f → f < endAt ss i → inSilence f ss ≡ true
 unfolding inSilence
 some-in n [] f l i h s e = absurd (omega arith)

@@ -58,6 +58,7 @@ module _ (on off : Float) (order : T (le off on)) where
   after-mono (v ∷ vs) (w ∷ ws) (f ∷ flags) b c l r zero = sound-mono b c v w f l (r .0)
   after-mono (v ∷ vs) (w ∷ ws) (f ∷ flags) b c l r (suc i) = after-mono vs ws flags (soundAt on off b v f) (soundAt on off c w f) (sound-mono b c v w f l (r .0)) (r .1) i
 
+  -- before any filling, louder frames sound wherever softer ones do
   pub hysteresis-mono : (vs ws : List Float) (flags : List ℕ) → Louder vs ws → (i : ℕ) → getD (hysteresis on off vs flags) i 0 ≤ getD (hysteresis on off ws flags) i 0
   unfolding hysteresis
   hysteresis-mono vs ws flags r i = after-mono vs ws flags 0 0 (omega arith) r i
@@ -65,7 +66,7 @@ module _ (on off : Float) (order : T (le off on)) where
 -- ---- filling
 
 -- two lists of flags of one length, of which the second sounds wherever the first does
-pub record Under (xs ys : List ℕ) : Type 0 where
+pub record SoundsUnder (xs ys : List ℕ) : Type 0 where
   pub same : length xs ≡ length ys
   pub low : (i : ℕ) → getD xs i 0 ≤ 1
   pub high : (i : ℕ) → getD ys i 0 ≤ 1
@@ -84,7 +85,7 @@ ordered-silence a zero h k f = omega (arith, f refl)
 ordered-silence a (suc b) h k f = omega arith
 
 -- filling short sound is monotone
-pub fill-sound-mono : (min : ℕ) (xs ys : List ℕ) → Under xs ys → Under (fillShort 1 min xs) (fillShort 1 min ys)
+pub fill-sound-mono : (min : ℕ) (xs ys : List ℕ) → SoundsUnder xs ys → SoundsUnder (fillShort 1 min xs) (fillShort 1 min ys)
 fill-sound-mono min xs ys u = record {
   same = fill-length 1 min xs ∙ u .same ∙ sym (fill-length 1 min ys);
   low = fill-flags 1 min (omega arith) xs (u .low);
@@ -98,7 +99,7 @@ fill-sound-mono min xs ys u = record {
 }
 
 -- filling short silence is monotone
-pub fill-silence-mono : (min : ℕ) (xs ys : List ℕ) → Under xs ys → Under (fillShort 0 min xs) (fillShort 0 min ys)
+pub fill-silence-mono : (min : ℕ) (xs ys : List ℕ) → SoundsUnder xs ys → SoundsUnder (fillShort 0 min xs) (fillShort 0 min ys)
 fill-silence-mono min xs ys u = record {
   same = fill-length 0 min xs ∙ u .same ∙ sym (fill-length 0 min ys);
   low = fill-flags 0 min (omega arith) xs (u .low);
@@ -125,7 +126,7 @@ all-silent [] f = refl
 all-silent (x ∷ xs) f = rw (f 0) (all-silent xs (λ i. f (suc i)))
 
 -- filling short silence, if any sound is left, is monotone
-pub silence-mono : (min : ℕ) (xs ys : List ℕ) → Under xs ys → (i : ℕ) → getD (fillSilence min xs) i 0 ≤ getD (fillSilence min ys) i 0
+pub silence-mono : (min : ℕ) (xs ys : List ℕ) → SoundsUnder xs ys → (i : ℕ) → getD (fillSilence min xs) i 0 ≤ getD (fillSilence min ys) i 0
 unfolding fillSilence
 silence-mono min xs ys u i = elim (tested (anySound xs)) [
   | inl e ↦ elim (tested (anySound ys)) [

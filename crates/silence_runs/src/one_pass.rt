@@ -25,7 +25,9 @@ fn sound_by(threshold: f32, value: f32, flag: u8) -> u32
 fn next_change(threshold: f32, sound: u32, values: &[f32], flags: &[u8], from: usize) -> usize
     requires { ⌜ length (now flags) ≡ length (now values) ⌝ }
     requires { ⌜ from ≤ length (now values) ⌝ }
-    ensures { λ r. ⌜ r ≡ from + stay threshold sound (drop from (now (values .entry))) (drop from (now (flags .entry))) ⌝ }
+    ensures { λ r. ⌜
+        r ≡ from + stay threshold sound (drop from (now (values .entry))) (drop from (now (flags .entry)))
+        ⌝ }
 {
     let mut i = from;
     while i < values.len() {
@@ -92,11 +94,20 @@ pub fn list_silences(
     flags: &[u8],
     out: &mut [u32],
 ) -> usize
-    requires { ⌜ (length (now flags) ≡ length (now values)) × (length (now values) + 2 ≤ length (now out)) × (length (now values) ≤ 4294967295) ⌝ }
-    ensures { λ r. ⌜ r ≡ length (silencesOf
-        (soundsOf on off «min_sound» «min_silence» (now (values .entry)) (now (flags .entry)))) ⌝ }
-    ensures { λ _. ⌜ now (out .exit) ≡ onto (silencesOf
-        (soundsOf on off «min_sound» «min_silence» (now (values .entry)) (now (flags .entry)))) (now (out .entry)) ⌝ }
+    requires { ⌜
+        (length (now flags) ≡ length (now values))
+        × (length (now values) + 2 ≤ length (now out))
+        × (length (now values) ≤ 4294967295)
+        ⌝ }
+    ensures { λ r. ⌜
+        r
+        ≡ length (silencesOf (soundsOf on off «min_sound» «min_silence» (now (values .entry)) (now (flags .entry))))
+        ⌝ }
+    ensures { λ _. ⌜
+        now (out .exit)
+        ≡ onto (silencesOf (soundsOf on off «min_sound» «min_silence» (now (values .entry)) (now (flags .entry))))
+        (now (out .entry))
+        ⌝ }
 {
     let mut from: usize = 0;
     // The frame after the last sound that was long enough, and the place of the next number.

@@ -38,15 +38,15 @@ use Rattle.path_pieces.specs.declared.mode.Mode.{Mode}
 use Rattle.path_pieces.specs.declared.mode.Mode.the-variants as mode
 use Rattle.path_pieces.specs.Pieces.{lengthWeights, pieceLength, overOf, lengthCostOf, withPiece, withCut, isWithin, withCutAt, mayStart}
 use Rattle.path_pieces.specs.Least.{lowestLeast, predecessorOf}
-use Rattle.path_by_length.specs.Paths.{lastOf}
+use Rattle.path_rules.specs.Paths.{lastOf}
 use Rattle.path_by_length.specs.Table.{nextScore, tableOf, bestScore, parentOf, wayBack, bestPath}
-use Rattle.path_by_length.specs.ByCount.{bestWith, parentWith, wayWith, bestPathByCount, bestScoreByCount}
+use Rattle.path_by_count.specs.Table.{bestWith, parentWith, wayWith, bestPathByCount, bestScoreByCount}
 use Rattle.path_tests.specs.Ends.{listsOk, endOk, endsFrom, endsOk}
 use Rattle.path_tests.specs.Costs.{isCost, isTarget, isMin, lengthsOk}
 use Rattle.path_tests.specs.Refusal.{isCount, countOk, firstRefusalOf}
 use Rattle.path_tests.specs.declared.refusal.Verdict.the-variants.{Fine}
 use Rattle.path_list.specs.Operation.{handedOf, soughtOf, endOf, pathOf}
-use Rattle.path_list.specs.declared.seek.Answer.the-variants.{Found}
+use Rattle.path_list.specs.declared.search.Answer.the-variants.{Found}
 
 -- ---- the path
 
@@ -146,6 +146,7 @@ pub record Trials (first last : Float) : Type 0 where
       → silenceListOf (recording 700) defaults scores (replicate 7 0) [] (replicate 3 p) (workOf (replicate 128 a) (replicate 128 b) (replicate 128 x))
       ≡ silenceList.endOf (silences.Found 1) (2 ∷ 5 ∷ p ∷ []) (workOf (replicate 128 0) (replicate 128 0) (replicate 128 (ofBits binary64 0)))
 
+-- all of them hold, whatever the costs at the two ends
 pub trials : (first last : Float) → Trials first last
 unfolding bestPath wayBack parentOf bestScore tableOf nextScore bestWith parentWith wayWith bestPathByCount bestScoreByCount predecessorOf withCutAt isWithin mayStart lowestLeast withPiece withCut overOf pieceLength lengthCostOf lengthCost square offOf short span climb size odd units round sum add neg sub mul div lt eq le ofInt ofBits silencesIn soundsIn framesIn levelsOf levelsOver withSignal resolveOf autoOf silencesOf silentRuns soundsOf fillSilence anySound isSilent allOf hysteresis soundsAfter soundAt reached fillShort filledAs eachRun rewrittenAll rewritten runs joined firstRefusalOf listsOk endsOk endsFrom endOk isCost lengthsOk isTarget isMin countOk isCount workOk pathOf soughtOf handedOf onto filled validityOf grid.isWithin framesOk grid.listsOk valuesOk lengthOk grid.frameStepOk covers startOf isScore isUnflagged silenceListOf silencesHandedOut silenceTests.firstRefusalOf durationsOk thresholdOk
 trials first last = record {

@@ -9,12 +9,12 @@ use lib.ListN.{length}
 use Rattle.answers_jobs.specs.Parts.{rest-length}
 use Rattle.answers_jobs.specs.Record.{replayedOf}
 use Rattle.answers_jobs.specs.Tally.{UpTo, tallyOf}
-use Rattle.answers_jobs.specs.TallyLaws.{Counted, up-start, up-next, up-more, counted-start, counted-next, counted-end}
+use Rattle.answers_jobs.specs.TallyLaws.{Tallied, up-start, up-next, up-more, tallied-start, tallied-next, tallied-end}
 use Rattle.answers_jobs.proofs.replay_all.Statement.{statement}
 use Rattle.answers_jobs.proofs.replay_all.Tie as tie
 
 abbrev Inv-loop : tie.InvT-loop
-Inv-loop s tally₀ at₀ tally at = (at ≤ length s) × (length s ≤ 131072) × UpTo at tally × Counted s at tally
+Inv-loop s tally₀ at₀ tally at = (at ≤ length s) × (length s ≤ 131072) × UpTo at tally × Tallied s at tally
 
 abbrev μ-loop : tie.MeasureT-loop
 μ-loop s tally₀ at₀ tally at = length s - at
@@ -30,7 +30,7 @@ nothing-requires : tie.Need-nothing-requires Inv-loop μ-loop
 nothing-requires c κs = search needs
 
 loop-holds : tie.Need-loop-holds Inv-loop μ-loop
-loop-holds c = (omega arith, c .before .if1 .left, up-start _ (c .nothing .ensures), counted-start _ _ (c .nothing .ensures))
+loop-holds c = (omega arith, c .before .if1 .left, up-start _ (c .nothing .ensures), tallied-start _ _ (c .nothing .ensures))
 
 sub-replay : tie.Need-sub-replay Inv-loop μ-loop
 sub-replay c = search needs
@@ -64,14 +64,14 @@ loop-again c =
       omega (arith, rest),
       l .inv .1,
       up-next (l .at) _ (l .tally) _ _ (omega (arith, rest)) (l .inv .2) (c .with-record .ensures),
-      counted-next s (l .at) (l .tally) _ (c .before .before .replay .result) (c .before .before .before .before .loop-test .taken) (told .0) (told .1 .1 ∙ ap replayedOf (part-to-end s (l .at))) (c .with-record .ensures) (l .inv .3),
+      tallied-next s (l .at) (l .tally) _ (c .before .before .replay .result) (c .before .before .before .before .loop-test .taken) (told .0) (told .1 .1 ∙ ap replayedOf (part-to-end s (l .at))) (c .with-record .ensures) (l .inv .3),
     )
 
 returns-2 : tie.Need-returns-2 Inv-loop μ-loop
 unfolding tallyOf
 returns-2 c =
     let l = c .before .loop in
-    rw (le-ltb _ _ (l .inv .1)) (sym (counted-end _ (l .at) (l .tally) (c .loop-test .left) (l .inv .3)))
+    rw (le-ltb _ _ (l .inv .1)) (sym (tallied-end _ (l .at) (l .tally) (c .loop-test .left) (l .inv .3)))
 
 pub replay-all-spec : {M : Type 1} → statement M
 replay-all-spec =

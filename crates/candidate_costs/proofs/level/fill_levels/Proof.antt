@@ -10,10 +10,10 @@ use Rattle.candidate_costs.proofs.level.fill_levels.Statement.{statemen
 use Rattle.candidate_costs.proofs.level.fill_levels.Tie as tie
 
 abbrev Inv-loop : tie.InvT-loop
-Inv-loop domain levels width values lent out₀ n before₀ k₀ out before k = Levelling (frameLevel domain levels width values lent) (length values) out₀ n out before k
+Inv-loop domain scale width values levels out₀ n before₀ k₀ out before k = Levelling (frameLevel domain scale width values levels) (length values) out₀ n out before k
 
 abbrev μ-loop : tie.MeasureT-loop
-μ-loop domain levels width values lent out₀ n before₀ k₀ out before k = n - k
+μ-loop domain scale width values levels out₀ n before₀ k₀ out before k = n - k
 
 frame-level-requires : tie.Need-frame-level-requires Inv-loop μ-loop
 frame-level-requires c κs = search needs

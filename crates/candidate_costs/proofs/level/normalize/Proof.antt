@@ -23,7 +23,7 @@ enum-told-2 c = search needs
 float-to-float-above : tie.Need-float-to-float-above
 float-to-float-above c =
     let start = c .before .before .before in
-    let h : T (not (isNan (start .args .levels .floor))) = value-number (start .args .levels .floor) (start .pre .low-end) in
+    let h : T (not (isNan (start .args .scale .floor))) = value-number (start .args .scale .floor) (start .pre .low-end) in
     search needs
 
 range-requires : tie.Need-range-requires

@@ -11,7 +11,7 @@ use Rattle.candidate_costs.proofs.level.range.Tie as tie
 float-to-float-max-f64 : tie.Need-float-to-float-max-f64
 float-to-float-max-f64 c =
     let start = c .before .before in
-    let h : T (not (isNan (sub binary32 (start .args .levels .reference) (start .args .levels .floor)))) = span-number (start .args .levels) (start .pre) in
+    let h : T (not (isNan (sub binary32 (start .args .scale .reference) (start .args .scale .floor)))) = span-number (start .args .scale) (start .pre) in
     search needs
 
 max-f64-requires : tie.Need-max-f64-requires

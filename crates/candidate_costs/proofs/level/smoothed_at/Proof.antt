@@ -26,7 +26,7 @@ shared-slice-read-result : tie.Need-shared-slice-read-result
 shared-slice-read-result c =
     let start = c .before .before .before .before .before in
     let d : _≡_ {A = Domain} (start .args .domain) Decibels = cc in
-    let l : length (start .args .lent .now) ≡ length (start .args .values .now) = lent-each (start .args .domain) (start .args .width) (start .args .values .now) (start .args .lent .now) d (start .pre .0) in
+    let l : length (start .args .levels .now) ≡ length (start .args .values .now) = lent-each (start .args .domain) (start .args .width) (start .args .values .now) (start .args .levels .now) d (start .pre .0) in
     omega (arith, l, start .pre .1)
 
 returns : tie.Need-returns

@@ -3,8 +3,8 @@ use borrow.Author.Needs.{needs}
 use native.Mathlib.Omega.{arith}
 use mathlib.Core.Path.{_≡_}
 use Prim.Native.Nat.{_-_}
-use Rattle.candidate_settings.specs.declared.config.Placement.{Placement}
-use Rattle.candidate_settings.specs.declared.config.Placement.the-variants.{Quietest, Center, Ratio}
+use Rattle.plan_settings.specs.declared.config.Placement.{Placement}
+use Rattle.plan_settings.specs.declared.config.Placement.the-variants.{Quietest, Center, Ratio}
 use Rattle.candidate_cuts.specs.Place.{chosenBy}
 use Rattle.candidate_cuts.specs.ShareLaws.{share-within}
 use Rattle.candidate_cuts.specs.PlaceLaws.{ratio-passes}

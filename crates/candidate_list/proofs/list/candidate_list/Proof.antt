@@ -3,11 +3,10 @@ use borrow.Author.Needs.{needs}
 use native.Mathlib.Omega.{arith}
 use mathlib.Core.Path.{_≡_, sym, _∙_}
 use lib.ListN.{length}
-use borrow.Author.Tests.{not-true, not-false}
 use Rattle.plan_tests.specs.PlanReady.{fine-ready}
 use Rattle.base_terms.specs.Work.{workOf}
 use Rattle.candidate_finder.specs.CandidatesIn.{candidatesIn}
-use Rattle.candidate_finder.specs.FinderLaws.{ready-plannable}
+use Rattle.candidate_finder.specs.PrepareLaws.{ready-plannable}
 use Rattle.candidate_list.specs.CandidateList.{outputOf}
 use Rattle.candidate_list.specs.CandidateListLaws.{stands-copyable, ends-refused, ends-listed}
 use Rattle.candidate_list.proofs.list.candidate_list.Statement.{statement}
@@ -16,40 +15,43 @@ use Rattle.candidate_list.proofs.list.candidate_list.Tie as tie
 first-refusal-requires : tie.Need-first-refusal-requires
 first-refusal-requires c κs = search needs
 
-is-fine-requires : tie.Need-is-fine-requires
-is-fine-requires c κs = search needs
+enum-known-verdict : tie.Need-enum-known-verdict
+enum-known-verdict c = search needs
 
 returns : tie.Need-returns
 returns c =
-    let known = c .before .before .before .before .before .before .before .before in
+    let known = c .before .before .before .before .before .before .before .before .before in
     let s = known .before .before .before in (
-      ends-refused (s .args .r) (s .args .segment) (s .args .plan) (s .args .values .now) (s .args .flags .now) (s .args .levels .now) (outputOf (s .args .ends .now) (s .args .costs .now)) (workOf (s .args .work-u32 .now) (s .args .work-u64 .now) (s .args .work-f64 .now)) (c .before .before .first-refusal .result) (c .before .before .first-refusal .ensures) (sym (c .before .is-fine .ensures) ∙ not-true (c .before .is-fine .result) (c .if1 .taken)),
+      ends-refused (s .args .r) (s .args .segment) (s .args .settings) (s .args .values .now) (s .args .flags .now) (s .args .levels .now) (outputOf (s .args .ends .now) (s .args .costs .now)) (workOf (s .args .work-u32 .now) (s .args .work-u64 .now) (s .args .work-f64 .now)) _ (cc),
       record { values-fit = known .before .before .shared-slice-known .given; levels-fit = known .shared-slice-known3 .given },
     )
+
+enum-told : tie.Need-enum-told
+enum-told c = search needs
 
 find-candidates-requires : tie.Need-find-candidates-requires
 find-candidates-requires c κs =
     let s = c .before .before .before .before .before .before .before .before .before .before .before .before .before in
+    let told = c .before .before in
     let n32 = length (s .args .work-u32 .now) in
     let n64 = length (s .args .work-u64 .now) in
     let nf = length (s .args .work-f64 .now) in
-    let e = c .before .before .before .before .first-refusal .ensures in
-    ready-plannable (s .args .r) (s .args .segment) (s .args .plan) (s .args .values .now) (s .args .flags .now) (s .args .levels .now) n32 n64 nf
-    (fine-ready (s .args .r) (s .args .segment) (s .args .plan) (s .args .values .now) (s .args .flags .now) (s .args .levels .now) n32 n64 nf (c .before .before .before .before .first-refusal .result) e (sym (c .before .before .before .is-fine .ensures) ∙ not-false (c .before .before .before .is-fine .result) (c .before .before .if1 .left)))
+    ready-plannable (s .args .r) (s .args .segment) (s .args .settings) (s .args .values .now) (s .args .flags .now) (s .args .levels .now) n32 n64 nf
+    (fine-ready (s .args .r) (s .args .segment) (s .args .settings) (s .args .values .now) (s .args .flags .now) (s .args .levels .now) n32 n64 nf (sym (told .before .before .first-refusal .ensures) ∙ told .enum-told .given .1))
 
 hand-out-requires : tie.Need-hand-out-requires
 hand-out-requires c κs =
     let s = c .before .before .before .before .before .before .before .before .before .before .before .before .before .before .before .before .before .before .before .before .before .before .before in
+    let told = c .before .before .before .before .before .before .before .before .before .before .before .before in
     let n32 = length (s .args .work-u32 .now) in
     let n64 = length (s .args .work-u64 .now) in
     let nf = length (s .args .work-f64 .now) in
-    let e = c .before .before .before .before .before .before .before .before .before .before .before .before .before .before .first-refusal .ensures in
     let p = c .before .before .before .before .before .before .before .before .before .find-candidates .ensures in
-    let ready = fine-ready (s .args .r) (s .args .segment) (s .args .plan) (s .args .values .now) (s .args .flags .now) (s .args .levels .now) n32 n64 nf (c .before .before .before .before .before .before .before .before .before .before .before .before .before .before .first-refusal .result) e (sym (c .before .before .before .before .before .before .before .before .before .before .before .before .before .is-fine .ensures) ∙ not-false (c .before .before .before .before .before .before .before .before .before .before .before .before .before .is-fine .result) (c .before .before .before .before .before .before .before .before .before .before .before .before .if1 .left)) in
+    let ready = fine-ready (s .args .r) (s .args .segment) (s .args .settings) (s .args .values .now) (s .args .flags .now) (s .args .levels .now) n32 n64 nf (sym (told .before .before .first-refusal .ensures) ∙ told .enum-told .given .1) in
     let same : length (c .before .before .before .before .before .before .before .before .before .find-candidates .last .1 .1 .1 .1 .1 .1 .0) ≡ length (s .args .work-u32 .now) = omega (arith, c .before .before .before .before .before .before .before .before .work-u32 .given) in
     let samef : length (c .before .before .before .before .before .before .before .before .before .find-candidates .last .1 .1 .1 .1 .1 .1 .1 .0) ≡ length (s .args .work-f64 .now) = omega (arith, c .before .before .before .before .before .before .work-f64 .given) in
-    stands-copyable (length (s .args .values .now)) (c .before .before .before .before .before .before .before .before .before .find-candidates .result) (candidatesIn (s .args .r) (s .args .segment) (s .args .plan) (s .args .values .now) (s .args .flags .now) (s .args .levels .now)) (c .before .before .before .before .before .before .before .before .before .find-candidates .last .1 .1 .1 .1 .1 .1 .0) (c .before .before .before .before .before .before .before .before .before .find-candidates .last .1 .1 .1 .1 .1 .1 .1 .0)
-    (omega (arith, same, ready .work .enough32)) (omega (arith, samef, ready .work .enoughf)) p
+    stands-copyable (length (s .args .values .now)) (c .before .before .before .before .before .before .before .before .before .find-candidates .result) (candidatesIn (s .args .r) (s .args .segment) (s .args .settings) (s .args .values .now) (s .args .flags .now) (s .args .levels .now)) (c .before .before .before .before .before .before .before .before .before .find-candidates .last .1 .1 .1 .1 .1 .1 .0) (c .before .before .before .before .before .before .before .before .before .find-candidates .last .1 .1 .1 .1 .1 .1 .1 .0)
+    (omega (arith, same, ready .work .enough32)) (omega (arith, samef, ready .work .enoughf)) (ready .few) p
 
 same-length : tie.Need-same-length
 same-length c = search needs
@@ -70,11 +72,12 @@ returns-2 : tie.Need-returns-2
 returns-2 c =
     let known = c .before .before .before .before .before .before .before .before .before .before .before .before .before .before .before .before .before .before .before .before .before .before .before .before .before .before .before .before .before .before .before in
     let s = known .before .before .before in
+    let told = c .before .before .before .before .before .before .before .before .before .before .before .before .before .before .before .before .before .before .before .before .before .before .before in
     let p = c .before .before .before .before .before .before .before .before .before .before .before .before .before .before .before .before .before .before .before .before .find-candidates .ensures in
     let same : length (c .before .before .before .before .before .before .before .before .before .before .before .before .before .before .before .before .before .before .before .before .find-candidates .last .1 .1 .1 .1 .1 .1 .0) ≡ length (s .args .work-u32 .now) = omega (arith, c .before .before .before .before .before .before .before .before .before .before .before .before .before .before .before .before .before .before .before .work-u32 .given) in
     let samef : length (c .before .before .before .before .before .before .before .before .before .before .before .before .before .before .before .before .before .before .before .before .find-candidates .last .1 .1 .1 .1 .1 .1 .1 .0) ≡ length (s .args .work-f64 .now) = omega (arith, c .before .before .before .before .before .before .before .before .before .before .before .before .before .before .before .before .before .work-f64 .given) in (
       c .before .before .before .before .before .before .before .before .before .before .hand-out .ensures
-          ∙ ends-listed (s .args .r) (s .args .segment) (s .args .plan) (s .args .values .now) (s .args .flags .now) (s .args .levels .now) (outputOf (s .args .ends .now) (s .args .costs .now)) (workOf (s .args .work-u32 .now) (s .args .work-u64 .now) (s .args .work-f64 .now)) (c .before .before .before .before .before .before .before .before .before .before .before .before .before .before .before .before .before .before .before .before .before .before .before .before .before .first-refusal .result) (c .before .before .before .before .before .before .before .before .before .before .before .before .before .before .before .before .before .before .before .before .find-candidates .result) _ _ _ _ (c .before .before .before .before .before .before .before .before .before .before .before .before .before .before .before .before .before .before .before .before .before .before .before .before .before .first-refusal .ensures) (sym (c .before .before .before .before .before .before .before .before .before .before .before .before .before .before .before .before .before .before .before .before .before .before .before .before .is-fine .ensures) ∙ not-false (c .before .before .before .before .before .before .before .before .before .before .before .before .before .before .before .before .before .before .before .before .before .before .before .before .is-fine .result) (c .before .before .before .before .before .before .before .before .before .before .before .before .before .before .before .before .before .before .before .before .before .before .before .if1 .left)) (p .number) (p .entries) (p .costs) same samef,
+          ∙ ends-listed (s .args .r) (s .args .segment) (s .args .settings) (s .args .values .now) (s .args .flags .now) (s .args .levels .now) (outputOf (s .args .ends .now) (s .args .costs .now)) (workOf (s .args .work-u32 .now) (s .args .work-u64 .now) (s .args .work-f64 .now)) (c .before .before .before .before .before .before .before .before .before .before .before .before .before .before .before .before .before .before .before .before .find-candidates .result) _ _ _ _ (sym (told .enum-told .given .1) ∙ told .before .before .first-refusal .ensures) (p .number) (p .entries) (p .costs) same samef,
       record { values-fit = known .before .before .shared-slice-known .given; levels-fit = known .shared-slice-known3 .given },
     )
 
@@ -83,8 +86,9 @@ candidate-list-spec =
     tie.close
     (tie.spec
     first-refusal-requires
-    is-fine-requires
+    enum-known-verdict
     returns
+    enum-told
     find-candidates-requires
     hand-out-requires
     same-length

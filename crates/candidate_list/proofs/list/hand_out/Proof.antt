@@ -5,7 +5,7 @@ use Prim.Native.Nat.{_*_}
 use lib.ListN.{take, drop}
 use borrow.Author.Tests.{not-true, not-false}
 use Rattle.base_terms.specs.Work.{workOf}
-use Rattle.candidate_walk.specs.Held.{heldAt, costsAt}
+use Rattle.base_terms.specs.Layout.{entriesAt, costsAt}
 use Rattle.candidate_list.specs.CandidateList.{outputOf}
 use Rattle.candidate_list.specs.CandidateListLaws.{out-short, out-found}
 use Rattle.candidate_list.proofs.list.hand_out.Statement.{statement}
@@ -30,7 +30,7 @@ returns : tie.Need-returns
 returns c =
     let s = c .before .before .before .before .before .before .before .before .before .before .before .before .before .before .before .before .before in
     let e = c .before .before .before .before .before .before .clear-work .ensures in
-    out-short (s .args .count) (take (3 * s .args .count) (drop (heldAt (s .args .frames)) (s .args .work-u32 .now))) (take (s .args .count) (drop (costsAt (s .args .frames)) (s .args .work-f64 .now))) (outputOf (s .args .ends .now) (s .args .costs .now)) (workOf (s .args .work-u32 .now) (s .args .work-u64 .now) (s .args .work-f64 .now)) _ e
+    out-short (s .args .candidates) (take (3 * s .args .candidates) (drop (entriesAt (s .args .frames)) (s .args .work-u32 .now))) (take (s .args .candidates) (drop (costsAt (s .args .frames)) (s .args .work-f64 .now))) (outputOf (s .args .ends .now) (s .args .costs .now)) (workOf (s .args .work-u32 .now) (s .args .work-u64 .now) (s .args .work-f64 .now)) _ e
     (sym (c .before .before .before .before .before .before .before .before .before .before .before .has-room .ensures) ∙ not-true (c .before .before .before .before .before .before .before .before .before .before .before .has-room .result) (c .before .before .before .before .before .before .before .before .before .before .if1 .taken))
 
 copy-out-requires : tie.Need-copy-out-requires
@@ -58,7 +58,7 @@ returns-2 : tie.Need-returns-2
 returns-2 c =
     let s = c .before .before .before .before .before .before .before .before .before .before .before .before .before .before .before .before .before .before .before .before .before .before .before .before .before .before in
     let e = c .before .before .before .before .before .before .clear-work2 .ensures in
-    out-found (s .args .count) (take (3 * s .args .count) (drop (heldAt (s .args .frames)) (s .args .work-u32 .now))) (take (s .args .count) (drop (costsAt (s .args .frames)) (s .args .work-f64 .now))) (outputOf (s .args .ends .now) (s .args .costs .now)) (workOf (s .args .work-u32 .now) (s .args .work-u64 .now) (s .args .work-f64 .now)) _ e (outputOf _ _)
+    out-found (s .args .candidates) (take (3 * s .args .candidates) (drop (entriesAt (s .args .frames)) (s .args .work-u32 .now))) (take (s .args .candidates) (drop (costsAt (s .args .frames)) (s .args .work-f64 .now))) (outputOf (s .args .ends .now) (s .args .costs .now)) (workOf (s .args .work-u32 .now) (s .args .work-u64 .now) (s .args .work-f64 .now)) _ e (outputOf _ _)
     (sym (c .before .before .before .before .before .before .before .before .before .before .before .before .before .before .before .before .before .before .before .before .has-room .ensures) ∙ not-false (c .before .before .before .before .before .before .before .before .before .before .before .before .before .before .before .before .before .before .before .before .has-room .result) (c .before .before .before .before .before .before .before .before .before .before .before .before .before .before .before .before .before .before .before .if1 .left)) (c .before .before .before .before .before .before .before .before .before .before .before .before .before .before .copy-out .ensures .0) (c .before .before .before .before .before .before .before .before .before .before .before .before .before .before .copy-out .ensures .1)
 
 pub hand-out-spec : {M : Type 1} → statement M

@@ -2,8 +2,8 @@
 use borrow.Author.Needs.{needs}
 use mathlib.Core.Path.{_≡_}
 use Rattle.candidate_points.specs.Blocked.{getsGrid}
-use Rattle.candidate_settings.specs.declared.config.Gap.{Gap}
-use Rattle.candidate_settings.specs.declared.config.Gap.the-variants.{Keep}
+use Rattle.plan_settings.specs.declared.config.Gap.{Gap}
+use Rattle.plan_settings.specs.declared.config.Gap.the-variants.{Keep}
 use Rattle.candidate_points.proofs.blocked.gets_grid.Statement.{statement}
 use Rattle.candidate_points.proofs.blocked.gets_grid.Tie as tie
 

@@ -20,8 +20,8 @@ mark-silences-requires c κs =
     let s = c .before .before .before .before .before .before .before in
     let end = s .args .base + s .args .g .frames + 1 in
     let e = c .before .before .before .fill-range .ensures in (
-      cleared-room (s .args .g) (s .args .count) (s .args .base) (s .args .work .now) _ end (s .pre) (omega arith) e,
-      cleared-flags (s .args .g) (s .args .count) (s .args .base) (s .args .work .now) _ end (s .pre) (omega arith) e,
+      cleared-room (s .args .g) (s .args .s) (s .args .silences) (s .args .base) (s .args .work .now) _ end (s .pre) (omega arith) e,
+      cleared-flags (s .args .g) (s .args .s) (s .args .silences) (s .args .base) (s .args .work .now) _ end (s .pre) (omega arith) e,
     )
 
 same-length : tie.Need-same-length
@@ -31,7 +31,7 @@ returns : tie.Need-returns
 returns c =
     let s = c .before .before .before .before .before .before .before .before .before .before in
     let end = s .args .base + s .args .g .frames + 1 in
-    cleared-marked (s .args .g) (s .args .count) (s .args .base) (s .args .work .now) _ end (s .pre) (omega arith) (c .before .before .before .before .before .before .fill-range .ensures) _ _ _ (c .before .before .mark-silences .ensures)
+    cleared-marked (s .args .g) (s .args .s) (s .args .silences) (s .args .base) (s .args .work .now) _ end (s .pre) (omega arith) (c .before .before .before .before .before .before .fill-range .ensures) _ _ (c .before .before .mark-silences .ensures)
 
 pub mark-blocked-spec : {M : Type 1} → statement M
 mark-blocked-spec =

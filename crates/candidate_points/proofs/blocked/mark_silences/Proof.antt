@@ -8,10 +8,10 @@ use Rattle.candidate_points.proofs.blocked.mark_silences.Statement.{sta
 use Rattle.candidate_points.proofs.blocked.mark_silences.Tie as tie
 
 abbrev Inv-loop : tie.InvT-loop
-Inv-loop gap g s count base work₀ end i₀ work i = Marking gap g s count base work₀ end work i
+Inv-loop gap g s silences base work₀ end i₀ work i = Marking gap g s silences base work₀ end work i
 
 abbrev μ-loop : tie.MeasureT-loop
-μ-loop gap g s count base work₀ end i₀ work i = count - i
+μ-loop gap g s silences base work₀ end i₀ work i = silences - i
 
 add-end : tie.Need-add-end Inv-loop μ-loop
 add-end c = search needs

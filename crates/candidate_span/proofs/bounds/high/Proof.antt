@@ -7,14 +7,14 @@ use Rattle.candidate_span.proofs.bounds.high.Tie as tie
 
 returns : tie.Need-returns
 unfolding highOf
-returns c = rw (eq-eqb (c .before .args .end) (c .before .args .n) (c .if1 .taken))
+returns c = rw (eq-eqb (c .before .before .args .end) (c .before .before .args .p .frames) (c .if1 .taken))
 
 less-requires : tie.Need-less-requires
 less-requires c κs = search needs
 
 returns-2 : tie.Need-returns-2
 unfolding highOf
-returns-2 c = rw (ne-eqb (c .before .before .args .end) (c .before .before .args .n) (c .before .if1 .left)) (c .less .ensures)
+returns-2 c = rw (ne-eqb (c .before .before .before .args .end) (c .before .before .before .args .p .frames) (c .before .if1 .left)) (c .less .ensures)
 
 pub high-spec : {M : Type 1} → statement M
 high-spec = tie.close (tie.spec returns less-requires returns-2)

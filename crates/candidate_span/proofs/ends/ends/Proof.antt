@@ -2,13 +2,13 @@
 use borrow.Author.Needs.{needs}
 use mathlib.Core.Path.{_≡_, sym, _∙_}
 use Rattle.candidate_span.specs.SpanWalks.{ends-no-frames, ends-keep, ends-silent, ends-sound}
-use Rattle.candidate_settings.specs.declared.config.Gap.{Gap}
-use Rattle.candidate_settings.specs.declared.config.Gap.the-variants.{Keep, Drop}
+use Rattle.plan_settings.specs.declared.config.Gap.{Gap}
+use Rattle.plan_settings.specs.declared.config.Gap.the-variants.{Keep, Drop}
 use Rattle.candidate_span.proofs.ends.ends.Statement.{statement}
 use Rattle.candidate_span.proofs.ends.ends.Tie as tie
 
 returns : tie.Need-returns
-returns c = ends-no-frames _ _ _ _ _ (c .if1 .taken)
+returns c = ends-no-frames _ _ _ (c .if1 .taken)
 
 enum-told : tie.Need-enum-told
 enum-told c = search needs
@@ -21,9 +21,9 @@ all-silent-requires c κs = search needs
 
 returns-2 : tie.Need-returns-2
 returns-2 c =
-    let s = c .before .before .before .before .before .before in
+    let s = c .before .before .before .before .before .before .before in
     let g : _≡_ {A = Gap} (s .args .gap) Drop = cc in
-    ends-silent (s .args .n) (s .args .pre) (s .args .tail) (s .args .silences .now) (s .args .gap) g (c .before .before .before .before .if1 .left) (sym (c .before .all-silent .ensures) ∙ c .if2 .taken)
+    ends-silent (s .args .p) (s .args .silences .now) (s .args .gap) g (c .before .before .before .before .if1 .left) (sym (c .before .all-silent .ensures) ∙ c .if2 .taken)
 
 first-requires : tie.Need-first-requires
 first-requires c κs = search needs
@@ -33,15 +33,15 @@ last-requires c κs = search needs
 
 returns-3 : tie.Need-returns-3
 returns-3 c =
-    let s = c .before .before .before .before in
+    let s = c .before .before .before .before .before in
     let g : _≡_ {A = Gap} (s .args .gap) Keep = cc in
-    ends-keep (s .args .n) (s .args .pre) (s .args .tail) (s .args .silences .now) (s .args .gap) g (c .before .before .if1 .left)
+    ends-keep (s .args .p) (s .args .silences .now) (s .args .gap) g (c .before .before .if1 .left)
 
 returns-4 : tie.Need-returns-4
 returns-4 c =
-    let s = c .before .before .before .before .before .before .before .before in
+    let s = c .before .before .before .before .before .before .before .before .before in
     let g : _≡_ {A = Gap} (s .args .gap) Drop = cc in
-    ends-sound (s .args .n) (s .args .pre) (s .args .tail) (s .args .silences .now) (s .args .gap) (c .before .first .result) (c .last .result) g (c .before .before .before .before .before .before .if1 .left) (sym (c .before .before .before .all-silent .ensures) ∙ c .before .before .if2 .left)
+    ends-sound (s .args .p) (s .args .silences .now) (s .args .gap) (c .before .first .result) (c .last .result) g (c .before .before .before .before .before .before .if1 .left) (sym (c .before .before .before .all-silent .ensures) ∙ c .before .before .if2 .left)
     (c .before .first .ensures) (c .last .ensures)
 
 pub ends-spec : {M : Type 1} → statement M

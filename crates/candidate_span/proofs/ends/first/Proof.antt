@@ -5,7 +5,7 @@ use Rattle.candidate_span.proofs.ends.first.Statement.{statement}
 use Rattle.candidate_span.proofs.ends.first.Tie as tie
 
 returns : tie.Need-returns
-returns c = let s = c .before .before in first-none (s .args .silences .now) (c .if1 .taken) (s .args .pre)
+returns c = let s = c .before .before in first-none (s .args .silences .now) (c .if1 .taken) (s .args .p)
 
 start-at-requires : tie.Need-start-at-requires
 start-at-requires c κs = search needs
@@ -13,7 +13,7 @@ start-at-requires c κs = search needs
 returns-2 : tie.Need-returns-2
 returns-2 c =
     let s = c .before .before .before .before in
-    first-unled (s .args .silences .now) (c .before .before .if1 .left) (s .args .pre) (c .before .start-at .result) (c .before .start-at .ensures) (c .if2 .taken)
+    first-unled (s .args .silences .now) (c .before .before .if1 .left) (s .args .p) (c .before .start-at .result) (c .before .start-at .ensures) (c .if2 .taken)
 
 end-at-requires : tie.Need-end-at-requires
 end-at-requires c κs = search needs
@@ -24,7 +24,7 @@ less-requires c κs = search needs
 returns-3 : tie.Need-returns-3
 returns-3 c =
     let s = c .before .before .before .before .before .before in
-    first-led (s .args .silences .now) (c .before .before .before .before .if1 .left) (s .args .pre) (c .before .before .before .start-at .result) (c .before .end-at .result) (c .less .result)
+    first-led (s .args .silences .now) (c .before .before .before .before .if1 .left) (s .args .p) (c .before .before .before .start-at .result) (c .before .end-at .result) (c .less .result)
     (c .before .before .before .start-at .ensures) (c .before .before .if2 .left) (c .before .end-at .ensures) (c .less .ensures)
 
 pub first-spec : {M : Type 1} → statement M

@@ -5,7 +5,7 @@ use Rattle.candidate_span.proofs.ends.last.Statement.{statement}
 use Rattle.candidate_span.proofs.ends.last.Tie as tie
 
 returns : tie.Need-returns
-returns c = let s = c .before .before in last-none (s .args .silences .now) (c .if1 .taken) (s .args .n) (s .args .tail)
+returns c = let s = c .before .before in last-none (s .args .silences .now) (c .if1 .taken) (s .args .p)
 
 sub-end-at : tie.Need-sub-end-at
 sub-end-at c = search needs
@@ -15,8 +15,8 @@ end-at-requires c κs = search needs
 
 returns-2 : tie.Need-returns-2
 returns-2 c =
-    let s = c .before .before .before .before in
-    last-untrailed (s .args .silences .now) (c .before .before .if1 .left) (s .args .n) (s .args .tail) (c .before .end-at .result) (c .before .end-at .ensures) (c .if2 .taken)
+    let s = c .before .before .before .before .before in
+    last-untrailed (s .args .silences .now) (c .before .before .before .if1 .left) (s .args .p) (c .before .before .end-at .result) (c .before .before .end-at .ensures) (c .if2 .taken)
 
 sub-start-at : tie.Need-sub-start-at
 sub-start-at c = search needs
@@ -29,9 +29,9 @@ after-requires c κs = search needs
 
 returns-3 : tie.Need-returns-3
 returns-3 c =
-    let s = c .before .before .before .before .before .before in
-    last-trailed (s .args .silences .now) (c .before .before .before .before .if1 .left) (s .args .n) (s .args .tail) (c .before .before .before .end-at .result) (c .before .start-at .result) (c .after .result)
-    (c .before .before .before .end-at .ensures) (c .before .before .if2 .left) (c .before .start-at .ensures) (c .after .ensures)
+    let s = c .before .before .before .before .before .before .before in
+    last-trailed (s .args .silences .now) (c .before .before .before .before .before .if1 .left) (s .args .p) (c .before .before .before .before .end-at .result) (c .before .start-at .result) (c .after .result)
+    (c .before .before .before .before .end-at .ensures) (c .before .before .if2 .left) (c .before .start-at .ensures) (c .after .ensures)
 
 pub last-spec : {M : Type 1} → statement M
 last-spec =

@@ -15,7 +15,9 @@ returns c = rw (eq-eqb (c .before .args .start) 0 (c .if1 .taken))
 
 returns-2 : tie.Need-returns-2
 unfolding gapWidth isInner
-returns-2 c = rw (ne-eqb (c .before .before .args .start) 0 (c .before .if1 .left), eq-eqb (c .before .before .args .end) (c .before .before .args .n) (c .if2 .taken))
+returns-2 c =
+    let s = c .before .before .before .args in
+    rw (ne-eqb (s .start) 0 (c .before .before .if1 .left), eq-eqb (s .end) (s .p .frames) (c .if2 .taken))
 
 silence-bounds-requires : tie.Need-silence-bounds-requires
 silence-bounds-requires c κs = search needs
@@ -26,7 +28,8 @@ less-requires c κs = search needs
 returns-3 : tie.Need-returns-3
 unfolding gapWidth isInner
 returns-3 c =
-    rw (ne-eqb (c .before .before .before .before .args .start) 0 (c .before .before .before .if1 .left), ne-eqb (c .before .before .before .before .args .end) (c .before .before .before .before .args .n) (c .before .before .if2 .left))
+    let s = c .before .before .before .before .before .args in
+    rw (ne-eqb (s .start) 0 (c .before .before .before .before .if1 .left), ne-eqb (s .end) (s .p .frames) (c .before .before .if2 .left))
     (c .less .ensures ∙ ap (λ (b : Bounds). b .hi - b .lo) (c .before .silence-bounds .ensures))
 
 pub gap-width-spec : {M : Type 1} → statement M

@@ -19,13 +19,13 @@ returns-2 : tie.Need-returns-2
 unfolding innerFrom
 returns-2 c =
     let s = c .before .before .before .before in
-    rw (lt-ltb 0 (s .args .count) (omega (arith, c .before .before .if1 .left)), eq-eqb (startAt (s .args .silences .now) 0) 0 (sym (c .before .start-at .ensures) ∙ c .if2 .taken))
+    rw (lt-ltb 0 (s .args .silences) (omega (arith, c .before .before .if1 .left)), eq-eqb (startAt (s .args .work-u32 .now) 0) 0 (sym (c .before .start-at .ensures) ∙ c .if2 .taken))
 
 returns-3 : tie.Need-returns-3
 unfolding innerFrom
 returns-3 c =
     let s = c .before .before .before .before in
-    rw (lt-ltb 0 (s .args .count) (omega (arith, c .before .before .if1 .left)), ne-eqb (startAt (s .args .silences .now) 0) 0 (λ e. c .if2 .left (c .before .start-at .ensures ∙ e)))
+    rw (lt-ltb 0 (s .args .silences) (omega (arith, c .before .before .if1 .left)), ne-eqb (startAt (s .args .work-u32 .now) 0) 0 (λ e. c .if2 .left (c .before .start-at .ensures ∙ e)))
 
 pub inner-from-spec : {M : Type 1} → statement M
 inner-from-spec = tie.close (tie.spec returns start-at-requires returns-2 returns-3)

@@ -26,13 +26,13 @@ returns-2 : tie.Need-returns-2
 unfolding innerTo
 returns-2 c =
     let s = c .before .before .before .before in
-    rw (lt-ltb 0 (s .args .count) (omega (arith, c .before .before .if1 .left)), eq-eqb (endAt (s .args .silences .now) (s .args .count - 1)) (s .args .frames) (sym (c .before .end-at .ensures) ∙ c .if2 .taken))
+    rw (lt-ltb 0 (s .args .silences) (omega (arith, c .before .before .if1 .left)), eq-eqb (endAt (s .args .work-u32 .now) (s .args .silences - 1)) (s .args .frames) (sym (c .before .end-at .ensures) ∙ c .if2 .taken))
 
 returns-3 : tie.Need-returns-3
 unfolding innerTo
 returns-3 c =
     let s = c .before .before .before .before in
-    rw (lt-ltb 0 (s .args .count) (omega (arith, c .before .before .if1 .left)), ne-eqb (endAt (s .args .silences .now) (s .args .count - 1)) (s .args .frames) (λ e. c .if2 .left (c .before .end-at .ensures ∙ e)))
+    rw (lt-ltb 0 (s .args .silences) (omega (arith, c .before .before .if1 .left)), ne-eqb (endAt (s .args .work-u32 .now) (s .args .silences - 1)) (s .args .frames) (λ e. c .if2 .left (c .before .end-at .ensures ∙ e)))
 
 pub inner-to-spec : {M : Type 1} → statement M
 inner-to-spec =

@@ -1,72 +1,78 @@
 -- `collect::pass_all`: the walk of CollectStep, step by step.
 use borrow.Author.Needs.{needs}
 use native.Mathlib.Omega.{arith}
-use mathlib.Core.Path.{refl}
-use Prim.Native.Nat.{_-_}
+use mathlib.Core.Path.{refl, ap}
+use mathlib.Core.Bool.{not}
+use Prim.Native.Nat.{ℕ, _+_, _-_}
+use lib.Dec.{eqb}
+use lib.ListN.{getD}
 use Rattle.candidate_walk.specs.CollectStep.{WalkHolds, last-in, first-below, walk-lengths, walk-passing}
 use Rattle.candidate_walk.specs.CollectNext.{walk-next, walk-start, walk-done}
 use Rattle.candidate_walk.proofs.collect.pass_all.Statement.{statement}
 use Rattle.candidate_walk.proofs.collect.pass_all.Tie as tie
 
 abbrev Inv-loop : tie.InvT-loop
-Inv-loop x count stop first last from work-u32₀ work-f64₀ w₀ k₀ work-u32 work-f64 w k = WalkHolds x count stop first last from work-u32₀ work-f64₀ k w work-u32 work-f64
+Inv-loop x span stop from work-u32₀ work-f64₀ marks₀ w₀ k₀ k-end₀ work-u32 work-f64 w k = WalkHolds x span stop from work-u32₀ work-f64₀ k w work-u32 work-f64
 
 abbrev μ-loop : tie.MeasureT-loop
-μ-loop x count stop first last from work-u32₀ work-f64₀ w₀ k₀ work-u32 work-f64 w k = last - k
+μ-loop x span stop from work-u32₀ work-f64₀ marks₀ w₀ k₀ k-end₀ work-u32 work-f64 w k = span .last - k
+
+marks-at-requires : tie.Need-marks-at-requires Inv-loop μ-loop
+marks-at-requires c κs = search needs
 
 add-k : tie.Need-add-k Inv-loop μ-loop
 add-k c =
-    let s = c .before .before in
-    let a = s .args in
-    omega (arith, first-below (a .x) (a .count) (a .stop) (a .first) (a .last) (a .from) (a .work-u32 .now) (a .work-f64 .now) (s .pre .0) (s .pre .1 .0), last-in (a .x) (a .count) (a .stop) (a .first) (a .last) (a .from) (a .work-u32 .now) (a .work-f64 .now) (s .pre .0) (s .pre .1 .0), s .pre .0 .holding .few)
+    let s = c .before .before .before .before in
+    omega (arith, first-below (s .pre .0) (s .pre .1 .0), last-in (s .pre .0) (s .pre .1 .0), s .pre .0 .holding .few)
 
 loop-holds : tie.Need-loop-holds Inv-loop μ-loop
 loop-holds c =
-    let s = c .before .before in
-    let a = s .args in
-    walk-start (a .x) (a .count) (a .stop) (a .first) (a .last) (a .from) (a .work-u32 .now) (a .work-f64 .now) (s .pre .0) (s .pre .1 .0) (record { silence = a .from; own = a .own; written = 1 }) refl (s .pre .1 .1) refl
+    let s = c .before .before .before .before in
+    walk-start (s .pre .0) (s .pre .1 .0) refl (s .pre .1 .1) refl
+
+add-marked : tie.Need-add-marked Inv-loop μ-loop
+add-marked c =
+    let s = c .before .before .before .before .before .before in
+    omega (arith, c .before .before .before .marks-at .ensures, c .loop-test .taken, last-in (s .pre .0) (s .pre .1 .0), s .pre .0 .holding .few)
+
+mul-marked : tie.Need-mul-marked Inv-loop μ-loop
+mul-marked c =
+    let s = c .before .before .before .before .before .before in
+    omega (arith, c .before .before .before .marks-at .ensures, c .loop-test .taken, last-in (s .pre .0) (s .pre .1 .0), s .pre .0 .holding .few)
+
+slice-read-marked : tie.Need-slice-read-marked Inv-loop μ-loop
+slice-read-marked c =
+    let s = c .before .before .before .before .before .before .before in
+    omega (arith, c .before .before .before .before .marks-at .ensures, c .before .loop-test .taken, last-in (s .pre .0) (s .pre .1 .0), s .pre .0 .holding .room, walk-lengths (s .pre .0) (s .pre .1 .0) (c .before .before .loop .inv) .0)
 
 pass-requires : tie.Need-pass-requires Inv-loop μ-loop
 pass-requires c κs =
-    let s = c .before .before .before .before .before .before in
-    let a = s .args in
-    let l = c .before .before .before .loop in
-    walk-passing (a .x) (a .count) (a .stop) (a .first) (a .last) (a .from) (a .work-u32 .now) (a .work-f64 .now) (s .pre .0) (s .pre .1 .0) (l .k) (l .w) (l .work-u32) (l .work-f64) (l .inv) (c .before .before .loop-test .taken)
+    let s = c .before .before .before .before .before .before .before .before .before in
+    walk-passing (s .pre .0) (s .pre .1 .0) (c .before .before .before .before .loop .inv) (c .before .before .before .loop-test .taken)
 
 add-k-2 : tie.Need-add-k-2 Inv-loop μ-loop
 add-k-2 c = search needs
 
 loop-less : tie.Need-loop-less Inv-loop μ-loop
-loop-less c = omega (arith, c .before .before .before .before .before .before .before .loop-test .taken)
+loop-less c = omega (arith, c .before .before .before .before .before .before .before .before .loop-test .taken)
 
 loop-again : tie.Need-loop-again Inv-loop μ-loop
 loop-again c =
-    let s = c .before .before .before .before .before .before .before .before .before .before .before in
-    let a = s .args in
-    let l = c .before .before .before .before .before .before .before .before .loop in
+    let s = c .before .before .before .before .before .before .before .before .before .before .before .before .before .before in
+    let l = c .before .before .before .before .before .before .before .before .before .loop in
     let e = c .before .before .before .before .pass .ensures in
-    walk-next (a .x) (a .count) (a .stop) (a .first) (a .last) (a .from) (a .work-u32 .now) (a .work-f64 .now) (s .pre .0) (s .pre .1 .0) (l .k) (l .w) (l .work-u32) (l .work-f64) (l .inv) (c .before .before .before .before .before .before .before .loop-test .taken) (c .before .before .before .before .pass .result) _ _ (e .0) (e .1 .0) (e .1 .1)
+    walk-next (s .pre .0) (s .pre .1 .0) (l .inv) (c .before .before .before .before .before .before .before .before .loop-test .taken) (ap (λ (at : ℕ). not (eqb (getD (l .work-u32) (at + l .k) 0) 0)) (c .before .before .before .before .before .before .before .before .before .before .before .marks-at .ensures)) (e .0) (e .1 .0) (e .1 .1)
 
 same-length : tie.Need-same-length Inv-loop μ-loop
-same-length c =
-    let s = c .before .before .before .before in
-    let a = s .args in
-    let l = c .before .loop in
-    walk-lengths (a .x) (a .count) (a .stop) (a .first) (a .last) (a .from) (a .work-u32 .now) (a .work-f64 .now) (s .pre .0) (s .pre .1 .0) (l .k) (l .w) (l .work-u32) (l .work-f64) (l .inv) .0
+same-length c = let s = c .before .before .before .before .before .before in walk-lengths (s .pre .0) (s .pre .1 .0) (c .before .loop .inv) .0
 
 same-length-2 : tie.Need-same-length-2 Inv-loop μ-loop
-same-length-2 c =
-    let s = c .before .before .before .before in
-    let a = s .args in
-    let l = c .before .loop in
-    walk-lengths (a .x) (a .count) (a .stop) (a .first) (a .last) (a .from) (a .work-u32 .now) (a .work-f64 .now) (s .pre .0) (s .pre .1 .0) (l .k) (l .w) (l .work-u32) (l .work-f64) (l .inv) .1
+same-length-2 c = let s = c .before .before .before .before .before .before in walk-lengths (s .pre .0) (s .pre .1 .0) (c .before .loop .inv) .1
 
 returns : tie.Need-returns Inv-loop μ-loop
 returns c =
-    let s = c .before .before .before .before in
-    let a = s .args in
-    let l = c .before .loop in
-    let d = walk-done (a .x) (a .count) (a .stop) (a .first) (a .last) (a .from) (a .work-u32 .now) (a .work-f64 .now) (s .pre .0) (s .pre .1 .0) (l .k) (l .w) (l .work-u32) (l .work-f64) (c .loop-test .left) (l .inv) in
+    let s = c .before .before .before .before .before .before in
+    let d = walk-done (s .pre .0) (s .pre .1 .0) (c .loop-test .left) (c .before .loop .inv) in
     (d .0, (d .1, d .2))
 
 pub pass-all-spec : {M : Type 1} → statement M
@@ -75,8 +81,12 @@ pass-all-spec =
     (tie.spec
     Inv-loop
     μ-loop
+    marks-at-requires
     add-k
     loop-holds
+    add-marked
+    mul-marked
+    slice-read-marked
     pass-requires
     add-k-2
     loop-less

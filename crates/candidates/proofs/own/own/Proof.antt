@@ -27,8 +27,8 @@ cut-cost-requires c κs = search needs
 
 returns : tie.Need-returns
 returns c =
-    let s = c .before .before .before .before .before .before .before .before in
-    own-is (s .args .x) (s .args .silences .now) (s .args .levels .now) (s .args .i) (c .before .before .before .before .before .start-at .result) (c .before .before .before .before .end-at .result) (c .before .before .silence-cut .result) (c .before .secs-of .result) (c .cut-cost .result) (c .before .before .before .before .before .start-at .ensures) (c .before .before .before .before .end-at .ensures) (c .before .before .silence-cut .ensures) (c .before .secs-of .ensures) (c .cut-cost .ensures)
+    let s = c .before .before .before .before .before .before .before .before .before in
+    own-is (s .args .x) (s .args .silences .now) (s .args .levels .now) (s .args .i) (c .before .before .before .before .before .before .start-at .result) (c .before .before .before .before .before .end-at .result) (c .before .before .silence-cut .result) (c .before .secs-of .result) (c .cut-cost .result) (c .before .before .before .before .before .before .start-at .ensures) (c .before .before .before .before .before .end-at .ensures) (c .before .before .silence-cut .ensures) (c .before .secs-of .ensures) (c .cut-cost .ensures)
 
 pub own-spec : {M : Type 1} → statement M
 own-spec =

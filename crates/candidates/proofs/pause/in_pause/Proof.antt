@@ -6,7 +6,7 @@ use Rattle.candidates.proofs.pause.in_pause.Statement.{statement}
 use Rattle.candidates.proofs.pause.in_pause.Tie as tie
 
 first-ending-requires : tie.Need-first-ending-requires
-first-ending-requires c κs = listed-rise (c .before .args .x .frames) (c .before .args .silences .now) (c .before .pre)
+first-ending-requires c κs = listed-rise (c .before .args .x .padding .frames) (c .before .args .silences .now) (c .before .pre)
 
 returns : tie.Need-returns
 returns c = let s = c .before .before .before in sym (pause-none (s .args .x) (s .args .silences .now) (s .args .k) (c .before .first-ending .result) (c .before .first-ending .ensures) (c .if1 .taken))
@@ -22,13 +22,13 @@ silence-bounds-requires c κs = search needs
 
 returns-2 : tie.Need-returns-2
 returns-2 c =
-    let s = c .before .before .before .before .before .before .before .before in
-    pause-before (s .args .x) (s .args .silences .now) (s .args .k) (c .before .before .before .before .before .before .first-ending .result) (c .before .before .before .before .start-at .result) (c .before .before .before .end-at .result) (c .before .before .silence-bounds .result) (s .pre) (c .before .before .before .before .before .before .first-ending .ensures) (c .before .before .before .before .before .if1 .left) (c .before .before .before .before .start-at .ensures) (c .before .before .before .end-at .ensures) (c .before .before .silence-bounds .ensures) (c .if2 .taken)
+    let s = c .before .before .before .before .before .before .before .before .before in
+    pause-before (s .args .x) (s .args .silences .now) (s .args .k) (c .before .before .before .before .before .before .before .first-ending .result) (c .before .before .before .before .before .start-at .result) (c .before .before .before .before .end-at .result) (c .before .before .silence-bounds .result) (s .pre) (c .before .before .before .before .before .before .before .first-ending .ensures) (c .before .before .before .before .before .before .if1 .left) (c .before .before .before .before .before .start-at .ensures) (c .before .before .before .before .end-at .ensures) (c .before .before .silence-bounds .ensures) (c .if2 .taken)
 
 returns-3 : tie.Need-returns-3
 returns-3 c =
-    let s = c .before .before .before .before .before .before .before .before .before in
-    pause-from (s .args .x) (s .args .silences .now) (s .args .k) (c .before .before .before .before .before .before .before .first-ending .result) (c .before .before .before .before .before .start-at .result) (c .before .before .before .before .end-at .result) (c .before .before .before .silence-bounds .result) (s .pre) (c .before .before .before .before .before .before .before .first-ending .ensures) (c .before .before .before .before .before .before .if1 .left) (c .before .before .before .before .before .start-at .ensures) (c .before .before .before .before .end-at .ensures) (c .before .before .before .silence-bounds .ensures) (c .before .if2 .left)
+    let s = c .before .before .before .before .before .before .before .before .before .before in
+    pause-from (s .args .x) (s .args .silences .now) (s .args .k) (c .before .before .before .before .before .before .before .before .first-ending .result) (c .before .before .before .before .before .before .start-at .result) (c .before .before .before .before .before .end-at .result) (c .before .before .before .silence-bounds .result) (s .pre) (c .before .before .before .before .before .before .before .before .first-ending .ensures) (c .before .before .before .before .before .before .before .if1 .left) (c .before .before .before .before .before .before .start-at .ensures) (c .before .before .before .before .before .end-at .ensures) (c .before .before .before .silence-bounds .ensures) (c .before .if2 .left)
 
 pub in-pause-spec : {M : Type 1} → statement M
 in-pause-spec =

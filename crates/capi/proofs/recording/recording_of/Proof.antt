@@ -3,11 +3,11 @@ use borrow.Author.Needs.{needs}
 use Rattle.capi.proofs.recording.recording_of.Statement.{statement}
 use Rattle.capi.proofs.recording.recording_of.Tie as tie
 
-domain-requires : tie.Need-domain-requires
-domain-requires c κs = search needs
+domain-of-requires : tie.Need-domain-of-requires
+domain-of-requires c κs = search needs
 
 returns : tie.Need-returns
-returns c = rw (← c .domain .ensures)
+returns c = rw (← c .domain-of .ensures)
 
 pub recording-of-spec : {M : Type 1} → statement M
-recording-of-spec = tie.close (tie.spec domain-requires returns)
+recording-of-spec = tie.close (tie.spec domain-of-requires returns)

@@ -6,14 +6,14 @@ use Rattle.capi.proofs.settings.plan_config.Tie as tie
 mode-of-requires : tie.Need-mode-of-requires
 mode-of-requires c κs = search needs
 
-gap-setting-requires : tie.Need-gap-setting-requires
-gap-setting-requires c κs = search needs
+gap-of-requires : tie.Need-gap-of-requires
+gap-of-requires c κs = search needs
 
 placement-of-requires : tie.Need-placement-of-requires
 placement-of-requires c κs = search needs
 
 returns : tie.Need-returns
-returns c = rw (← c .before .before .mode-of .ensures, ← c .before .gap-setting .ensures, ← c .placement-of .ensures)
+returns c = rw (← c .before .before .mode-of .ensures, ← c .before .gap-of .ensures, ← c .placement-of .ensures)
 
 pub plan-config-spec : {M : Type 1} → statement M
-plan-config-spec = tie.close (tie.spec mode-of-requires gap-setting-requires placement-of-requires returns)
+plan-config-spec = tie.close (tie.spec mode-of-requires gap-of-requires placement-of-requires returns)

@@ -9,15 +9,15 @@ use Rattle.completion.proofs.bridge.complete_max.Statement.{statement}
 use Rattle.completion.proofs.bridge.complete_max.Tie as tie
 
 abbrev Inv-loop : tie.InvT-loop
-Inv-loop g base held steps limit work₀ i₀ work i = Completing g base held steps limit work₀ i work
+Inv-loop g base entries steps limit work₀ i₀ work i = Completing g base entries steps limit work₀ i work
 
 abbrev μ-loop : tie.MeasureT-loop
-μ-loop g base held steps limit work₀ i₀ work i = steps - i
+μ-loop g base entries steps limit work₀ i₀ work i = steps - i
 
 loop-holds : tie.Need-loop-holds Inv-loop μ-loop
 loop-holds c =
     let a = c .before .args in
-    completing-start (a .g) (a .base) (a .held) (a .steps) (a .limit) (a .work .now) (c .before .pre)
+    completing-start (a .g) (a .base) (a .entries) (a .steps) (a .limit) (a .work .now) (c .before .pre)
 
 mul-from : tie.Need-mul-from Inv-loop μ-loop
 mul-from c = omega (arith, c .loop-test .taken, c .before .before .before .pre .room, c .before .before .before .fits)
@@ -35,7 +35,7 @@ slice-read-from : tie.Need-slice-read-from Inv-loop μ-loop
 slice-read-from c = omega (arith, c .before .loop-test .taken, c .before .before .before .before .pre .room, c .before .before .loop .inv .size)
 
 cast-from : tie.Need-cast-from Inv-loop μ-loop
-cast-from c = omega (arith, c .slice-known2 .given (c .before .before .before .before .args .held + 3 * c .before .before .loop .i + 1))
+cast-from c = omega (arith, c .slice-known2 .given (c .before .before .before .before .args .entries + 3 * c .before .before .loop .i + 1))
 
 mul-end : tie.Need-mul-end Inv-loop μ-loop
 mul-end c = omega (arith, c .before .loop-test .taken, c .before .before .before .before .pre .room, c .before .before .before .before .fits)
@@ -53,14 +53,14 @@ slice-read-end : tie.Need-slice-read-end Inv-loop μ-loop
 slice-read-end c = omega (arith, c .before .before .loop-test .taken, c .before .before .before .before .before .pre .room, c .before .before .before .loop .inv .size)
 
 cast-end : tie.Need-cast-end Inv-loop μ-loop
-cast-end c = omega (arith, c .slice-known3 .given (c .before .before .before .before .before .args .held + 3 * c .before .before .before .loop .i + 3))
+cast-end c = omega (arith, c .slice-known3 .given (c .before .before .before .before .before .args .entries + 3 * c .before .before .before .loop .i + 3))
 
 bridge-requires : tie.Need-bridge-requires Inv-loop μ-loop
 bridge-requires c κs =
     let a = c .before .before .before .before .before .before .args in
     let l = c .before .before .before .before .loop in
-    completing-fit (a .g) (a .base) (a .held) (a .steps) (a .limit) (a .work .now) (c .before .before .before .before .before .before .pre) (l .i) (l .work) (l .inv) (c .before .before .before .loop-test .taken)
-    (getD (l .work) (a .held + 3 * l .i + 1) 0) (getD (l .work) (a .held + 3 * l .i + 3) 0) refl refl
+    completing-fit (a .g) (a .base) (a .entries) (a .steps) (a .limit) (a .work .now) (c .before .before .before .before .before .before .pre) (l .i) (l .work) (l .inv) (c .before .before .before .loop-test .taken)
+    (getD (l .work) (a .entries + 3 * l .i + 1) 0) (getD (l .work) (a .entries + 3 * l .i + 3) 0) refl refl
 
 add-i : tie.Need-add-i Inv-loop μ-loop
 add-i c = search needs
@@ -72,8 +72,8 @@ loop-again : tie.Need-loop-again Inv-loop μ-loop
 loop-again c =
     let a = c .before .before .before .before .before .before .before .before .before .args in
     let l = c .before .before .before .before .before .before .before .loop in
-    completing-next (a .g) (a .base) (a .held) (a .steps) (a .limit) (a .work .now) (c .before .before .before .before .before .before .before .before .before .pre) (l .i) (l .work) (l .inv) (c .before .before .before .before .before .before .loop-test .taken)
-    (getD (l .work) (a .held + 3 * l .i + 1) 0) (getD (l .work) (a .held + 3 * l .i + 3) 0) refl refl _ (c .before .before .bridge .ensures)
+    completing-next (a .g) (a .base) (a .entries) (a .steps) (a .limit) (a .work .now) (c .before .before .before .before .before .before .before .before .before .pre) (l .i) (l .work) (l .inv) (c .before .before .before .before .before .before .loop-test .taken)
+    (getD (l .work) (a .entries + 3 * l .i + 1) 0) (getD (l .work) (a .entries + 3 * l .i + 3) 0) refl refl _ (c .before .before .bridge .ensures)
 
 same-length : tie.Need-same-length Inv-loop μ-loop
 same-length c = c .before .loop .inv .size
@@ -82,7 +82,7 @@ returns : tie.Need-returns Inv-loop μ-loop
 returns c =
     let a = c .before .before .before .args in
     let l = c .before .loop in
-    completing-done (a .g) (a .base) (a .held) (a .steps) (a .limit) (a .work .now) (c .before .before .before .pre) (l .i) (l .work) (l .inv) (c .loop-test .left)
+    completing-done (a .g) (a .base) (a .entries) (a .steps) (a .limit) (a .work .now) (c .before .before .before .pre) (l .i) (l .work) (l .inv) (c .loop-test .left)
 
 pub complete-max-spec : {M : Type 1} → statement M
 complete-max-spec =

@@ -1,15 +1,14 @@
 -- `fits::fits`: what is left of the way from the boundary that was come to, with the pieces that are left, decides as the whole way does.
 use borrow.Author.Needs.{needs}
-use native.Mathlib.Omega.{arith}
 use mathlib.Core.Path.{_≡_, sym, _∙_}
-use Rattle.completion.specs.Ground.{spanIn}
+use Rattle.candidate_span.specs.Span.{spanIn}
 use Rattle.completion.specs.Fits.{fitsFrom, fitsOf}
 use Rattle.completion.specs.FitsLaws.{fits-whole, fits-stuck, fits-to, fits-none}
 use Rattle.completion.proofs.fits.fits.Statement.{statement}
 use Rattle.completion.proofs.fits.fits.Tie as tie
 
 abbrev Inv-loop : tie.InvT-loop
-Inv-loop x silences pieces limit at₀ left₀ at left = fitsFrom (x .grid) (spanIn x silences) limit left at ≡ fitsOf (x .grid) (spanIn x silences) limit pieces
+Inv-loop x silences pieces limit at₀ left₀ at left = fitsFrom (x .grid) (spanIn (x .gap) (x .padding) (x .span) silences) limit left at ≡ fitsOf (x .grid) (spanIn (x .gap) (x .padding) (x .span) silences) limit pieces
 
 abbrev μ-loop : tie.MeasureT-loop
 μ-loop x silences pieces limit at₀ left₀ at left = left
@@ -27,7 +26,7 @@ returns : tie.Need-returns Inv-loop μ-loop
 returns c =
     let a = c .before .before .before .before .before .before .args in
     let l = c .before .before .before .before .loop in
-    sym (fits-whole (a .x .grid) (spanIn (a .x) (a .silences .now)) (a .limit) (l .left) (l .at) (c .before .before .before .loop-test .taken) (c .before .before .next-cut .result) (c .before .before .next-cut .ensures) (c .enum-told .given .1)) ∙ l .inv
+    sym (fits-whole (a .x .grid) _ (a .limit) (l .left) (l .at) (c .before .before .before .loop-test .taken) (c .before .before .next-cut .result) (c .before .before .next-cut .ensures) (c .enum-told .given .1)) ∙ l .inv
 
 enum-told-2 : tie.Need-enum-told-2 Inv-loop μ-loop
 enum-told-2 c = search needs
@@ -36,7 +35,7 @@ returns-2 : tie.Need-returns-2 Inv-loop μ-loop
 returns-2 c =
     let a = c .before .before .before .before .before .before .args in
     let l = c .before .before .before .before .loop in
-    sym (fits-stuck (a .x .grid) (spanIn (a .x) (a .silences .now)) (a .limit) (l .left) (l .at) (c .before .before .before .loop-test .taken) (c .before .before .next-cut .result) (c .before .before .next-cut .ensures) (c .enum-told2 .given .1)) ∙ l .inv
+    sym (fits-stuck (a .x .grid) _ (a .limit) (l .left) (l .at) (c .before .before .before .loop-test .taken) (c .before .before .next-cut .result) (c .before .before .next-cut .ensures) (c .enum-told2 .given .1)) ∙ l .inv
 
 enum-known-step : tie.Need-enum-known-step Inv-loop μ-loop
 enum-known-step c = search needs
@@ -52,13 +51,13 @@ loop-again c =
     let a = c .before .before .before .before .before .before .before .args in
     let l = c .before .before .before .before .before .loop in
     let t = c .before .step .given in
-    sym (fits-to (a .x .grid) (spanIn (a .x) (a .silences .now)) (a .limit) (l .left) (l .at) (c .before .before .before .before .loop-test .taken) (c .before .before .before .next-cut .result) (c .before .before .before .next-cut .ensures) (t .0 .0) (t .0 .1 .0) (t .1)) ∙ l .inv
+    sym (fits-to (a .x .grid) _ (a .limit) (l .left) (l .at) (c .before .before .before .before .loop-test .taken) (c .before .before .before .next-cut .result) (c .before .before .before .next-cut .ensures) (t .0 .0) (t .0 .1 .0) (t .1)) ∙ l .inv
 
 returns-3 : tie.Need-returns-3 Inv-loop μ-loop
 returns-3 c =
     let a = c .before .before .before .args in
     let l = c .before .loop in
-    sym (fits-none (a .x .grid) (spanIn (a .x) (a .silences .now)) (a .limit) (l .left) (l .at) (c .loop-test .left)) ∙ l .inv
+    sym (fits-none (a .x .grid) _ (a .limit) (l .left) (l .at) (c .loop-test .left)) ∙ l .inv
 
 pub fits-spec : {M : Type 1} → statement M
 fits-spec =

@@ -1,8 +1,8 @@
 -- `place::place_at`: one law for each setting.
 use borrow.Author.Needs.{needs}
 use mathlib.Core.Path.{_≡_, sym, ap}
-use Rattle.candidate_settings.specs.declared.config.Gap.{Gap}
-use Rattle.candidate_settings.specs.declared.config.Gap.the-variants.{Keep, Drop}
+use Rattle.plan_settings.specs.declared.config.Gap.{Gap}
+use Rattle.plan_settings.specs.declared.config.Gap.the-variants.{Keep, Drop}
 use Rattle.completion.specs.Place.{cutOf}
 use Rattle.completion.specs.PlaceLaws.{place-keep}
 use Rattle.completion.proofs.place.place_at.Statement.{statement}
@@ -19,13 +19,13 @@ dropped-place-requires c κs = search needs
 
 returns : tie.Need-returns
 returns c =
-    let a = c .before .before .before .before .args in
+    let a = c .before .before .before .args in
     let e : _≡_ {A = Gap} (a .x .gap) Keep = cc in
-    rw e (ap cutOf (sym (place-keep (a .x .grid .frames) (a .x .pre) (a .x .tail) (a .silences .now) (a .k))))
+    rw e (ap cutOf (sym (place-keep (a .x .padding) (a .silences .now) (a .k))))
 
 returns-2 : tie.Need-returns-2
 returns-2 c =
-    let a = c .before .before .before .before .before .args in
+    let a = c .before .before .before .before .args in
     let e : _≡_ {A = Gap} (a .x .gap) Drop = cc in
     rw e (c .dropped-place .ensures)
 

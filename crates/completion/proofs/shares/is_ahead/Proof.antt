@@ -10,7 +10,7 @@ gap-width-requires c κs = search needs
 returns : tie.Need-returns
 returns c =
     let a = c .before .before .args in
-    ahead-none (a .n) (a .pre) (a .tail) (a .start) (a .end) (a .k) (c .before .gap-width .result) (c .before .gap-width .ensures) (c .if1 .taken)
+    ahead-none (a .p) (a .start) (a .end) (a .k) (c .before .gap-width .result) (c .before .gap-width .ensures) (c .if1 .taken)
 
 silence-bounds-requires : tie.Need-silence-bounds-requires
 silence-bounds-requires c κs = search needs
@@ -18,7 +18,7 @@ silence-bounds-requires c κs = search needs
 returns-2 : tie.Need-returns-2
 returns-2 c =
     let a = c .before .before .before .before .args in
-    ahead-some (a .n) (a .pre) (a .tail) (a .start) (a .end) (a .k) (c .before .before .before .gap-width .result) (c .before .before .before .gap-width .ensures) (c .before .before .if1 .left)
+    ahead-some (a .p) (a .start) (a .end) (a .k) (c .before .before .before .gap-width .result) (c .before .before .before .gap-width .ensures) (c .before .before .if1 .left)
     (c .before .silence-bounds .result) (c .before .silence-bounds .ensures)
 
 pub is-ahead-spec : {M : Type 1} → statement M

@@ -2,6 +2,7 @@
 use borrow.Author.Needs.{needs}
 use native.Mathlib.Omega.{arith}
 use Prim.Native.Nat.{_-_}
+use Rattle.plan_settings.specs.declared.config.Gap.the-variants.{Drop}
 use Rattle.candidate_span.specs.Listed.{count}
 use Rattle.completion.specs.Counted.{Counting}
 use Rattle.completion.specs.CountedLaws.{counting-next, counting-width, counted-all, counted-here}
@@ -9,10 +10,10 @@ use Rattle.completion.proofs.shares.pass_gaps.Statement.{statement}
 use Rattle.completion.proofs.shares.pass_gaps.Tie as tie
 
 abbrev Inv-loop : tie.InvT-loop
-Inv-loop n pre tail silences at i₀ removed₀ i removed = Counting n pre tail silences at i removed
+Inv-loop p silences at i₀ removed₀ i removed = Counting Drop p silences at (record { silences = i; removed = removed })
 
 abbrev μ-loop : tie.MeasureT-loop
-μ-loop n pre tail silences at i₀ removed₀ i removed = count silences - i
+μ-loop p silences at i₀ removed₀ i removed = count silences - i
 
 loop-holds : tie.Need-loop-holds Inv-loop μ-loop
 loop-holds c = c .before .pre .0
@@ -35,7 +36,7 @@ returns c =
     let l = c .before .before .before .before .before .loop in
     record {
       counting = l .inv;
-      here = counted-here (a .n) (a .pre) (a .tail) (a .silences .now) (a .at) (l .i) (l .removed) (l .inv) (c .before .before .before .before .loop-test .taken) (c .before .before .before .start-at .result) (c .before .before .end-at .result)
+      here = counted-here (a .p) (a .silences .now) (a .at) (l .i) (l .removed) (l .inv) (c .before .before .before .before .loop-test .taken) (c .before .before .before .start-at .result) (c .before .before .end-at .result)
           (c .before .before .before .start-at .ensures) (c .before .before .end-at .ensures) (c .before .is-ahead .result) (c .before .is-ahead .ensures) (c .if1 .taken);
     }
 
@@ -50,7 +51,7 @@ add-removed c =
       arith,
       c .gap-width .ensures,
       c .before .before .before .before .before .before .before .before .pre .1,
-      counting-width (a .n) (a .pre) (a .tail) (a .silences .now) (a .at) (l .i) (l .removed) (l .inv) (c .before .before .before .before .before .loop-test .taken)
+      counting-width (a .p) (a .silences .now) (a .at) (l .i) (l .removed) (l .inv) (c .before .before .before .before .before .loop-test .taken)
           (c .before .before .before .before .start-at .result) (c .before .before .before .end-at .result) (c .before .before .before .before .start-at .ensures) (c .before .before .before .end-at .ensures),
     )
 
@@ -64,14 +65,14 @@ loop-again : tie.Need-loop-again Inv-loop μ-loop
 loop-again c =
     let a = c .before .before .before .before .before .before .before .before .args in
     let l = c .before .before .before .before .before .before .loop in
-    counting-next (a .n) (a .pre) (a .tail) (a .silences .now) (a .at) (l .i) (l .removed) (l .inv) (c .before .before .before .before .before .loop-test .taken) (c .before .before .before .before .start-at .result) (c .before .before .before .end-at .result)
+    counting-next (a .p) (a .silences .now) (a .at) (l .i) (l .removed) (l .inv) (c .before .before .before .before .before .loop-test .taken) (c .before .before .before .before .start-at .result) (c .before .before .before .end-at .result)
     (c .before .before .before .before .start-at .ensures) (c .before .before .before .end-at .ensures) (c .before .before .is-ahead .result) (c .before .before .is-ahead .ensures) (c .before .if1 .left) (c .gap-width .result) (c .gap-width .ensures)
 
 returns-2 : tie.Need-returns-2 Inv-loop μ-loop
 returns-2 c =
     let a = c .before .before .before .args in
     let l = c .before .loop in
-    record { counting = l .inv; here = counted-all (a .n) (a .pre) (a .tail) (a .silences .now) (a .at) (l .i) (l .removed) (l .inv) (c .loop-test .left) }
+    record { counting = l .inv; here = counted-all (a .p) (a .silences .now) (a .at) (l .i) (l .removed) (l .inv) (c .loop-test .left) }
 
 pub pass-gaps-spec : {M : Type 1} → statement M
 pass-gaps-spec =

@@ -23,8 +23,8 @@ copy-bytes-requires c κs =
 enum-told-2 : tie.Need-enum-told-2
 enum-told-2 c = search needs
 
-put-no-flags-requires : tie.Need-put-no-flags-requires
-put-no-flags-requires c κs = search needs
+put-zeros-requires : tie.Need-put-zeros-requires
+put-zeros-requires c κs = search needs
 
 same-length : tie.Need-same-length
 same-length c = search needs
@@ -38,7 +38,7 @@ same-length-2 c = search needs
 
 returns-2 : tie.Need-returns-2
 unfolding flagsIn
-returns-2 c = rw (c .before .before .before .before .enum-told2 .given .1) (c .before .before .put-no-flags .ensures)
+returns-2 c = rw (c .before .before .before .before .enum-told2 .given .1) (c .before .before .put-zeros .ensures)
 
 pub put-flags-spec : {M : Type 1} → statement M
 put-flags-spec =
@@ -49,7 +49,7 @@ put-flags-spec =
     add-copy-bytes
     copy-bytes-requires
     enum-told-2
-    put-no-flags-requires
+    put-zeros-requires
     same-length
     returns
     same-length-2

@@ -30,10 +30,10 @@ returns c = (
   rw (
     c .first-unknown .ensures,
     c .before .gap-of .ensures,
-    c .before .before .placement-at .ensures .1,
-    c .before .before .before .kind-field .ensures .1,
-    c .before .before .before .before .stands .ensures,
-    c .before .before .before .before .before .mode-at .ensures .1,
+    c .before .before .before .placement-at .ensures .1,
+    c .before .before .before .before .kind-field .ensures .1,
+    c .before .before .before .before .before .stands .ensures,
+    c .before .before .before .before .before .before .mode-at .ensures .1,
   ),
 )
 

@@ -1,21 +1,21 @@
 -- `put::put_text` writes one byte after another.
 use borrow.Author.Needs.{needs}
 use Prim.Native.Nat.{_-_}
-use Rattle.listing.specs.WrittenLaws.{Writing, writing-start, writing-next, writing-done}
+use Rattle.listing.specs.WrittenLaws.{BytesWritten, bytes-start, bytes-next, bytes-done}
 use Rattle.listing.proofs.put.put_text.Statement.{statement}
 use Rattle.listing.proofs.put.put_text.Tie as tie
 use Rattle.listing.proofs.put.put_text.Reads as reads
 use Rattle.listing.proofs.put.put_text.Lts as lts
 
 abbrev Inv-loop : tie.InvT-loop
-Inv-loop text at out₀ i₀ i-end out i = Writing text out₀ at i-end out i
+Inv-loop text at out₀ i₀ i-end out i = BytesWritten text out₀ at i-end out i
 
 abbrev μ-loop : tie.MeasureT-loop
 μ-loop text at out₀ i₀ i-end out i = i-end - i
 
 -- src/put.rt:11:5
 loop-holds : tie.Need-loop-holds Inv-loop μ-loop
-loop-holds c = writing-start (c .pre)
+loop-holds c = bytes-start (c .pre)
 
 -- src/put.rt:12:23
 shared-slice-read-out : tie.Need-shared-slice-read-out Inv-loop μ-loop
@@ -39,7 +39,7 @@ loop-less c = search needs
 
 -- src/put.rt:11:5
 loop-again : tie.Need-loop-again Inv-loop μ-loop
-loop-again c = writing-next (c .before .before .loop .inv) (c .before .loop-test .taken)
+loop-again c = bytes-next (c .before .before .loop .inv) (c .before .loop-test .taken)
 
 -- src/put.rt:14:5
 add-result : tie.Need-add-result Inv-loop μ-loop
@@ -51,7 +51,7 @@ same-length c = search needs
 
 -- src/put.rt:7:1
 returns : tie.Need-returns Inv-loop μ-loop
-returns c = writing-done (c .before .loop .inv) (c .loop-test .left)
+returns c = bytes-done (c .before .loop .inv) (c .loop-test .left)
 
 pub put-text-spec : {M : Type 1} → statement M
 put-text-spec =

@@ -2,7 +2,7 @@
 use denote.Ref.{now}
 use lib.Seq.{length-take-le}
 use native.Mathlib.Nat.{zero-mul}
-use Rattle.path_by_count.specs.TableLaws.{row-within, rows-first}
+use Rattle.path_by_count.specs.FilledLaws.{row-within, rows-first}
 use borrow.Author.Needs.{needs}
 use native.Mathlib.Omega.{arith}
 use mathlib.Core.Path.{sym, _∙_}

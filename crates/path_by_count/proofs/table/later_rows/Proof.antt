@@ -1,8 +1,8 @@
 -- `table::later_rows` fills one row more in each turn: row k + 1 stands in its own part of the parent list, behind the k rows that stay as they are.
 use denote.Ref.{now}
 use Rattle.path_by_count_rows.specs.Rows.{behind}
-use Rattle.path_by_count.specs.Table.{RowsFilled}
-use Rattle.path_by_count.specs.TableLaws.{row-within, next-start, rows-more}
+use Rattle.path_by_count.specs.Filled.{RowsFilled}
+use Rattle.path_by_count.specs.FilledLaws.{row-within, next-start, rows-more}
 use borrow.Author.Needs.{needs}
 use native.Mathlib.Omega.{arith}
 use mathlib.Core.Path.{_≡_, _∙_}

@@ -11,24 +11,24 @@ use Rattle.path_by_count_rows.proofs.row.write_first.Statement.{stateme
 use Rattle.path_by_count_rows.proofs.row.write_first.Tie as tie
 
 abbrev Inv-loop : tie.InvT-loop
-Inv-loop left right leaves lengths over₀ cost₀ row₀ n j₀ over cost row j =
+Inv-loop left right leaves lengths over₀ cost₀ row₀ n from to j₀ over cost row j =
     (j ≤ n) × (n ≡ length left) × (length over ≡ length over₀) × (length cost ≡ length cost₀) × (length row ≡ length left)
     × FirstWritten lengths left right leaves over₀ cost₀ over cost row j
 
 abbrev μ-loop : tie.MeasureT-loop
-μ-loop left right leaves lengths over₀ cost₀ row₀ n j₀ over cost row j = n - j
+μ-loop left right leaves lengths over₀ cost₀ row₀ n from to j₀ over cost row j = n - j
+
+behind-tree-requires : tie.Need-behind-tree-requires Inv-loop μ-loop
+behind-tree-requires c κs = search needs
+
+end-by-count-requires : tie.Need-end-by-count-requires Inv-loop μ-loop
+end-by-count-requires c κs = search needs
 
 loop-holds : tie.Need-loop-holds Inv-loop μ-loop
-loop-holds c = let start = c .before .before .before .before .before in (omega arith, refl, refl, refl, start .pre .1, first-start (now (start .args .row)))
+loop-holds c = let start = c .before .before .before .before .before .before .before in (omega arith, refl, refl, refl, start .pre .1, first-start (now (start .args .row)))
 
 mul-first-score : tie.Need-mul-first-score Inv-loop μ-loop
 mul-first-score c = search needs
-
-mul-first-score-2 : tie.Need-mul-first-score-2 Inv-loop μ-loop
-mul-first-score-2 c = search needs
-
-mul-first-score-3 : tie.Need-mul-first-score-3 Inv-loop μ-loop
-mul-first-score-3 c = search needs
 
 sub-first-score : tie.Need-sub-first-score Inv-loop μ-loop
 sub-first-score c = search needs
@@ -41,9 +41,9 @@ part-first-score-end c = search needs
 
 first-score-requires : tie.Need-first-score-requires Inv-loop μ-loop
 first-score-requires c κs =
-    let start = c .before .before .before .before .before .before .before .before .before in
+    let start = c .before .before .before .before .before .before .before .before .before .before .before in
     let at = c .before .before .before .loop in
-    (rw (behind-part (length (now (start .args .left))) (at .cost), first-cuts (start .pre .0) (at .inv .5)) (start .pre .0 .domain), search needs)
+    (rw (behind-part (length (now (start .args .left))) (c .before .before .before .before .before .behind-tree .ensures) (c .before .before .before .before .end-by-count .ensures) (at .cost), first-cuts (start .pre .0) (at .inv .5)) (start .pre .0 .domain), search needs)
 
 add-over : tie.Need-add-over Inv-loop μ-loop
 add-over c = search needs
@@ -77,7 +77,7 @@ loop-less c = search needs
 
 loop-again : tie.Need-loop-again Inv-loop μ-loop
 loop-again c =
-    let start = c .before .before .before .before .before .before .before .before .before .before in
+    let start = c .before .before .before .before .before .before .before .before .before .before .before .before in
     let at = c .before .before .before .before .loop in
     let laid = start .pre .0 in (
       omega arith,
@@ -87,7 +87,7 @@ loop-again c =
       simp length-set (at .inv .4),
       first-more (c .first-score .result) (omega (arith, at .inv .1)) (omega (arith, laid .overs, tree-size laid, laid .tree .enough, at .inv .1, at .inv .2))
           (omega (arith, laid .costs, tree-size laid, laid .tree .enough, at .inv .1, at .inv .3)) (omega (arith, at .inv .1, at .inv .4))
-          (rw (behind-part (length (now (start .args .left))) (at .cost), first-cuts laid (at .inv .5)) at (c .first-score .ensures)) (at .inv .5),
+          (rw (behind-part (length (now (start .args .left))) (c .before .before .before .before .before .before .behind-tree .ensures) (c .before .before .before .before .before .end-by-count .ensures) (at .cost), first-cuts laid (at .inv .5)) at (c .first-score .ensures)) (at .inv .5),
     )
 
 same-length : tie.Need-same-length Inv-loop μ-loop
@@ -100,7 +100,7 @@ same-length-3 : tie.Need-same-length-3 Inv-loop μ-loop
 same-length-3 c = search needs
 
 returns : tie.Need-returns Inv-loop μ-loop
-returns c = let at = c .before .loop in let e : at .j ≡ length (now (c .before .before .before .before .before .before .before .args .left)) = omega (arith, at .inv .1) in rw e at (at .inv .5)
+returns c = let at = c .before .loop in let e : at .j ≡ length (now (c .before .before .before .before .before .before .before .before .before .args .left)) = omega (arith, at .inv .1) in rw e at (at .inv .5)
 
 pub write-first-spec : {M : Type 1} → statement M
 write-first-spec =
@@ -108,10 +108,10 @@ write-first-spec =
     (tie.spec
     Inv-loop
     μ-loop
+    behind-tree-requires
+    end-by-count-requires
     loop-holds
     mul-first-score
-    mul-first-score-2
-    mul-first-score-3
     sub-first-score
     part-first-score-start
     part-first-score-end

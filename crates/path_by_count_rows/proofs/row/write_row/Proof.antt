@@ -11,34 +11,34 @@ use Rattle.path_by_count_rows.proofs.row.write_row.Statement.{statement
 use Rattle.path_by_count_rows.proofs.row.write_row.Tie as tie
 
 abbrev Inv-loop : tie.InvT-loop
-Inv-loop left right leaves lengths k over₀ cost₀ row₀ n j₀ near₀ over cost row j near =
+Inv-loop left right leaves lengths k over₀ cost₀ row₀ n from to j₀ near₀ over cost row j near =
     (k ≤ j) × (j ≤ n) × (n ≡ length left) × (length over ≡ length over₀) × (length cost ≡ length cost₀) × (length row ≡ length left)
     × NextWritten lengths left right leaves over₀ cost₀ over cost row k j
 
 abbrev μ-loop : tie.MeasureT-loop
-μ-loop left right leaves lengths k over₀ cost₀ row₀ n j₀ near₀ over cost row j near = j
+μ-loop left right leaves lengths k over₀ cost₀ row₀ n from to j₀ near₀ over cost row j near = j
+
+behind-tree-requires : tie.Need-behind-tree-requires Inv-loop μ-loop
+behind-tree-requires c κs = search needs
+
+end-by-count-requires : tie.Need-end-by-count-requires Inv-loop μ-loop
+end-by-count-requires c κs = search needs
 
 loop-holds : tie.Need-loop-holds Inv-loop μ-loop
 loop-holds c =
-    let start = c .before .before .before .before .before in (start .pre .1 .0 .1, omega arith, refl, refl, refl, start .pre .1 .1, next-start (now (start .args .row)))
+    let start = c .before .before .before .before .before .before .before in (start .pre .1 .0 .1, omega arith, refl, refl, refl, start .pre .1 .1, next-start (now (start .args .row)))
 
 sub-j : tie.Need-sub-j Inv-loop μ-loop
 sub-j c = search needs
 
 predecessor-requires : tie.Need-predecessor-requires Inv-loop μ-loop
 predecessor-requires c κs =
-    let start = c .before .before .before .before .before .before .before .before .before in
+    let start = c .before .before .before .before .before .before .before .before .before .before .before in
     let at = c .before .before .before .loop in
-    written-ready (start .pre .0) (start .pre .1 .0 .0) (at .inv .0) (at .inv .6) (at .j - 1) (omega arith) (omega arith) (omega (arith, at .inv .2))
+    (written-ready (start .pre .0) (start .pre .1 .0 .0) (at .inv .0) (at .inv .6) (at .j - 1) (omega arith) (omega arith) (omega (arith, at .inv .2)), c .before .before .before .before .before .behind-tree .ensures)
 
 mul-add-cut-at : tie.Need-mul-add-cut-at Inv-loop μ-loop
 mul-add-cut-at c = search needs
-
-mul-add-cut-at-2 : tie.Need-mul-add-cut-at-2 Inv-loop μ-loop
-mul-add-cut-at-2 c = search needs
-
-mul-add-cut-at-3 : tie.Need-mul-add-cut-at-3 Inv-loop μ-loop
-mul-add-cut-at-3 c = search needs
 
 sub-add-cut-at : tie.Need-sub-add-cut-at Inv-loop μ-loop
 sub-add-cut-at c = search needs
@@ -47,36 +47,39 @@ part-add-cut-at-start : tie.Need-part-add-cut-at-start Inv-loop μ-loop
 part-add-cut-at-start c = search needs
 
 part-add-cut-at-end : tie.Need-part-add-cut-at-end Inv-loop μ-loop
-part-add-cut-at-end c = let start = c .before .before .before .before .before .before .before .before .before .before .before in omega (arith, start .pre .0 .laid .costs, c .before .before .before .before .before .loop .inv)
+part-add-cut-at-end c =
+    let laid = c .before .before .before .before .before .before .before .before .before .before .before .before .before .pre .0 .laid in
+    omega (arith, laid .costs, c .before .before .before .before .before .loop .inv .4, c .before .before .before .before .before .before .before .behind-tree .ensures, c .before .before .before .before .before .before .end-by-count .ensures)
 
 add-cut-at-requires : tie.Need-add-cut-at-requires Inv-loop μ-loop
 add-cut-at-requires c κs =
-    let laid = c .before .before .before .before .before .before .before .before .before .before .before .before .pre .0 .laid in
+    let laid = c .before .before .before .before .before .before .before .before .before .before .before .before .before .before .pre .0 .laid in
     let at = c .before .before .before .before .before .before .loop in
-    rw (behind-part (length (now (c .before .before .before .before .before .before .before .before .before .before .before .before .args .left))) (at .cost), behind-length (length (now (c .before .before .before .before .before .before .before .before .before .before .before .before .args .left))) (at .cost) (omega (arith, laid .costs, at .inv .4)))
-    (omega (arith, at .inv .1, at .inv .2))
+    let n = length (now (c .before .before .before .before .before .before .before .before .before .before .before .before .before .before .args .left)) in
+    let e = behind-part n (c .before .before .before .before .before .before .before .before .behind-tree .ensures) (c .before .before .before .before .before .before .before .end-by-count .ensures) (at .cost) in
+    rw (e, behind-length n (at .cost) (omega (arith, laid .costs, at .inv .4))) (omega (arith, at .inv .1, at .inv .2))
 
 add-over : tie.Need-add-over Inv-loop μ-loop
-add-over c = let laid = c .before .before .before .before .before .before .before .before .before .before .before .before .before .pre .0 .laid in omega (arith, laid .overs, tree-size laid, laid .tree .enough, laid .domain .candidates .few, c .before .before .before .before .before .before .before .loop .inv .2, c .before .before .before .before .before .before .before .loop .inv .1)
+add-over c = let laid = c .before .before .before .before .before .before .before .before .before .before .before .before .before .before .before .pre .0 .laid in omega (arith, laid .overs, tree-size laid, laid .tree .enough, laid .domain .candidates .few, c .before .before .before .before .before .before .before .loop .inv .2, c .before .before .before .before .before .before .before .loop .inv .1)
 
 mul-over : tie.Need-mul-over Inv-loop μ-loop
-mul-over c = let laid = c .before .before .before .before .before .before .before .before .before .before .before .before .before .pre .0 .laid in omega (arith, laid .overs, tree-size laid, laid .tree .enough, laid .domain .candidates .few, c .before .before .before .before .before .before .before .loop .inv .2, c .before .before .before .before .before .before .before .loop .inv .1)
+mul-over c = let laid = c .before .before .before .before .before .before .before .before .before .before .before .before .before .before .before .pre .0 .laid in omega (arith, laid .overs, tree-size laid, laid .tree .enough, laid .domain .candidates .few, c .before .before .before .before .before .before .before .loop .inv .2, c .before .before .before .before .before .before .before .loop .inv .1)
 
 slice-write-over : tie.Need-slice-write-over Inv-loop μ-loop
-slice-write-over c = let laid = c .before .before .before .before .before .before .before .before .before .before .before .before .before .pre .0 .laid in omega (arith, laid .overs, tree-size laid, laid .tree .enough, c .before .before .before .before .before .before .before .loop .inv .2, c .before .before .before .before .before .before .before .loop .inv .3)
+slice-write-over c = let laid = c .before .before .before .before .before .before .before .before .before .before .before .before .before .before .before .pre .0 .laid in omega (arith, laid .overs, tree-size laid, laid .tree .enough, c .before .before .before .before .before .before .before .loop .inv .2, c .before .before .before .before .before .before .before .loop .inv .3)
 
 add-cost : tie.Need-add-cost Inv-loop μ-loop
-add-cost c = let laid = c .before .before .before .before .before .before .before .before .before .before .before .before .before .pre .0 .laid in omega (arith, laid .overs, tree-size laid, laid .tree .enough, laid .domain .candidates .few, c .before .before .before .before .before .before .before .loop .inv .2, c .before .before .before .before .before .before .before .loop .inv .1)
+add-cost c = let laid = c .before .before .before .before .before .before .before .before .before .before .before .before .before .before .before .pre .0 .laid in omega (arith, laid .overs, tree-size laid, laid .tree .enough, laid .domain .candidates .few, c .before .before .before .before .before .before .before .loop .inv .2, c .before .before .before .before .before .before .before .loop .inv .1)
 
 mul-cost : tie.Need-mul-cost Inv-loop μ-loop
-mul-cost c = let laid = c .before .before .before .before .before .before .before .before .before .before .before .before .before .pre .0 .laid in omega (arith, laid .overs, tree-size laid, laid .tree .enough, laid .domain .candidates .few, c .before .before .before .before .before .before .before .loop .inv .2, c .before .before .before .before .before .before .before .loop .inv .1)
+mul-cost c = let laid = c .before .before .before .before .before .before .before .before .before .before .before .before .before .before .before .pre .0 .laid in omega (arith, laid .overs, tree-size laid, laid .tree .enough, laid .domain .candidates .few, c .before .before .before .before .before .before .before .loop .inv .2, c .before .before .before .before .before .before .before .loop .inv .1)
 
 slice-write-cost : tie.Need-slice-write-cost Inv-loop μ-loop
-slice-write-cost c = let laid = c .before .before .before .before .before .before .before .before .before .before .before .before .before .pre .0 .laid in omega (arith, laid .costs, tree-size laid, laid .tree .enough, c .before .before .before .before .before .before .before .loop .inv .2, c .before .before .before .before .before .before .before .loop .inv .4)
+slice-write-cost c = let laid = c .before .before .before .before .before .before .before .before .before .before .before .before .before .before .before .pre .0 .laid in omega (arith, laid .costs, tree-size laid, laid .tree .enough, c .before .before .before .before .before .before .before .loop .inv .2, c .before .before .before .before .before .before .before .loop .inv .4)
 
 cast-row : tie.Need-cast-row Inv-loop μ-loop
 cast-row c =
-    let start = c .before .before .before .before .before .before .before .before .before .before .before .before .before .before in
+    let start = c .before .before .before .before .before .before .before .before .before .before .before .before .before .before .before .before in
     let at = c .before .before .before .before .before .before .before .before .loop in
     let ready = written-ready (start .pre .0) (start .pre .1 .0 .0) (at .inv .0) (at .inv .6) (at .j - 1) (omega arith) (omega arith) (omega (arith, at .inv .2)) in
     omega (arith, predecessor-high (c .before .before .before .before .predecessor .result) ready (c .before .before .before .before .predecessor .ensures), start .pre .0 .laid .domain .candidates .few, at .inv .1, at .inv .2)
@@ -92,7 +95,7 @@ loop-less c = omega arith
 
 loop-again : tie.Need-loop-again Inv-loop μ-loop
 loop-again c =
-    let start = c .before .before .before .before .before .before .before .before .before .before .before .before .before .before in
+    let start = c .before .before .before .before .before .before .before .before .before .before .before .before .before .before .before .before in
     let at = c .before .before .before .before .before .before .before .before .loop in
     let laid = start .pre .0 .laid in (
       omega arith,
@@ -105,7 +108,7 @@ loop-again c =
           (omega arith) (omega arith) (omega (arith, at .inv .2)) (omega (arith, laid .overs, tree-size laid, laid .tree .enough, at .inv .2, at .inv .3))
           (omega (arith, laid .costs, tree-size laid, laid .tree .enough, at .inv .2, at .inv .4)) (omega (arith, at .inv .2, at .inv .5))
           (c .before .before .before .before .predecessor .ensures)
-          (rw (behind-part (length (now (start .args .left))) (at .cost), written-cuts (start .pre .0) (start .pre .1 .0 .0) (at .inv .0) (at .inv .6)) at (c .before .add-cut-at .ensures)),
+          (rw (behind-part (length (now (start .args .left))) (c .before .before .before .before .before .before .before .before .before .before .behind-tree .ensures) (c .before .before .before .before .before .before .before .before .before .end-by-count .ensures) (at .cost), written-cuts (start .pre .0) (start .pre .1 .0 .0) (at .inv .0) (at .inv .6)) at (c .before .add-cut-at .ensures)),
     )
 
 same-length : tie.Need-same-length Inv-loop μ-loop
@@ -115,10 +118,10 @@ same-length-2 : tie.Need-same-length-2 Inv-loop μ-loop
 same-length-2 c = c .before .loop .inv .4
 
 same-length-3 : tie.Need-same-length-3 Inv-loop μ-loop
-same-length-3 c = c .before .loop .inv .5 ∙ sym (c .before .before .before .before .before .before .before .pre .1 .1)
+same-length-3 c = c .before .loop .inv .5 ∙ sym (c .before .before .before .before .before .before .before .before .before .pre .1 .1)
 
 returns : tie.Need-returns Inv-loop μ-loop
-returns c = let at = c .before .loop in let e : at .j ≡ c .before .before .before .before .before .before .before .args .k = omega (arith, at .inv .0) in rw e at (at .inv .6)
+returns c = let at = c .before .loop in let e : at .j ≡ c .before .before .before .before .before .before .before .before .before .args .k = omega (arith, at .inv .0) in rw e at (at .inv .6)
 
 pub write-row-spec : {M : Type 1} → statement M
 write-row-spec =
@@ -126,12 +129,12 @@ write-row-spec =
     (tie.spec
     Inv-loop
     μ-loop
+    behind-tree-requires
+    end-by-count-requires
     loop-holds
     sub-j
     predecessor-requires
     mul-add-cut-at
-    mul-add-cut-at-2
-    mul-add-cut-at-3
     sub-add-cut-at
     part-add-cut-at-start
     part-add-cut-at-end

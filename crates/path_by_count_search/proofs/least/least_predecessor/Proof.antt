@@ -38,8 +38,8 @@ add-score-from c = let start = c .before .before .before .before .before .before
 score-from-requires : tie.Need-score-from-requires
 score-from-requires c κs = let start = c .before .before .before .before .before .before in start-at (start .pre .0) (c .lesser .result) (omega (arith, c .lesser .ensures, start .pre .1 .1 .0))
 
-seek-requires : tie.Need-seek-requires
-seek-requires c κs =
+search-requires : tie.Need-search-requires
+search-requires c κs =
     let start = c .before .before .before .before .before .before .before in
     let inside = arrival-nonneg (start .pre .0) (c .before .lesser .result) (omega (arith, c .before .lesser .ensures, start .pre .1 .1 .0)) in
     (starts-held (start .pre .0), (start .pre .1 .0, (start .pre .1 .1 .1, subst (λ (s : Score). T (nonneg (s .cost))) (sym (c .score-from .ensures)) inside)))
@@ -49,9 +49,9 @@ unfolding withPiece lengthCostOf
 returns-2 c =
     let start = c .before .before .before .before .before .before .before .before in
     visit-is-least (arrivalAt (start .args .lengths) (now (start .args .right)) (now (start .args .over)) (now (start .args .cost)) (start .args .leaves) (start .args .end))
-    (start .args .leaves) (start .args .from) (start .args .to) (c .before .before .lesser .result) (c .before .score-from .result) (c .seek .result) (arrival-nonneg (start .pre .0))
+    (start .args .leaves) (start .args .from) (start .args .to) (c .before .before .lesser .result) (c .before .score-from .result) (c .search .result) (arrival-nonneg (start .pre .0))
     (omega (arith, c .before .before .lesser .ensures, c .before .before .before .larger .ensures, start .pre .1 .1 .0)) (omega (arith, c .before .before .lesser .ensures, start .pre .1 .1 .0))
-    (start .pre .1 .1 .1) (c .before .score-from .ensures) (c .seek .ensures)
+    (start .pre .1 .1 .1) (c .before .score-from .ensures) (c .search .ensures)
 
 pub least-predecessor-spec : {M : Type 1} → statement M
 least-predecessor-spec =
@@ -65,5 +65,5 @@ least-predecessor-spec =
     lesser-requires
     add-score-from
     score-from-requires
-    seek-requires
+    search-requires
     returns-2)

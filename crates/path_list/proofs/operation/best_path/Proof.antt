@@ -2,7 +2,7 @@
 use denote.Ref.{now}
 use Rattle.base_terms.specs.Work.{workOf}
 use Rattle.path_tests.specs.RefusalLaws.{accepted-lists}
-use Rattle.path_list.specs.SeekLaws.{workable}
+use Rattle.path_list.specs.SearchLaws.{workable}
 use Rattle.base_code.specs.WorkLaws.{filled-same, cleared-same}
 use Rattle.path_list.specs.OperationLaws.{path-refused, path-sought}
 use borrow.Author.Needs.{needs}
@@ -27,8 +27,8 @@ returns c =
 enum-told : tie.Need-enum-told
 enum-told c = search needs
 
-seek-requires : tie.Need-seek-requires
-seek-requires c κs =
+search-requires : tie.Need-search-requires
+search-requires c κs =
     let verdict = c .before .before .before .before .before .before .first-refusal in
     let fine = c .before .before .before .before .enum-told .given .1 in
     workable (accepted-lists _ _ _ _ _ _ _ _ (sym (verdict .ensures) ∙ fine))
@@ -62,7 +62,7 @@ returns-2 c =
     let start = verdict .before .before .before .before .before .before .before .before .before in
     path-sought (start .args .lengths) (now (start .args .left)) (now (start .args .right)) (now (start .args .cost)) (start .args .mode) (now (start .args .path))
     (workOf (now (start .args .u32s)) (now (start .args .u64s)) (now (start .args .f64s))) (now (start .args .parent))
-    (sym (sought .before .before .before .before .before .enum-told .given .1) ∙ verdict .first-refusal .ensures) (sought .seek .result) _ _ _ (sought .seek .ensures)
+    (sym (sought .before .before .before .before .before .enum-told .given .1) ∙ verdict .first-refusal .ensures) (sought .search .result) _ _ _ (sought .search .ensures)
     (cleared .clear-work .ensures ∙ cleared-same _ _ (c .before .before .before .before .before .before .before .before .before .before .before .before .before .before .before .before .before .before .before .before .before .u32s .given) refl (c .before .before .before .before .before .before .before .before .before .before .before .before .before .before .before .before .before .before .before .f64s .given))
     (c .before .before .clear-u32 .ensures ∙ filled-same 0 _ _ (c .before .before .before .before .before .before .before .before .before .before .before .before .before .before .before .before .before .parent .given))
 
@@ -74,7 +74,7 @@ best-path-spec =
     enum-known-verdict
     returns
     enum-told
-    seek-requires
+    search-requires
     clear-work-requires
     clear-u32-requires
     same-length

@@ -5,28 +5,31 @@ use Rattle.plan_path.specs.ByLengthLaws.{length-way, length-held}
 use Rattle.plan_path.proofs.by_length.path_by_length.Statement.{statement}
 use Rattle.plan_path.proofs.by_length.path_by_length.Tie as tie
 
-mul-solve : tie.Need-mul-solve
-mul-solve c = search needs
+mul-search-by-length : tie.Need-mul-search-by-length
+mul-search-by-length c = search needs
 
-sub-solve : tie.Need-sub-solve
-sub-solve c = search needs
+sub-search-by-length : tie.Need-sub-search-by-length
+sub-search-by-length c = search needs
 
-part-solve-start : tie.Need-part-solve-start
-part-solve-start c = search needs
+part-search-by-length-start : tie.Need-part-search-by-length-start
+part-search-by-length-start c = search needs
 
-part-solve-end : tie.Need-part-solve-end
-part-solve-end c = search needs
+part-search-by-length-end : tie.Need-part-search-by-length-end
+part-search-by-length-end c = search needs
 
-solve-requires : tie.Need-solve-requires
-solve-requires c κs = search needs
+search-by-length-requires : tie.Need-search-by-length-requires
+search-by-length-requires c κs = search needs
 
-add-backtrack-within : tie.Need-add-backtrack-within
-add-backtrack-within c = search needs
+behind-table-requires : tie.Need-behind-table-requires
+behind-table-requires c κs = search needs
+
+add-parents : tie.Need-add-parents
+add-parents c = search needs
 
 backtrack-within-requires : tie.Need-backtrack-within-requires
 backtrack-within-requires c κs =
-    let start = c .before .before .before .before .before .before .before .before .before .before .before .before in
-    length-way (start .args .search) (start .args .at) (now (start .args .work)) (start .pre .0) (start .pre .1 .0) (start .pre .1 .1) (c .before .before .before .before .before .solve .ensures)
+    let start = c .before .before .before .before .before .before .before .before .before .before .before .before .before in
+    rw (c .before .behind-table .ensures) (length-way (start .args .search) (start .args .at) (now (start .args .work)) (start .pre .0) (start .pre .1 .0) (start .pre .1 .1) (c .before .before .before .before .before .before .search-by-length .ensures))
 
 same-length : tie.Need-same-length
 same-length c = search needs
@@ -36,20 +39,20 @@ same-length-2 c = search needs
 
 returns : tie.Need-returns
 returns c =
-    let start = c .before .before .before .before .before .before .before .before .before .before .before .before .before .before .before in
-    length-held (start .args .search) (start .args .at) (now (start .args .work)) (start .pre .0) (start .pre .1 .0) (start .pre .1 .1) (c .before .before .before .before .before .before .before .before .solve .ensures) _
-    (c .before .before .backtrack-within .ensures)
+    let start = c .before .before .before .before .before .before .before .before .before .before .before .before .before .before .before .before in
+    length-held (start .args .search) (start .args .at) (now (start .args .work)) (start .pre .0) (start .pre .1 .0) (start .pre .1 .1) (c .before .before .before .before .before .before .before .before .before .search-by-length .ensures) _ (rw (c .before .before .before .before .behind-table .ensures) at (c .before .before .backtrack-within .ensures))
 
 pub path-by-length-spec : {M : Type 1} → statement M
 path-by-length-spec =
     tie.close
     (tie.spec
-    mul-solve
-    sub-solve
-    part-solve-start
-    part-solve-end
-    solve-requires
-    add-backtrack-within
+    mul-search-by-length
+    sub-search-by-length
+    part-search-by-length-start
+    part-search-by-length-end
+    search-by-length-requires
+    behind-table-requires
+    add-parents
     backtrack-within-requires
     same-length
     same-length-2

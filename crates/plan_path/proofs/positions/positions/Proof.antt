@@ -7,23 +7,17 @@ use Rattle.plan_path.specs.WrittenLaws.{lent-front, lent-room, positions
 use Rattle.plan_path.proofs.positions.positions.Statement.{statement}
 use Rattle.plan_path.proofs.positions.positions.Tie as tie
 
-add-side : tie.Need-add-side
-add-side c = search needs
+entries-at-requires : tie.Need-entries-at-requires
+entries-at-requires c κs = omega (arith, c .before .before .pre .0 .frames)
 
 mul-entries : tie.Need-mul-entries
 mul-entries c = search needs
 
-mul-entries-2 : tie.Need-mul-entries-2
-mul-entries-2 c = search needs
-
-mul-entries-3 : tie.Need-mul-entries-3
-mul-entries-3 c = search needs
-
 add-entries : tie.Need-add-entries
 add-entries c = search needs
 
-mul-entries-4 : tie.Need-mul-entries-4
-mul-entries-4 c = search needs
+mul-entries-2 : tie.Need-mul-entries-2
+mul-entries-2 c = search needs
 
 sub-entries : tie.Need-sub-entries
 sub-entries c = search needs
@@ -38,10 +32,15 @@ slice-relend-prefix-ends : tie.Need-slice-relend-prefix-ends
 slice-relend-prefix-ends c = search needs
 
 slice-aggregate-ends : tie.Need-slice-aggregate-ends
-slice-aggregate-ends c = let start = c .before .before .before .before .before in sym (lent-front (start .args .g) (start .args .count) (now (start .args .work-u32)) (now (start .args .work-u64)) (start .pre .1))
+slice-aggregate-ends c = let start = c .before .before .before .before .before in sym (lent-front (start .args .g) (start .args .candidates) (now (start .args .work-u32)) (now (start .args .work-u64)) (start .pre .1))
 
 ends-requires : tie.Need-ends-requires
-ends-requires c κs = let start = c .before .before .before .before .before in (start .pre .0, lent-room (start .args .g) (start .args .count) (now (start .args .work-u32)) (now (start .args .work-u64)) (start .pre .1) _ 0 (lent-front (start .args .g) (start .args .count) (now (start .args .work-u32)) (now (start .args .work-u64)) (start .pre .1)) (omega arith))
+ends-requires c κs =
+    let start = c .before .before .before .before .before in
+    (start .pre .0, rw (c .before .before .entries-at .ensures) (lent-room (start .args .g) (start .args .candidates) (now (start .args .work-u32)) (now (start .args .work-u64)) (start .pre .1) _ 0 (lent-front (start .args .g) (start .args .candidates) (now (start .args .work-u32)) (now (start .args .work-u64)) (start .pre .1)) (omega arith)))
+
+rights-at-requires : tie.Need-rights-at-requires
+rights-at-requires c κs = omega (arith, c .before .before .before .before .before .before .before .before .pre .0 .frames)
 
 add-ends : tie.Need-add-ends
 add-ends c = search needs
@@ -66,25 +65,26 @@ same-length c = search needs
 
 returns : tie.Need-returns
 returns c =
-    let start = c .before .before .before .before .before .before .before .before .before .before .before .before in
-    positions-written (start .args .g) (start .args .count) (now (start .args .work-u32)) (now (start .args .work-u64)) (start .pre .1) _ (c .before .before .before .before .before .before .ends .ensures) _ (c .before .before .ends2 .ensures)
+    let start = c .before .before .before .before .before .before .before .before .before .before .before .before .before in
+    let at-left = rw (c .before .before .before .before .before .before .before .before .before .before .entries-at .ensures) at (c .before .before .before .before .before .before .before .ends .ensures) in
+    let at-right = rw (c .before .before .before .before .before .before .before .before .before .before .entries-at .ensures, c .before .before .before .before .rights-at .ensures) at (c .before .before .ends2 .ensures) in
+    rw (c .before .before .before .before .rights-at .ensures) (positions-written (start .args .g) (start .args .candidates) (now (start .args .work-u32)) (now (start .args .work-u64)) (start .pre .1) _ at-left _ at-right)
 
 pub positions-spec : {M : Type 1} → statement M
 positions-spec =
     tie.close
     (tie.spec
-    add-side
+    entries-at-requires
     mul-entries
-    mul-entries-2
-    mul-entries-3
     add-entries
-    mul-entries-4
+    mul-entries-2
     sub-entries
     part-entries-start
     part-entries-end
     slice-relend-prefix-ends
     slice-aggregate-ends
     ends-requires
+    rights-at-requires
     add-ends
     mul-ends
     sub-ends

@@ -6,7 +6,8 @@ use Rattle.grid.specs.declared.validate.Validity.{Validity}
 use Rattle.grid.specs.Validate.{isValid}
 use Rattle.base_laws.specs.Tests.{test-failed, test-passed}
 use Rattle.plan_tests.specs.RefusalLaws.{fails-recording, fails-durations, fails-count, fails-ratio, fails-weights, fails-threshold, fails-work, passes}
-use Rattle.plan_tests.specs.declared.refusal.Verdict.the-variants.{BadRecording}
+use Rattle.plan_tests.specs.declared.refusal.Refusal.the-variants.{BadRecording}
+use Rattle.plan_tests.specs.declared.refusal.Verdict.the-variants.{Fails}
 use Rattle.plan_tests.proofs.refusal.first_refusal.Statement.{statement}
 use Rattle.plan_tests.proofs.refusal.first_refusal.Tie as tie
 
@@ -22,7 +23,7 @@ is-valid-requires c κs = search needs
 
 returns : tie.Need-returns
 returns c =
-    ap BadRecording (c .before .before .validate .ensures)
+    ap (λ (v : Validity). Fails (BadRecording v)) (c .before .before .validate .ensures)
     ∙ fails-recording _ _ _ _ _ _ _ _ _
     (test-failed (told (c .before .before .validate .ensures) (c .before .is-valid .ensures)) (c .if1 .taken))
 

@@ -1,5 +1,5 @@
 -- `select::histogram_adding` counts one key after another, with 0 for those of another prefix; no count passes the number of keys.
-use Rattle.silence_levels.specs.SelectLaws.{Counting, counting-starts, counting-adds, counting-small, counting-done, one-at-most}
+use Rattle.silence_levels.specs.SelectLaws.{DigitsCounted, counted-starts, counted-adds, counted-small, counted-done, one-at-most}
 use borrow.Author.Needs.{needs}
 use native.Mathlib.Omega.{arith}
 use mathlib.Core.Path.{refl}
@@ -10,13 +10,13 @@ use Rattle.silence_levels.proofs.select.histogram_adding.Statement.{sta
 use Rattle.silence_levels.proofs.select.histogram_adding.Tie as tie
 
 abbrev Inv-loop : tie.InvT-loop
-Inv-loop keys shift prefix counts₀ i₀ i-end counts i = Counting keys shift prefix i-end counts i
+Inv-loop keys shift prefix counts₀ i₀ i-end counts i = DigitsCounted keys shift prefix i-end counts i
 
 abbrev μ-loop : tie.MeasureT-loop
 μ-loop keys shift prefix counts₀ i₀ i-end counts i = i-end - i
 
 loop-holds : tie.Need-loop-holds Inv-loop μ-loop
-loop-holds c = let start = c .before .args in counting-starts (start .keys .now) (start .shift) (start .prefix) _ refl
+loop-holds c = let start = c .before .args in counted-starts (start .keys .now) (start .shift) (start .prefix) _ refl
 
 mul-head : tie.Need-mul-head Inv-loop μ-loop
 mul-head c = search needs
@@ -43,7 +43,7 @@ add-counts : tie.Need-add-counts Inv-loop μ-loop
 add-counts c =
     let start = c .before .before .before .before .before .args in
     let at = c .before .before .before .loop .i in
-    let l = counting-small (start .keys .now) (start .shift) (start .prefix) (length (start .keys .now)) (c .before .before .before .loop .counts) at (getD (start .keys .now) at 0 / 2 ^ start .shift % 2048) (omega arith) (search needs) (c .before .before .before .loop .inv) in
+    let l = counted-small (start .keys .now) (start .shift) (start .prefix) (length (start .keys .now)) (c .before .before .before .loop .counts) at (getD (start .keys .now) at 0 / 2 ^ start .shift % 2048) (omega arith) (search needs) (c .before .before .before .loop .inv) in
     let m : c .one-if .result ≤ 1 = rw (c .one-if .ensures) (one-at-most (eqb (getD (start .keys .now) at 0 / 2 ^ start .shift / 2048) (start .prefix))) in
     omega arith
 
@@ -57,10 +57,10 @@ loop-less : tie.Need-loop-less Inv-loop μ-loop
 loop-less c = search needs
 
 loop-again : tie.Need-loop-again Inv-loop μ-loop
-loop-again c = counting-adds _ _ _ _ _ _ _ (search needs) (c .one-if .ensures) (c .before .before .before .loop .inv)
+loop-again c = counted-adds _ _ _ _ _ _ _ (search needs) (c .one-if .ensures) (c .before .before .before .loop .inv)
 
 returns : tie.Need-returns Inv-loop μ-loop
-returns c = counting-done _ _ _ _ _ _ (search needs) (c .before .loop .inv)
+returns c = counted-done _ _ _ _ _ _ (search needs) (c .before .loop .inv)
 
 pub histogram-adding-spec : {M : Type 1} → statement M
 histogram-adding-spec =

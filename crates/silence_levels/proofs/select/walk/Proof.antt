@@ -1,5 +1,5 @@
 -- `select::walk` passes counts while they are at most the rank; the rank is below their sum, so it stops inside the table.
-use Rattle.silence_levels.specs.SelectLaws.{DigitSought, seeking-starts, seeking-next, seeking-done}
+use Rattle.silence_levels.specs.SelectLaws.{DigitSought, digit-starts, digit-next, digit-done}
 use borrow.Author.Needs.{needs}
 use Prim.Native.Nat.{_-_}
 use Rattle.silence_levels.proofs.select.walk.Statement.{statement}
@@ -12,7 +12,7 @@ abbrev μ-loop : tie.MeasureT-loop
 μ-loop rank counts digit₀ left₀ digit left = 2048 - digit
 
 loop-holds : tie.Need-loop-holds Inv-loop μ-loop
-loop-holds c = seeking-starts (c .args .t1) (c .args .rank) (c .pre)
+loop-holds c = digit-starts (c .args .t1) (c .args .rank) (c .pre)
 
 mul-loop : tie.Need-mul-loop Inv-loop μ-loop
 mul-loop c = search needs
@@ -36,10 +36,10 @@ loop-less : tie.Need-loop-less Inv-loop μ-loop
 loop-less c = search needs
 
 loop-again : tie.Need-loop-again Inv-loop μ-loop
-loop-again c = seeking-next _ _ _ _ (search needs) (c .before .loop .inv)
+loop-again c = digit-next _ _ _ _ (search needs) (c .before .loop .inv)
 
 returns : tie.Need-returns Inv-loop μ-loop
-returns c = seeking-done _ _ _ _ (search needs) (search needs) (c .before .loop .inv)
+returns c = digit-done _ _ _ _ (search needs) (search needs) (c .before .loop .inv)
 
 pub walk-spec : {M : Type 1} → statement M
 walk-spec =

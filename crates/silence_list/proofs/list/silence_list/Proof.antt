@@ -4,7 +4,6 @@ use Rattle.silence_list.specs.SilencesLaws.{front-fits, list-refused, li
 use borrow.Author.Needs.{needs}
 use native.Mathlib.Omega.{arith}
 use mathlib.Core.Path.{_≡_, sym, _∙_}
-use Prim.Native.Nat.{_-_}
 use lib.ListN.{length}
 use Rattle.silence_list.proofs.list.silence_list.Statement.{statement}
 use Rattle.silence_list.proofs.list.silence_list.Tie as tie

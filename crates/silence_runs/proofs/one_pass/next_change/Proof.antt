@@ -3,12 +3,12 @@ use borrow.Author.Needs.{needs}
 use mathlib.Core.Path.{refl, sym, _∙_}
 use Prim.Native.Nat.{_-_}
 use lib.ListN.{length}
-use Rattle.silence_runs.specs.OnePassWalk.{Seeking, seeking-next, seeking-found, seeking-done}
+use Rattle.silence_runs.specs.OnePassWalk.{ChangeSought, change-next, change-found, change-done}
 use Rattle.silence_runs.proofs.one_pass.next_change.Statement.{statement}
 use Rattle.silence_runs.proofs.one_pass.next_change.Tie as tie
 
 abbrev Inv-loop : tie.InvT-loop
-Inv-loop threshold sound values flags from i₀ i = Seeking threshold sound values flags from (length values) i
+Inv-loop threshold sound values flags from i₀ i = ChangeSought threshold sound values flags from (length values) i
 
 abbrev μ-loop : tie.MeasureT-loop
 μ-loop threshold sound values flags from i₀ i = length values - i
@@ -29,7 +29,7 @@ sound-by-requires : tie.Need-sound-by-requires Inv-loop μ-loop
 sound-by-requires c κs = search needs
 
 returns : tie.Need-returns Inv-loop μ-loop
-returns c = seeking-found _ _ _ _ _ _ _ (c .before .before .before .before .before .loop .inv) (c .before .before .before .before .loop-test .taken) (λ e. c .if1 .taken (c .before .sound-by .ensures ∙ e))
+returns c = change-found _ _ _ _ _ _ _ (c .before .before .before .before .before .loop .inv) (c .before .before .before .before .loop-test .taken) (λ e. c .if1 .taken (c .before .sound-by .ensures ∙ e))
 
 add-i : tie.Need-add-i Inv-loop μ-loop
 add-i c = search needs
@@ -38,10 +38,10 @@ loop-less : tie.Need-loop-less Inv-loop μ-loop
 loop-less c = search needs
 
 loop-again : tie.Need-loop-again Inv-loop μ-loop
-loop-again c = seeking-next _ _ _ _ _ _ _ (c .before .before .before .before .before .loop .inv) (c .before .before .before .before .loop-test .taken) (sym (c .before .sound-by .ensures) ∙ c .if1 .left)
+loop-again c = change-next _ _ _ _ _ _ _ (c .before .before .before .before .before .loop .inv) (c .before .before .before .before .loop-test .taken) (sym (c .before .sound-by .ensures) ∙ c .if1 .left)
 
 returns-2 : tie.Need-returns-2 Inv-loop μ-loop
-returns-2 c = seeking-done _ _ _ _ _ _ _ (c .before .loop .inv) (c .loop-test .left)
+returns-2 c = change-done _ _ _ _ _ _ _ (c .before .loop .inv) (c .loop-test .left)
 
 pub next-change-spec : {M : Type 1} → statement M
 next-change-spec =

@@ -1,18 +1,18 @@
 -- `quiet::below_off` writes one frame after another.
 use borrow.Author.Needs.{needs}
 use Prim.Native.Nat.{_-_}
-use Rattle.silence_runs.specs.QuietLaws.{Marking, marking-start, marking-next, marking-done}
+use Rattle.silence_runs.specs.QuietLaws.{BelowWritten, below-start, below-next, below-done}
 use Rattle.silence_runs.proofs.quiet.below_off.Statement.{statement}
 use Rattle.silence_runs.proofs.quiet.below_off.Tie as tie
 
 abbrev Inv-loop : tie.InvT-loop
-Inv-loop off values flags below₀ i₀ i-end below i = Marking off values flags i-end below i
+Inv-loop off values flags below₀ i₀ i-end below i = BelowWritten off values flags i-end below i
 
 abbrev μ-loop : tie.MeasureT-loop
 μ-loop off values flags below₀ i₀ i-end below i = i-end - i
 
 loop-holds : tie.Need-loop-holds Inv-loop μ-loop
-loop-holds c = marking-start _ _ _ _ (search needs) (search needs)
+loop-holds c = below-start _ _ _ _ (search needs) (search needs)
 
 mul-below-at : tie.Need-mul-below-at Inv-loop μ-loop
 mul-below-at c = search needs
@@ -42,13 +42,13 @@ loop-again : tie.Need-loop-again Inv-loop μ-loop
 loop-again c =
     let start = c .before .before .before .before .before .before .before .before .args in
     let at = c .before .before .before .before .loop in
-    marking-next (start .off) (start .values .now) (start .flags .now) _ (at .below) (at .i) (c .below-at .result) (search needs) (c .below-at .ensures) (at .inv)
+    below-next (start .off) (start .values .now) (start .flags .now) _ (at .below) (at .i) (c .below-at .result) (search needs) (c .below-at .ensures) (at .inv)
 
 same-length : tie.Need-same-length Inv-loop μ-loop
 same-length c = search needs
 
 returns : tie.Need-returns Inv-loop μ-loop
-returns c = marking-done _ _ _ _ _ _ (search needs) (c .before .loop .inv)
+returns c = below-done _ _ _ _ _ _ (search needs) (c .before .loop .inv)
 
 pub below-off-spec : {M : Type 1} → statement M
 below-off-spec =

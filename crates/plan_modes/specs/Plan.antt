@@ -1,0 +1,85 @@
+-- Document 01's plan of a span that is not empty, by length and by count, with the refusals that arise on the way: 14, 18 and 12.
+-- `with` gives the candidates of a recording and settings with points added at the boundaries of some cuts; with none, they are the first ones.
+use mathlib.Core.Bool.{Bool, _&&_}
+use mathlib.Core.List.{List, []}
+use Prim.Native.Nat.{ℕ, suc, _-_, _*_, min}
+use lib.Dec.{leb, eqb}
+use lib.ListN.{length}
+use Rattle.grid.specs.declared.boundary.FrameGrid.{FrameGrid}
+use Rattle.path_pieces.specs.declared.mode.Mode.{Mode}
+use Rattle.path_pieces.specs.declared.mode.Mode.the-variants.{ByLength, ByCount}
+use Rattle.plan_settings.specs.declared.config.PlanConfig.{PlanConfig}
+use Rattle.candidate_span.specs.Gaps.{Cut}
+use Rattle.candidate_span.specs.Span.{Span}
+use Rattle.candidates.specs.declared.candidate.Candidate.{Candidate}
+use Rattle.completion.specs.declared.reach.Sought.{Sought}
+use Rattle.completion.specs.declared.reach.Sought.the-variants.{Reach, Nothing}
+use Rattle.completion.specs.Reach.{reachOf}
+use Rattle.plan_division.specs.Added.{addedByLength}
+use Rattle.plan_division.specs.Best.{bestOver, bestOverByCount, oversOf}
+use Rattle.plan_lengths.specs.PlanLengths.{maximumIn, lengthsByLength, lengthsByCount}
+use Rattle.plan_pieces.specs.Output.{Output, Handed, handedOf, pick}
+use Rattle.plan_pieces.specs.declared.answer.Answer.the-variants.{ShortParent, NoReach}
+use Rattle.plan_steps.specs.Steps.{planAlong, cutsAdded}
+
+-- ---- by length
+
+module _ (g : FrameGrid) (settings : PlanConfig) (with : List Cut → List Candidate) where
+  -- document 01: "points are added until neighbouring candidates are within the maximum or one frame apart"
+  abbrev pub completedByLength : List Candidate
+  completedByLength = with (addedByLength g (maximumIn g settings) (with []))
+
+  -- the best path over them, under the maximum
+  abbrev pub pathByLength : List ℕ
+  pathByLength = bestOver g (lengthsByLength g settings) completedByLength
+
+  -- the plan along it
+  unfoldable pub planByLength : Output → Handed
+  planByLength out = planAlong g settings completedByLength pathByLength out
+
+-- ---- by count
+
+-- 14: a parent list of this length has an entry for each piece and candidate of a path
+unfoldable pub hasParents : ℕ → ℕ → ℕ → Bool
+hasParents asked candidates parents = leb (min asked (candidates - 1) * candidates) parents
+
+module _ (g : FrameGrid) (settings : PlanConfig) (s : Span) where
+  -- document 01's best path by count, of min(N, last index) pieces, under a limit
+  abbrev pub pathByCount : ℕ → ℕ → List Candidate → List ℕ
+  pathByCount asked limit cs = bestOverByCount g (lengthsByCount g settings (s .first) (s .last) asked limit) cs asked
+
+  -- it has no fewer than N pieces, and none over the limit
+  unfoldable pub suffices : ℕ → ℕ → List Candidate → Bool
+  suffices asked limit cs =
+      eqb (length (pathByCount asked limit cs)) (suc asked) && eqb (oversOf g (lengthsByCount g settings (s .first) (s .last) asked limit) cs asked) 0
+
+  -- the path over candidates under a limit: 14, or the plan along it
+  unfoldable pub plannedUnder : ℕ → ℕ → List Candidate → ℕ → Output → Handed
+  plannedUnder asked limit cs parents out =
+      pick (hasParents asked (length cs) parents) (planAlong g settings cs (pathByCount asked limit cs) out) (handedOf ShortParent out)
+
+  module _ (with : List Cut → List Candidate) where
+    -- the candidates completed for a number of pieces, under a limit
+    abbrev pub completedByCount : ℕ → ℕ → List Candidate
+    completedByCount asked limit = with (cutsAdded g s asked limit)
+
+    -- once the reach was sought: 18, or the path over the completed candidates under the reach
+    abbrev pub plannedAfter : ℕ → ℕ → Output → Sought → Handed
+    plannedAfter asked parents out Nothing = handedOf NoReach out
+    plannedAfter asked parents out (Reach limit) = plannedUnder asked limit (completedByCount asked limit) parents out
+
+    -- document 01: "if the first path has fewer than N pieces or one over the maximum", the reach is sought; else the plan along the first path; 14 comes before both
+    unfoldable pub planByCount : ℕ → ℕ → Output → Handed
+    planByCount asked parents out =
+        pick (hasParents asked (length (with [])) parents)
+        (pick (suffices asked (maximumIn g settings) (with []))
+        (planAlong g settings (with []) (pathByCount asked (maximumIn g settings) (with [])) out)
+        (plannedAfter asked parents out (reachOf g s asked (maximumIn g settings))))
+        (handedOf ShortParent out)
+
+    -- ---- either
+
+    -- the plan by length or by count, as the mode says
+    unfoldable pub planBy : Mode → ℕ → Output → Handed
+    planBy ByLength parents out = planByLength g settings with out
+    planBy (ByCount asked) parents out = planByCount asked parents out
