@@ -37,6 +37,11 @@ pub both : (a b : Bool) → (a && b) ≡ true → (a ≡ true) × (b ≡ true)
 both true b e = (refl, e)
 both false b e = absurd (holds e)
 
+-- both are false where their disjunction is
+pub neither : (a b : Bool) → (a || b) ≡ false → (a ≡ false) × (b ≡ false)
+neither true b e = absurd (holds (sym e))
+neither false b e = (refl, e)
+
 -- a test passes or fails
 pub passes : (b : Bool) → T b ⊎ T (not b)
 passes true = inl tt

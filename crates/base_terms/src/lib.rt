@@ -1,2 +1,2 @@
 // The words that definitions of every floor use, on floats, scores and lists. No code and no law: specs/ holds
-// definitions alone, and its Lib.antt is the index.
+// definitions alone, and the first line of each file says which.

@@ -16,7 +16,7 @@ use Rattle.plan_settings.specs.declared.config.Gap.{Gap}
 use Rattle.plan_settings.specs.declared.config.Gap.the-variants.{Keep, Drop}
 use Rattle.plan_settings.specs.declared.config.Placement.{Placement}
 use Rattle.candidate_span.specs.declared.padding.Padding.{Padding}
-use Rattle.candidate_span.specs.Listed.{count, startAt, endAt}
+use Rattle.candidate_span.specs.Listed.{silenceCount, startAt, endAt}
 use Rattle.candidate_span.specs.ListedLaws.{listed-own, listed-apart, listed-within}
 use Rattle.candidate_span.specs.Bounds.{isInner}
 use Rattle.candidate_span.specs.BoundsLaws.{inner-parts, inner-is}
@@ -30,7 +30,7 @@ use Rattle.candidate_cuts.specs.Cut.{cutAt, Inner}
 use Rattle.candidate_cuts.specs.CutLaws.{cut-within, hasGap, has-gap, edgesOf, cut-gap, cut-gap-is}
 
 -- what a plan has when its silences are cut: a span, a level for each frame boundary, and a ratio that refusal 9 passes
-pub record Prepared (gap : Gap) (placement : Placement) (n : ℕ) (levels : List Float) (ss : List ℕ) : Type 0 where
+pub record CutReady (gap : Gap) (placement : Placement) (n : ℕ) (levels : List Float) (ss : List ℕ) : Type 0 where
   pub spanned : Spanned gap n ss
   pub few : n ≤ maxFrames
   pub held : n < length levels
@@ -38,10 +38,10 @@ pub record Prepared (gap : Gap) (placement : Placement) (n : ℕ) (levels : List
 
 -- silence i of the list has sound on both sides
 pub record InnerAt (n : ℕ) (ss : List ℕ) (i : ℕ) : Type 0 where
-  pub listed : i < count ss
+  pub listed : i < silenceCount ss
   pub inner : isInner n (startAt ss i) (endAt ss i) ≡ true
 
-module _ (gap : Gap) (placement : Placement) (p : Padding) (levels : List Float) (ss : List ℕ) (ready : Prepared gap placement (p .frames) levels ss) where
+module _ (gap : Gap) (placement : Placement) (p : Padding) (levels : List Float) (ss : List ℕ) (ready : CutReady gap placement (p .frames) levels ss) where
   -- each inner silence can be cut
   pub inner-cut : (i : ℕ) → InnerAt (p .frames) ss i → Inner placement (p .frames) levels (startAt ss i) (endAt ss i)
   inner-cut i a =
@@ -73,7 +73,7 @@ module _ (gap : Gap) (placement : Placement) (p : Padding) (levels : List Float)
     pub at : InnerAt (p .frames) ss number
     pub is : g ≡ edgesOf (cutAt gap placement p levels ss number)
 
-  gap-listed : (drop : Gap) (i : ℕ) → i < count ss → hasGap drop p (startAt ss i) (endAt ss i) ≡ true
+  gap-listed : (drop : Gap) (i : ℕ) → i < silenceCount ss → hasGap drop p (startAt ss i) (endAt ss i) ≡ true
       → List·Memᴰ (silenceGap p (startAt ss i) (endAt ss i)) (gapsOf drop p ss)
   unfolding hasGap gapsOf
   gap-listed Keep i h t = absurd (holds t)

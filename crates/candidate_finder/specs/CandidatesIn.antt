@@ -33,8 +33,8 @@ unfoldable pub runsIn : Recording → SegmentConfig → List Float → List ℕ 
 runsIn r segment values flags = quietRuns (belowOff (recordingLevels r segment values flags .off) values flags)
 
 -- the level at each frame boundary, from 0 to 1
-unfoldable pub levelsIn : Recording → SegmentConfig → List Float → List ℕ → List Float → List Float
-levelsIn r segment values flags levels = boundaryLevels (r .domain) (recordingLevels r segment values flags) (widthOf (r .«frame_rate») (r .hop)) values levels
+unfoldable pub boundaryLevelsIn : Recording → SegmentConfig → List Float → List ℕ → List Float → List Float
+boundaryLevelsIn r segment values flags levels = boundaryLevels (r .domain) (recordingLevels r segment values flags) (widthOf (r .«frame_rate») (r .hop)) values levels
 
 -- the settings and numbers that every candidate is made with
 abbrev pub contextWith : Recording → PlanConfig → Padding → Context
@@ -55,13 +55,13 @@ contextOf r segment settings frames = contextWith r settings (paddingIn r segmen
 -- document 01's "one grid point for each block", strictly inside the span
 abbrev pub gridPointsIn : Recording → SegmentConfig → PlanConfig → List Float → List ℕ → List Float → List ℕ
 gridPointsIn r segment settings values flags levels =
-    gridPoints (blockedIn r segment settings values flags) (levelsIn r segment values flags levels) (spacingIn r segment settings (length values) .block)
+    gridPoints (blockedIn r segment settings values flags) (boundaryLevelsIn r segment values flags levels) (spacingIn r segment settings (length values) .block)
     (firstIn r segment settings values flags) (lastIn r segment settings values flags)
 
 -- the candidates as they are listed: the silences' own, then the grid points
 abbrev pub listedIn : Recording → SegmentConfig → PlanConfig → List Float → List ℕ → List Float → List Candidate
 listedIn r segment settings values flags levels =
-    allListed (contextOf r segment settings (length values)) (silencesIn r segment values flags) (runsIn r segment values flags) (levelsIn r segment values flags levels)
+    allListed (contextOf r segment settings (length values)) (silencesIn r segment values flags) (runsIn r segment values flags) (boundaryLevelsIn r segment values flags levels)
     (gridPointsIn r segment settings values flags levels)
 
 -- document 01's candidates of a plan, before completion adds to them: none where the span is empty
@@ -69,4 +69,4 @@ unfoldable pub candidatesIn : Recording → SegmentConfig → PlanConfig → Lis
 candidatesIn r segment settings values flags levels =
     cond (emptyIn r segment settings values flags) []
     (candidatesOf (contextOf r segment settings (length values)) (silencesIn r segment values flags) (runsIn r segment values flags)
-    (levelsIn r segment values flags levels) (gridPointsIn r segment settings values flags levels) (firstIn r segment settings values flags) (lastIn r segment settings values flags))
+    (boundaryLevelsIn r segment values flags levels) (gridPointsIn r segment settings values flags levels) (firstIn r segment settings values flags) (lastIn r segment settings values flags))

@@ -29,7 +29,7 @@ use Rattle.candidate_walk.specs.Collect.{collected}
 use Rattle.candidate_walk.specs.CollectLaws.{Collectable}
 use Rattle.candidate_walk.specs.CollectStep.{marked-in}
 use Rattle.candidate_finder.specs.SpanIn.{paddingIn, emptyIn, firstIn, lastIn}
-use Rattle.candidate_finder.specs.CandidatesIn.{runsIn, levelsIn, contextOf, gridPointsIn, candidatesIn}
+use Rattle.candidate_finder.specs.CandidatesIn.{runsIn, boundaryLevelsIn, contextOf, gridPointsIn, candidatesIn}
 use Rattle.candidate_finder.specs.Holds.{silences-are, silences-before}
 use Rattle.candidate_finder.specs.Prepare.{Plannable, SpanReady}
 
@@ -98,7 +98,7 @@ module _ (r : Recording) (segment : SegmentConfig) (settings : PlanConfig) (valu
     unfolding collected candidatesIn
     found-are =
         rw (q .some, q .context, q .starts, q .stops, q .holds .listed, q .holds .runs, q .holds .leveled)
-        (candidates-same (contextOf r segment settings n) ss (runsIn r segment values flags) (levelsIn r segment values flags levels)
+        (candidates-same (contextOf r segment settings n) ss (runsIn r segment values flags) (boundaryLevelsIn r segment values flags levels)
         (passing (marked n work) (boundaries from (to - suc from))) (gridPointsIn r segment settings values flags levels) from to points)
       where
         from : ℕ

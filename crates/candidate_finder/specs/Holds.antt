@@ -32,7 +32,7 @@ use Rattle.candidate_costs.specs.NormalizeLaws.{Scaled}
 use Rattle.candidate_costs.specs.Level.{boundaryLevels}
 use Rattle.candidate_costs.specs.LevelLaws.{Measured}
 use Rattle.candidate_walk.specs.Held.{silencesHeld, runsHeld, levelsHeld}
-use Rattle.candidate_finder.specs.CandidatesIn.{recordingLevels, runsIn, levelsIn}
+use Rattle.candidate_finder.specs.CandidatesIn.{recordingLevels, runsIn, boundaryLevelsIn}
 use Rattle.candidate_finder.specs.NeededLevels.{neededLevels, needed-on, needed-off, needed-levels}
 
 -- a recording that can be measured in lists of these lengths
@@ -49,7 +49,7 @@ pub record Holds (r : Recording) (segment : SegmentConfig) (values : List Float)
   pub counted : 2 * silences ≡ length (silencesIn r segment values flags)
   pub listed : silencesHeld silences work ≡ silencesIn r segment values flags
   pub runs : runsHeld (length values) work ≡ runsIn r segment values flags
-  pub leveled : levelsHeld (length values) workf ≡ levelsIn r segment values flags levels
+  pub leveled : levelsHeld (length values) workf ≡ boundaryLevelsIn r segment values flags levels
 
 -- ---- the silences
 
@@ -107,10 +107,10 @@ module _ (r : Recording) (segment : SegmentConfig) (values : List Float) (flags 
         let size : length runs ≡ length values = ap length e ∙ quiet-length (belowOff (l .off) values flags) ∙ below-length (l .off) values flags (m .sounds .flagged) in
         let fits : at + length runs ≤ length work = omega (arith, size, m .room, same, z) in
         let put : putMid at (at + length values - at) work runs ≡ placed at runs work = placed-put at runs work fits (at + length values) (omega (arith, size)) in
-        let levels-are : bl ≡ levelsIn r segment values flags levels =
-        unfold levelsIn in (rw (is, w) (needed-levels (r .domain) (recordingLevels r segment values flags) (widthOf (r .«frame_rate») (r .hop)) values levels)) in
+        let levels-are : bl ≡ boundaryLevelsIn r segment values flags levels =
+        unfold boundaryLevelsIn in (rw (is, w) (needed-levels (r .domain) (recordingLevels r segment values flags) (widthOf (r .«frame_rate») (r .hop)) values levels)) in
         let long : length bl ≡ length values + 1 =
-        ap length levels-are ∙ (unfold levelsIn in unfold boundaryLevels in (tabulate-length _ (suc (length values)) ∙ sym (add-one (length values)))) in
+        ap length levels-are ∙ (unfold boundaryLevelsIn in unfold boundaryLevels in (tabulate-length _ (suc (length values)) ∙ sym (add-one (length values)))) in
         let stretches : take (length values) (drop at (putMid at (at + length values - at) work runs)) ≡ runsIn r segment values flags =
         ap (λ (xs : List ℕ). take (length values) (drop at xs)) put ∙ placed-part at runs work fits (length values) (sym size) ∙ runs-are in
         record {

@@ -22,11 +22,11 @@ use Rattle.candidates.specs.Candidates.{node, withLeft}
 use Rattle.candidates.specs.Entries.{costsOf}
 use Rattle.candidates.specs.Members.{candidateAt}
 use Rattle.candidates.specs.Sources.{Source}
-use Rattle.candidates.specs.Alone.{cutOf}
+use Rattle.candidates.specs.Alone.{candidateCut}
 use Rattle.candidates.specs.Samples.{leftsOf, rightsOf}
 use Rattle.candidates.specs.Cheapest.{Cheapest}
 use Rattle.candidates.specs.declared.candidate.Candidate.{Candidate}
-use Rattle.candidate_finder.specs.CandidatesIn.{runsIn, levelsIn, contextOf, gridPointsIn, listedIn}
+use Rattle.candidate_finder.specs.CandidatesIn.{runsIn, boundaryLevelsIn, contextOf, gridPointsIn, listedIn}
 use Rattle.candidate_finder.specs.SpanIn.{spacingIn, firstIn, lastIn, gapsIn, blockedIn}
 
 -- a candidate with left end k, by its number
@@ -39,7 +39,7 @@ pub record StartsAt (cs : List Candidate) (k : ℕ) : Type 0 where
 pub record Ends (cs : List Candidate) (gap : Cut) : Type 0 where
   pub number : ℕ
   pub counted : number < length cs
-  pub is : cutOf (candidateAt cs number) ≡ gap
+  pub is : candidateCut (candidateAt cs number) ≡ gap
 
 -- a grid point's block, and that it is the quietest boundary there, the first of equals
 pub record QuietestOfBlock (blocked : ℕ → Bool) (levels : List Float) (block first last k : ℕ) : Type 0 where
@@ -69,21 +69,21 @@ module _ (r : Recording) (segment : SegmentConfig) (settings : PlanConfig) (valu
     pub apart : (i j : ℕ) → i < j → j < length cs → candidateAt cs i .right < candidateAt cs j .left
     -- between the ends: "silence candidates, one grid point for each block"
     pub source : (i : ℕ) → 0 < i → suc i < length cs
-        → Source (contextOf r segment settings (length values)) (silencesIn r segment values flags) (runsIn r segment values flags) (levelsIn r segment values flags levels)
+        → Source (contextOf r segment settings (length values)) (silencesIn r segment values flags) (runsIn r segment values flags) (boundaryLevelsIn r segment values flags levels)
         (gridPointsIn r segment settings values flags levels) (candidateAt cs i)
     -- nothing is listed outside the span: the Rust's `retain` removes nothing
     pub inside : (c : Candidate) → List·Memᴰ c (listedIn r segment settings values flags levels) → (first < c .left) × (c .right < last)
     -- "One candidate survives for each left end"
     pub survivor : (c : Candidate) → List·Memᴰ c (listedIn r segment settings values flags levels) → StartsAt cs (c .left)
     -- "A dropped gap is a candidate whose left end is below its right end": those candidates and no others
-    pub gap-dropped : (i : ℕ) → i < length cs → candidateAt cs i .left < candidateAt cs i .right → List·Memᴰ (cutOf (candidateAt cs i)) (gapsIn r segment settings values flags)
+    pub gap-dropped : (i : ℕ) → i < length cs → candidateAt cs i .left < candidateAt cs i .right → List·Memᴰ (candidateCut (candidateAt cs i)) (gapsIn r segment settings values flags)
     pub gap-found : (gap : Cut) → List·Memᴰ gap (gapsIn r segment settings values flags) → Ends cs gap
     -- "no other candidate [..] lies in a dropped gap, edges included"
     pub alone : (gap : Cut) → List·Memᴰ gap (gapsIn r segment settings values flags) → (i : ℕ) → i < length cs
-        → (cutOf (candidateAt cs i) ≡ gap) ⊎ ((candidateAt cs i .right < gap .left) ⊎ (gap .right < candidateAt cs i .left))
+        → (candidateCut (candidateAt cs i) ≡ gap) ⊎ ((candidateAt cs i .right < gap .left) ⊎ (gap .right < candidateAt cs i .left))
     -- "one grid point for each block": each boundary that is not blocked lies in a block whose point is listed
     pub blocks : (k : ℕ) → first < k → k < last → blockedIn r segment settings values flags k ≡ false
-        → InBlock (blockedIn r segment settings values flags) (levelsIn r segment values flags levels) (spacingIn r segment settings (length values) .block) last (suc first)
+        → InBlock (blockedIn r segment settings values flags) (boundaryLevelsIn r segment values flags levels) (spacingIn r segment settings (length values) .block) last (suc first)
         (gridPointsIn r segment settings values flags levels) k
     -- in samples they pass refusals 15 and 16 of the path search
     pub asked : Candidates (leftsOf (gridOf r (length values)) cs) (rightsOf (gridOf r (length values)) cs)
@@ -98,6 +98,6 @@ module _ (r : Recording) (segment : SegmentConfig) (settings : PlanConfig) (valu
     pub cheapest : (i : ℕ) → 0 < i → suc i < length cs → Cheapest (withLeft (candidateAt cs i .left) (listedIn r segment settings values flags levels)) (candidateAt cs i)
     -- "(quietest, the first of equals)"
     pub quietest : (k : ℕ) → isIn (gridPointsIn r segment settings values flags levels) k ≡ true
-        → QuietestOfBlock (blockedIn r segment settings values flags) (levelsIn r segment values flags levels) (spacingIn r segment settings (length values) .block) first last k
+        → QuietestOfBlock (blockedIn r segment settings values flags) (boundaryLevelsIn r segment values flags levels) (spacingIn r segment settings (length values) .block) first last k
     -- the path search may add them up
     pub costs-asked : Costs (costsOf cs) (length cs)

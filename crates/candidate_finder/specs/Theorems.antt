@@ -25,7 +25,7 @@ use Rattle.candidate_span.specs.SpanLaws.{span-frames}
 use Rattle.candidate_span.specs.declared.spacing.Spacing.{Spacing}
 use Rattle.candidate_costs.specs.Level.{boundaryLevels}
 use Rattle.candidate_costs.specs.Within.{level-within}
-use Rattle.candidate_cuts.specs.CutsLaws.{Prepared}
+use Rattle.candidate_cuts.specs.CutsLaws.{CutReady}
 use Rattle.candidate_points.specs.Points.{isIn, isPoint}
 use Rattle.candidate_points.specs.Theorems.{Levels, point-of, point-quietest, open-in}
 use Rattle.plan_tests.specs.Fitting.{Fitting}
@@ -38,10 +38,10 @@ use Rattle.candidates.specs.Found.{candidate-source, listed-found, listed-insid
 use Rattle.candidates.specs.Alone.{gap-dropped, dropped-found, gap-alone}
 use Rattle.candidates.specs.Asked.{Sampled, candidates-asked, costs-asked}
 use Rattle.candidates.specs.Cheapest.{candidate-cheapest}
-use Rattle.candidates.specs.Costs.{Costed, candidate-cost, candidate-positive}
+use Rattle.candidates.specs.Costs.{Costable, candidate-cost, candidate-positive}
 use Rattle.candidates.specs.declared.candidate.Candidate.{Candidate}
 use Rattle.candidates.specs.declared.context.Context.{Context}
-use Rattle.candidate_finder.specs.CandidatesIn.{recordingLevels, runsIn, levelsIn, contextOf, gridPointsIn, listedIn, candidatesIn}
+use Rattle.candidate_finder.specs.CandidatesIn.{recordingLevels, runsIn, boundaryLevelsIn, contextOf, gridPointsIn, listedIn, candidatesIn}
 use Rattle.candidate_finder.specs.SpanIn.{spacingIn, emptyIn, firstIn, lastIn, blockedIn}
 use Rattle.candidate_finder.specs.PlanCandidates.{StartsAt, QuietestOfBlock, PlanCandidates, PlanCosts}
 use Rattle.candidate_finder.specs.Holds.{silences-are}
@@ -72,7 +72,7 @@ module _ (r : Recording) (segment : SegmentConfig) (settings : PlanConfig) (valu
     runs = runsIn r segment values flags
 
     abbrev boundary-levels : List Float
-    boundary-levels = levelsIn r segment values flags levels
+    boundary-levels = boundaryLevelsIn r segment values flags levels
 
     abbrev first : ℕ
     first = firstIn r segment settings values flags
@@ -94,10 +94,10 @@ module _ (r : Recording) (segment : SegmentConfig) (settings : PlanConfig) (valu
     some = span-frames (settings .gap) (length values) ss full
 
     size : length boundary-levels ≡ suc (length values)
-    unfolding levelsIn boundaryLevels
+    unfolding boundaryLevelsIn boundaryLevels
     size = tabulate-length _ (suc (length values))
 
-    prepared : Prepared (settings .gap) (settings .placement) (length values) boundary-levels ss
+    prepared : CutReady (settings .gap) (settings .placement) (length values) boundary-levels ss
     prepared = record { spanned = record { listed = silences-are r segment values flags (p .sounds .flagged); some = full }; few = p .few; held = omega (arith, size); ratio = p .ratio }
 
     fits : Fits x g s
@@ -167,10 +167,10 @@ module _ (r : Recording) (segment : SegmentConfig) (settings : PlanConfig) (valu
 
     module _ (f : Fitting values levels) where
       -- every level is a number from 0 to 1
-      pub costed : Costed x g runs boundary-levels
+      pub costed : Costable x g runs boundary-levels
       costed = record {
         weighed = p .weights;
-        scale = λ (k : ℕ) (l : k ≤ length values). unfold levelsIn in
+        scale = λ (k : ℕ) (l : k ≤ length values). unfold boundaryLevelsIn in
             level-within (recordingLevels r segment values flags) _ values flags levels (r .domain) (ready-levelled r segment settings values flags levels n32 n64 nf p f) some k l;
         bounded = p .accepted .bounded;
         rate = within-most (r .«frame_rate») maxFrameRate (frames-parts (r .«sample_rate») (r .«frame_rate») (r .hop) (p .recording .frames) .0);

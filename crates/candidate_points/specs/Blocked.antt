@@ -10,7 +10,7 @@ use Rattle.grid.specs.declared.boundary.FrameGrid.{FrameGrid}
 use Rattle.silence_runs.specs.Runs.{putRun}
 use Rattle.plan_settings.specs.declared.config.Gap.{Gap}
 use Rattle.plan_settings.specs.declared.config.Gap.the-variants.{Keep, Drop}
-use Rattle.candidate_span.specs.Listed.{count, startAt, endAt}
+use Rattle.candidate_span.specs.Listed.{silenceCount, startAt, endAt}
 use Rattle.candidate_span.specs.Bounds.{lowOf, highOf}
 use Rattle.candidate_span.specs.declared.spacing.Spacing.{Spacing}
 use Rattle.candidate_points.specs.Flags.{flagOf}
@@ -40,7 +40,7 @@ blockedBy gap g s ss (suc i) k = blockedBy gap g s ss i k || blocksAt gap g s (s
 
 -- some silence blocks boundary k
 unfoldable pub isBlocked : Gap → FrameGrid → Spacing → List ℕ → ℕ → Bool
-isBlocked gap g s ss k = blockedBy gap g s ss (count ss) k
+isBlocked gap g s ss k = blockedBy gap g s ss (silenceCount ss) k
 
 -- ---- as flags
 
@@ -54,7 +54,7 @@ flagsBy gap g s ss i = tabulate (flagBy gap g s ss i) (suc (g .frames))
 
 -- the flags of all boundaries, by all silences
 unfoldable pub blockedOf : Gap → FrameGrid → Spacing → List ℕ → List ℕ
-blockedOf gap g s ss = flagsBy gap g s ss (count ss)
+blockedOf gap g s ss = flagsBy gap g s ss (silenceCount ss)
 
 -- one step of it, in place: the flags of a silence become 1, and those inside its padded bounds 0 where it gets grid points
 unfoldable pub shutBy : Gap → FrameGrid → Spacing → ℕ → ℕ → List ℕ → List ℕ

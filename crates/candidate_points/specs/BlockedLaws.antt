@@ -14,7 +14,7 @@ use Rattle.base_code.specs.FrontLaws.{tabulate-at, tabulate-length}
 use Rattle.grid.specs.declared.boundary.FrameGrid.{FrameGrid}
 use Rattle.silence_runs.specs.Runs.{putRun}
 use Rattle.plan_settings.specs.declared.config.Gap.{Gap}
-use Rattle.candidate_span.specs.Listed.{count, startAt, endAt}
+use Rattle.candidate_span.specs.Listed.{silenceCount, startAt, endAt}
 use Rattle.candidate_span.specs.ListedLaws.{Listed, listed-own, listed-apart, listed-within}
 use Rattle.candidate_span.specs.Bounds.{lowOf, highOf}
 use Rattle.candidate_span.specs.BoundsLaws.{low-within, high-within}
@@ -139,7 +139,7 @@ module _ (gap : Gap) (g : FrameGrid) (s : Spacing) (ss : List ℕ) where
   blocked-none (suc i) k f = rw (blocked-none i k (λ (j : ℕ) (h : j < i). f j (omega arith)), touches-out (startAt ss i) (endAt ss i) k (inr (f i (omega arith))))
 
   -- the flags of one more silence
-  pub flags-next : s .padding .frames ≡ g .frames → Listed (g .frames) ss → (i : ℕ) → i < count ss → shutBy gap g s (startAt ss i) (endAt ss i) (flagsBy gap g s ss i) ≡ flagsBy gap g s ss (suc i)
+  pub flags-next : s .padding .frames ≡ g .frames → Listed (g .frames) ss → (i : ℕ) → i < silenceCount ss → shutBy gap g s (startAt ss i) (endAt ss i) (flagsBy gap g s ss i) ≡ flagsBy gap g s ss (suc i)
   flags-next same l i h = ext-getD 0 next (flagsBy gap g s ss (suc i)) (size ∙ sym (flags-length (suc i))) each
     where
       own : startAt ss i ≤ endAt ss i
@@ -180,17 +180,17 @@ module _ (gap : Gap) (g : FrameGrid) (s : Spacing) (ss : List ℕ) where
   -- there is a flag for each boundary
   pub blocked-length : length (blockedOf gap g s ss) ≡ suc (g .frames)
   unfolding blockedOf
-  blocked-length = flags-length (count ss)
+  blocked-length = flags-length (silenceCount ss)
 
   -- which is not 0 exactly where the boundary is blocked
   pub blocked-at : (k : ℕ) → k ≤ g .frames → not (eqb (getD (blockedOf gap g s ss) k 0) 0) ≡ isBlocked gap g s ss k
   unfolding blockedOf isBlocked
-  blocked-at k h = rw (flags-at (count ss) k h) (flag-set (blockedBy gap g s ss (count ss) k))
+  blocked-at k h = rw (flags-at (silenceCount ss) k h) (flag-set (blockedBy gap g s ss (silenceCount ss) k))
 
   -- a boundary in a silence is blocked where it is not open to grid points
-  pub blocked-in : (i k : ℕ) → i < count ss → touches (startAt ss i) (endAt ss i) k ≡ true → opens gap g s (startAt ss i) (endAt ss i) k ≡ false → isBlocked gap g s ss k ≡ true
+  pub blocked-in : (i k : ℕ) → i < silenceCount ss → touches (startAt ss i) (endAt ss i) k ≡ true → opens gap g s (startAt ss i) (endAt ss i) k ≡ false → isBlocked gap g s ss k ≡ true
   unfolding isBlocked
-  blocked-in i k h t o = go (count ss) h
+  blocked-in i k h t o = go (silenceCount ss) h
     where
       here : blocksAt gap g s (startAt ss i) (endAt ss i) k ≡ true
       here = unfold blocksAt in rw (t, o)

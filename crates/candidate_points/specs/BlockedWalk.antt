@@ -13,7 +13,7 @@ use Rattle.grid.specs.Boundary.{Bounded}
 use Rattle.grid.specs.declared.boundary.FrameGrid.{FrameGrid}
 use Rattle.silence_runs.specs.Runs.{putRun}
 use Rattle.plan_settings.specs.declared.config.Gap.{Gap}
-use Rattle.candidate_span.specs.Listed.{count, startAt, endAt}
+use Rattle.candidate_span.specs.Listed.{silenceCount, startAt, endAt}
 use Rattle.candidate_span.specs.ListedLaws.{Listed, listed-own, listed-within}
 use Rattle.candidate_span.specs.Bounds.{lowOf, highOf, boundsOf}
 use Rattle.candidate_span.specs.BoundsLaws.{high-within}
@@ -116,7 +116,7 @@ module _ (gap : Gap) (g : FrameGrid) (s : Spacing) (silences base : ℕ) (work�
   pub marking-part : take (end - base) (drop base work) ≡ flagsBy gap g s (take (2 * silences) work₀) i
   marking-part = rw (m .flags) (placed-part base (flagsBy gap g s (take (2 * silences) work₀) i) work₀ room-fits (end - base) (omega (arith, size, m .stops)))
 
-  listed-count : count (take (2 * silences) work₀) ≡ silences
+  listed-count : silenceCount (take (2 * silences) work₀) ≡ silences
   listed-count = omega (arith, length-take-le (2 * silences) work₀ (omega (arith, m .room .apart, m .room .fits)))
 
   -- silence i lies inside the recording

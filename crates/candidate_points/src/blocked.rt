@@ -1,5 +1,6 @@
 // Which boundaries silences block.
 use crate::fill;
+use base_code::layout;
 use base_code::numbers;
 use candidate_span::bounds;
 use candidate_span::listed;
@@ -49,7 +50,7 @@ fn mark_silences(gap: Gap, g: FrameGrid, s: Spacing, silences: usize, base: usiz
     ensures { λ _. ⌜ now (work .exit) ≡
         placed base (blockedOf gap g s (take (2 * silences) (now (work .entry)))) (now (work .entry)) ⌝ }
 {
-    let end = base + g.frames + 1;
+    let end = base + layout::side(g.frames);
     for i in 0..silences {
         let from = listed::start_at(&*work, i);
         let to = listed::end_at(&*work, i);
@@ -71,6 +72,7 @@ pub fn mark_blocked(
     ensures { λ _. ⌜ now (work .exit) ≡
         placed base (blockedOf gap g s (take (2 * silences) (now (work .entry)))) (now (work .entry)) ⌝ }
 {
-    fill::fill_range(&mut *work, base, base + g.frames + 1, 0);
+    let end = base + layout::side(g.frames);
+    fill::fill_range(&mut *work, base, end, 0);
     mark_silences(gap, g, s, silences, base, work);
 }

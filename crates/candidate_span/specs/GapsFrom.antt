@@ -7,7 +7,7 @@ use Prim.Native.Nat.{ℕ, zero, suc, _<_}
 use native.Mathlib.Omega.{arith}
 use Rattle.base_laws.specs.Tests.{tested}
 use Rattle.candidate_span.specs.declared.padding.Padding.{Padding}
-use Rattle.candidate_span.specs.Listed.{count, startAt, endAt}
+use Rattle.candidate_span.specs.Listed.{silenceCount, startAt, endAt}
 use Rattle.silence_runs.specs.SilencesLaws.{start-after, end-after}
 use Rattle.candidate_span.specs.Gaps.{Cut, isGap, silenceGap, innerGaps}
 
@@ -15,7 +15,7 @@ module _ (p : Padding) where
   -- silence i has a gap, and g is it
   pub record GapAt (ss : List ℕ) (g : Cut) : Type 0 where
     pub number : ℕ
-    pub listed : number < count ss
+    pub listed : number < silenceCount ss
     pub left : isGap p (startAt ss number) (endAt ss number) ≡ true
     pub is : g ≡ silenceGap p (startAt ss number) (endAt ss number)
 
@@ -42,7 +42,7 @@ module _ (p : Padding) where
   ]
 
   -- and each silence that has one gives its gap
-  pub gap-in : (ss : List ℕ) (i : ℕ) → i < count ss → isGap p (startAt ss i) (endAt ss i) ≡ true
+  pub gap-in : (ss : List ℕ) (i : ℕ) → i < silenceCount ss → isGap p (startAt ss i) (endAt ss i) ≡ true
       → List·Memᴰ (silenceGap p (startAt ss i) (endAt ss i)) (innerGaps p ss)
   unfolding innerGaps
   gap-in [] i h t = absurd (omega arith)

@@ -13,7 +13,7 @@ use Rattle.silence_runs.specs.SilencesLaws.{Rising, rising-least, start-after, 
 use Rattle.plan_settings.specs.declared.config.Gap.{Gap}
 use Rattle.plan_settings.specs.declared.config.Gap.the-variants.{Keep, Drop}
 use Rattle.candidate_span.specs.declared.padding.Padding.{Padding}
-use Rattle.candidate_span.specs.Listed.{count, startAt, endAt}
+use Rattle.candidate_span.specs.Listed.{silenceCount, startAt, endAt}
 use Rattle.candidate_span.specs.Bounds.{lowOf, highOf, isInner}
 use Rattle.candidate_span.specs.BoundsLaws.{inner-parts, low-within, high-within}
 use Rattle.candidate_span.specs.Span.{firstOf, lastOf}
@@ -34,10 +34,10 @@ gap-parts p start end h =
 
 -- every number of silences that starts after boundary a, or ends before boundary z
 abbrev StartsAfter : ℕ → List ℕ → Type 0
-StartsAfter a ss = (i : ℕ) → i < count ss → (startAt ss i ≡ 0 → ⊥) → a < startAt ss i
+StartsAfter a ss = (i : ℕ) → i < silenceCount ss → (startAt ss i ≡ 0 → ⊥) → a < startAt ss i
 
 abbrev EndsBefore : ℕ → ℕ → List ℕ → Type 0
-EndsBefore n z ss = (i : ℕ) → i < count ss → (endAt ss i ≡ n → ⊥) → endAt ss i < z
+EndsBefore n z ss = (i : ℕ) → i < silenceCount ss → (endAt ss i ≡ n → ⊥) → endAt ss i < z
 
 starts-rest : (a s e : ℕ) (ss : List ℕ) → StartsAfter a (s ∷ (e ∷ ss)) → StartsAfter a ss
 starts-rest a s e ss f i h d =

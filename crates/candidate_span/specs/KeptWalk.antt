@@ -8,7 +8,7 @@ use lib.Seq.{drop-cons}
 use Rattle.plan_settings.specs.declared.config.Gap.{Gap}
 use Rattle.plan_settings.specs.declared.config.Gap.the-variants.{Keep, Drop}
 use Rattle.candidate_span.specs.declared.padding.Padding.{Padding}
-use Rattle.candidate_span.specs.Listed.{count}
+use Rattle.candidate_span.specs.Listed.{silenceCount}
 use Rattle.candidate_span.specs.Gaps.{innerGaps, gapsOf, gapWidth, dropped}
 use Rattle.candidate_span.specs.GapsLaws.{dropped-first}
 use Rattle.candidate_span.specs.Kept.{keptFrames}
@@ -22,8 +22,8 @@ no-pair p (s ∷ (e ∷ ss)) h = absurd (omega arith)
 
 -- the frames of the first i silences' gaps are taken from those of the span, which leaves `kept`
 pub record GapsTaken (p : Padding) (first last : ℕ) (ss : List ℕ) (end kept i : ℕ) : Type 0 where
-  pub within : i ≤ count ss
-  pub ends : end ≡ count ss
+  pub within : i ≤ silenceCount ss
+  pub ends : end ≡ silenceCount ss
   pub rest : kept - dropped (innerGaps p (drop (2 * i) ss)) ≡ keptFrames first (innerGaps p ss) last
 
 -- before the first silence all frames of the span are left

@@ -5,5 +5,5 @@ use lib.ListN.{length}
 pub use Rattle.silence_runs.specs.Silences.{startAt, endAt}
 
 -- how many silences the list has
-abbrev pub count : List ℕ → ℕ
-count ss = length ss / 2
+abbrev pub silenceCount : List ℕ → ℕ
+silenceCount ss = length ss / 2

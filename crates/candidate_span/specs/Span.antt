@@ -10,16 +10,16 @@ use Rattle.candidate_span.specs.declared.ends.SpanEnds.{SpanEnds}
 use Rattle.candidate_span.specs.declared.ends.SpanEnds.the-variants.{Empty, Between}
 use Rattle.candidate_span.specs.declared.padding.Padding.{Padding}
 use Rattle.candidate_span.specs.declared.held.HeldSpan.{HeldSpan}
-use Rattle.candidate_span.specs.Listed.{count, startAt, endAt}
+use Rattle.candidate_span.specs.Listed.{silenceCount, startAt, endAt}
 use Rattle.candidate_span.specs.Gaps.{Cut, gapsOf}
 
 -- the first silence starts with the recording
 unfoldable pub isLeading : List ℕ → Bool
-isLeading ss = ltb 0 (count ss) && eqb (startAt ss 0) 0
+isLeading ss = ltb 0 (silenceCount ss) && eqb (startAt ss 0) 0
 
 -- the last silence ends with the recording
 unfoldable pub isTrailing : ℕ → List ℕ → Bool
-isTrailing n ss = ltb 0 (count ss) && eqb (endAt ss (count ss - 1)) n
+isTrailing n ss = ltb 0 (silenceCount ss) && eqb (endAt ss (silenceCount ss - 1)) n
 
 -- silence all through: the first silence is the whole recording
 unfoldable pub allSilent : ℕ → List ℕ → Bool
@@ -38,7 +38,7 @@ firstOf Drop p ss = cond (isLeading ss) (endAt ss 0 - p .pre) 0
 -- the span's last boundary: with gaps dropped, padding after the last sound is kept of a trailing silence
 unfoldable pub lastOf : Gap → Padding → List ℕ → ℕ
 lastOf Keep p ss = p .frames
-lastOf Drop p ss = cond (isTrailing (p .frames) ss) (min (startAt ss (count ss - 1) + p .tail) (p .frames)) (p .frames)
+lastOf Drop p ss = cond (isTrailing (p .frames) ss) (min (startAt ss (silenceCount ss - 1) + p .tail) (p .frames)) (p .frames)
 
 -- the two ends of the span, or that it is empty
 unfoldable pub endsOf : Gap → Padding → List ℕ → SpanEnds
@@ -56,4 +56,4 @@ spanIn gap p h ss = record { first = h .first; gaps = gapsOf gap p ss; last = h 
 
 -- document 01's "span" of a recording: its ends follow from the silences
 abbrev pub spanOf : Gap → Padding → List ℕ → Span
-spanOf gap p ss = spanIn gap p record { silences = count ss; first = firstOf gap p ss; last = lastOf gap p ss } ss
+spanOf gap p ss = spanIn gap p record { silences = silenceCount ss; first = firstOf gap p ss; last = lastOf gap p ss } ss

@@ -1,7 +1,7 @@
 -- The ends of a span that is not empty are in order, and each inner silence lies strictly inside it.
 use mathlib.Core.Path.{_≡_, refl, sym, ap, subst, _∙_}
 use mathlib.Core.Logic.{inl, inr}
-use mathlib.Core.Bool.{Bool, true, false, _&&_, _||_, cond, true≢false}
+use mathlib.Core.Bool.{Bool, true, false, _&&_, cond, true≢false}
 use mathlib.Core.List.{List}
 use Prim.Native.Nat.{ℕ, zero, suc, _+_, _-_, _≤_, _<_, min}
 use native.Mathlib.Omega.{arith}
@@ -9,13 +9,13 @@ use lib.Dec.{eqb, ltb}
 use borrow.Author.Tests.{ltb-true, eqb-true, eqb-false, lt-ltb, eq-eqb}
 use native.Mathlib.Nat.{pos-of-ne-zero}
 use native.Mathlib.Numerals.{lt-of-le-of-ne}
-use Rattle.base_laws.specs.Tests.{both, holds, lt-or-le, tested}
+use Rattle.base_laws.specs.Tests.{both, neither, lt-or-le, tested}
 use Rattle.plan_settings.specs.declared.config.Gap.{Gap}
 use Rattle.plan_settings.specs.declared.config.Gap.the-variants.{Keep, Drop}
 use Rattle.candidate_span.specs.declared.ends.SpanEnds.{SpanEnds}
 use Rattle.candidate_span.specs.declared.ends.SpanEnds.the-variants.{Empty, Between}
 use Rattle.candidate_span.specs.declared.padding.Padding.{Padding}
-use Rattle.candidate_span.specs.Listed.{count, startAt, endAt}
+use Rattle.candidate_span.specs.Listed.{silenceCount, startAt, endAt}
 use Rattle.candidate_span.specs.ListedLaws.{Listed, listed-own, listed-apart, listed-within}
 use Rattle.candidate_span.specs.Span.{isLeading, isTrailing, allSilent, emptySpan, firstOf, lastOf, endsOf}
 
@@ -26,37 +26,33 @@ pub record Spanned (gap : Gap) (n : ℕ) (ss : List ℕ) : Type 0 where
 
 -- ---- leading and trailing silence
 
-neither : (a b : Bool) → (a || b) ≡ false → (a ≡ false) × (b ≡ false)
-neither true b e = absurd (holds (sym e))
-neither false b e = (refl, e)
-
 -- there is a silence, and its end stands where it is sought; or not so
-pub by-end : (count at end : ℕ) (P : Bool → Type 0) → (0 < count → at ≡ end → P true) → ((0 < count → at ≡ end → ⊥) → P false) → P (ltb 0 count && eqb at end)
-by-end count at end P there elsewhere = elim (tested (ltb 0 count && eqb at end)) [
-  | inl e ↦ let p = both (ltb 0 count) (eqb at end) e in rw e (there (ltb-true 0 count (p .0)) (eqb-true at end (p .1)))
-  | inr e ↦ rw e (elsewhere (λ h q. true≢false (rw (lt-ltb 0 count h, eq-eqb at end q) at e)))
+pub by-end : (many at end : ℕ) (P : Bool → Type 0) → (0 < many → at ≡ end → P true) → ((0 < many → at ≡ end → ⊥) → P false) → P (ltb 0 many && eqb at end)
+by-end many at end P there elsewhere = elim (tested (ltb 0 many && eqb at end)) [
+  | inl e ↦ let p = both (ltb 0 many) (eqb at end) e in rw e (there (ltb-true 0 many (p .0)) (eqb-true at end (p .1)))
+  | inr e ↦ rw e (elsewhere (λ h q. true≢false (rw (lt-ltb 0 many h, eq-eqb at end q) at e)))
 ]
 
 -- the first silence starts with the recording, or the first frame sounds
 pub data Leading (p : Padding) (ss : List ℕ) (first : ℕ) : Type 0 where
-  led : 0 < count ss → startAt ss 0 ≡ 0 → first ≡ endAt ss 0 - p .pre → Leading p ss first
-  unled : (0 < count ss → startAt ss 0 ≡ 0 → ⊥) → first ≡ 0 → Leading p ss first
+  led : 0 < silenceCount ss → startAt ss 0 ≡ 0 → first ≡ endAt ss 0 - p .pre → Leading p ss first
+  unled : (0 < silenceCount ss → startAt ss 0 ≡ 0 → ⊥) → first ≡ 0 → Leading p ss first
 
 -- with gaps dropped, one of the two holds of the span's first boundary
 pub leading : (p : Padding) (ss : List ℕ) → Leading p ss (firstOf Drop p ss)
 unfolding firstOf isLeading
-leading p ss = by-end (count ss) (startAt ss 0) 0 (λ t. Leading p ss (cond t (endAt ss 0 - p .pre) 0)) (λ h e. led h e refl) (λ n. unled n refl)
+leading p ss = by-end (silenceCount ss) (startAt ss 0) 0 (λ t. Leading p ss (cond t (endAt ss 0 - p .pre) 0)) (λ h e. led h e refl) (λ n. unled n refl)
 
 -- the last silence ends with the recording, or the last frame sounds
 pub data Trailing (p : Padding) (ss : List ℕ) (last : ℕ) : Type 0 where
-  trailed : 0 < count ss → endAt ss (count ss - 1) ≡ p .frames → last ≡ min (startAt ss (count ss - 1) + p .tail) (p .frames) → Trailing p ss last
-  untrailed : (0 < count ss → endAt ss (count ss - 1) ≡ p .frames → ⊥) → last ≡ p .frames → Trailing p ss last
+  trailed : 0 < silenceCount ss → endAt ss (silenceCount ss - 1) ≡ p .frames → last ≡ min (startAt ss (silenceCount ss - 1) + p .tail) (p .frames) → Trailing p ss last
+  untrailed : (0 < silenceCount ss → endAt ss (silenceCount ss - 1) ≡ p .frames → ⊥) → last ≡ p .frames → Trailing p ss last
 
 -- with gaps dropped, one of the two holds of the span's last boundary
 pub trailing : (p : Padding) (ss : List ℕ) → Trailing p ss (lastOf Drop p ss)
 unfolding lastOf isTrailing
 trailing p ss =
-    by-end (count ss) (endAt ss (count ss - 1)) (p .frames) (λ t. Trailing p ss (cond t (min (startAt ss (count ss - 1) + p .tail) (p .frames)) (p .frames)))
+    by-end (silenceCount ss) (endAt ss (silenceCount ss - 1)) (p .frames) (λ t. Trailing p ss (cond t (min (startAt ss (silenceCount ss - 1) + p .tail) (p .frames)) (p .frames)))
     (λ h e. trailed h e refl) (λ s. untrailed s refl)
 
 -- ---- what a span that is not empty has
@@ -68,10 +64,10 @@ span-frames Keep n ss e = pos-of-ne-zero (eqb-false n 0 e)
 span-frames Drop n ss e = pos-of-ne-zero (eqb-false n 0 (neither (eqb n 0) (allSilent n ss) e .0))
 
 -- with gaps dropped, sound
-pub span-sounds : (n : ℕ) (ss : List ℕ) → emptySpan Drop n ss ≡ false → 0 < count ss → startAt ss 0 ≡ 0 → endAt ss 0 ≡ n → ⊥
+pub span-sounds : (n : ℕ) (ss : List ℕ) → emptySpan Drop n ss ≡ false → 0 < silenceCount ss → startAt ss 0 ≡ 0 → endAt ss 0 ≡ n → ⊥
 unfolding emptySpan allSilent isLeading
 span-sounds n ss e h s t =
-    true≢false (rw (lt-ltb 0 (count ss) h, eq-eqb (startAt ss 0) 0 s, eq-eqb (endAt ss 0) n t) at (neither (eqb n 0) (allSilent n ss) e .1))
+    true≢false (rw (lt-ltb 0 (silenceCount ss) h, eq-eqb (startAt ss 0) 0 s, eq-eqb (endAt ss 0) n t) at (neither (eqb n 0) (allSilent n ss) e .1))
 
 -- ---- the ends
 
@@ -80,21 +76,21 @@ zero-is i l = omega arith
 
 module _ (p : Padding) (ss : List ℕ) (w : Spanned Drop (p .frames) ss) where
   -- the last silence starts after a leading one
-  after-leading : 0 < count ss → startAt ss 0 ≡ 0 → endAt ss (count ss - 1) ≡ p .frames → endAt ss 0 < startAt ss (count ss - 1)
-  after-leading h s t = elim (lt-or-le 0 (count ss - 1)) [
-    | inl q ↦ listed-apart (w .listed) 0 (count ss - 1) q (omega arith)
-    | inr q ↦ absurd (span-sounds (p .frames) ss (w .some) h s (subst (λ (i : ℕ). endAt ss i ≡ p .frames) (zero-is (count ss - 1) q) t))
+  after-leading : 0 < silenceCount ss → startAt ss 0 ≡ 0 → endAt ss (silenceCount ss - 1) ≡ p .frames → endAt ss 0 < startAt ss (silenceCount ss - 1)
+  after-leading h s t = elim (lt-or-le 0 (silenceCount ss - 1)) [
+    | inl q ↦ listed-apart (w .listed) 0 (silenceCount ss - 1) q (omega arith)
+    | inr q ↦ absurd (span-sounds (p .frames) ss (w .some) h s (subst (λ (i : ℕ). endAt ss i ≡ p .frames) (zero-is (silenceCount ss - 1) q) t))
   ]
 
   -- and after the first frame where that one sounds
-  after-sound : 0 < count ss → (startAt ss 0 ≡ 0 → ⊥) → 0 < startAt ss (count ss - 1)
-  after-sound h s = elim (lt-or-le 0 (count ss - 1)) [
-    | inl q ↦ omega (arith, listed-apart (w .listed) 0 (count ss - 1) q (omega arith))
-    | inr q ↦ pos-of-ne-zero {n = startAt ss (count ss - 1)} (λ e. s (subst (λ (i : ℕ). startAt ss i ≡ 0) (zero-is (count ss - 1) q) e))
+  after-sound : 0 < silenceCount ss → (startAt ss 0 ≡ 0 → ⊥) → 0 < startAt ss (silenceCount ss - 1)
+  after-sound h s = elim (lt-or-le 0 (silenceCount ss - 1)) [
+    | inl q ↦ omega (arith, listed-apart (w .listed) 0 (silenceCount ss - 1) q (omega arith))
+    | inr q ↦ pos-of-ne-zero {n = startAt ss (silenceCount ss - 1)} (λ e. s (subst (λ (i : ℕ). startAt ss i ≡ 0) (zero-is (silenceCount ss - 1) q) e))
   ]
 
-  last-own : 0 < count ss → startAt ss (count ss - 1) < endAt ss (count ss - 1)
-  last-own h = listed-own (w .listed) (count ss - 1) (omega arith)
+  last-own : 0 < silenceCount ss → startAt ss (silenceCount ss - 1) < endAt ss (silenceCount ss - 1)
+  last-own h = listed-own (w .listed) (silenceCount ss - 1) (omega arith)
 
   order : (first last : ℕ) → Leading p ss first → Trailing p ss last → (first < last) × (last ≤ p .frames)
   order first last (led h s e) (trailed k t f) = (omega (arith, after-leading h s t, last-own h), omega arith)
@@ -103,16 +99,16 @@ module _ (p : Padding) (ss : List ℕ) (w : Spanned Drop (p .frames) ss) where
   order first last (unled h e) (untrailed t f) = (omega (arith, span-frames Drop (p .frames) ss (w .some)), omega arith)
 
   -- an inner silence starts after the span's first boundary
-  starts-inside : (first i : ℕ) → Leading p ss first → i < count ss → (startAt ss i ≡ 0 → ⊥) → first < startAt ss i
+  starts-inside : (first i : ℕ) → Leading p ss first → i < silenceCount ss → (startAt ss i ≡ 0 → ⊥) → first < startAt ss i
   starts-inside first i (unled h e) l s = omega (arith, pos-of-ne-zero s)
   starts-inside first zero (led h t e) l s = absurd (s t)
   starts-inside first (suc i) (led h t e) l s = omega (arith, listed-apart (w .listed) 0 (suc i) (omega arith) l)
 
   -- and ends before its last
-  ends-inside : (last i : ℕ) → Trailing p ss last → i < count ss → (endAt ss i ≡ p .frames → ⊥) → endAt ss i < last
+  ends-inside : (last i : ℕ) → Trailing p ss last → i < silenceCount ss → (endAt ss i ≡ p .frames → ⊥) → endAt ss i < last
   ends-inside last i (untrailed h e) l s = omega (arith, lt-of-le-of-ne (listed-within (w .listed) i l) s)
-  ends-inside last i (trailed h t e) l s = elim (lt-or-le i (count ss - 1)) [
-    | inl q ↦ omega (arith, listed-apart (w .listed) i (count ss - 1) q (omega arith), last-own h)
+  ends-inside last i (trailed h t e) l s = elim (lt-or-le i (silenceCount ss - 1)) [
+    | inl q ↦ omega (arith, listed-apart (w .listed) i (silenceCount ss - 1) q (omega arith), last-own h)
     | inr q ↦ absurd (s (subst (λ (j : ℕ). endAt ss j ≡ p .frames) (omega arith) t))
   ]
 
@@ -123,13 +119,13 @@ ends-order Keep p ss w = (span-frames Keep (p .frames) ss (w .some), omega arith
 ends-order Drop p ss w = order p ss w (firstOf Drop p ss) (lastOf Drop p ss) (leading p ss) (trailing p ss)
 
 -- an inner silence starts after the span's first boundary
-pub inner-first : (gap : Gap) (p : Padding) (ss : List ℕ) → Spanned gap (p .frames) ss → (i : ℕ) → i < count ss → (startAt ss i ≡ 0 → ⊥) → firstOf gap p ss < startAt ss i
+pub inner-first : (gap : Gap) (p : Padding) (ss : List ℕ) → Spanned gap (p .frames) ss → (i : ℕ) → i < silenceCount ss → (startAt ss i ≡ 0 → ⊥) → firstOf gap p ss < startAt ss i
 unfolding firstOf
 inner-first Keep p ss w i h s = pos-of-ne-zero s
 inner-first Drop p ss w i h s = starts-inside p ss w (firstOf Drop p ss) i (leading p ss) h s
 
 -- and ends before its last
-pub inner-last : (gap : Gap) (p : Padding) (ss : List ℕ) → Spanned gap (p .frames) ss → (i : ℕ) → i < count ss → (endAt ss i ≡ p .frames → ⊥) → endAt ss i < lastOf gap p ss
+pub inner-last : (gap : Gap) (p : Padding) (ss : List ℕ) → Spanned gap (p .frames) ss → (i : ℕ) → i < silenceCount ss → (endAt ss i ≡ p .frames → ⊥) → endAt ss i < lastOf gap p ss
 unfolding lastOf
 inner-last Keep p ss w i h s = lt-of-le-of-ne (listed-within (w .listed) i h) s
 inner-last Drop p ss w i h s = ends-inside p ss w (lastOf Drop p ss) i (trailing p ss) h s
@@ -149,11 +145,6 @@ isEmpty Empty = true
 isEmpty (Between f l) = false
 
 module _ (gap : Gap) (p : Padding) (ss : List ℕ) where
-  -- an empty span has no ends
-  pub ends-empty : emptySpan gap (p .frames) ss ≡ true → endsOf gap p ss ≡ Empty
-  unfolding endsOf
-  ends-empty e = rw e
-
   -- any other has its first and its last boundary
   pub ends-between : emptySpan gap (p .frames) ss ≡ false → endsOf gap p ss ≡ Between (firstOf gap p ss) (lastOf gap p ss)
   unfolding endsOf

@@ -13,7 +13,7 @@ use Rattle.base_terms.specs.Lists.{allOf}
 use Rattle.silence_runs.specs.Silences.{silencesOf}
 use Rattle.silence_runs.specs.SilencesLaws.{edges, isEdge, silences-edges, silences-exact, inSilence}
 use Rattle.silence_runs.specs.Sounds.{isSilent, anySound}
-use Rattle.candidate_span.specs.Listed.{count, startAt, endAt}
+use Rattle.candidate_span.specs.Listed.{silenceCount, startAt, endAt}
 use Rattle.candidate_span.specs.ListedLaws.{Listed, listed-own, silences-listed}
 use Rattle.candidate_span.specs.Span.{isLeading, allSilent}
 
@@ -37,12 +37,12 @@ some-edge (suc x ∷ xs) k = rw (eqb·suc-zero x) (omega arith)
 
 pair : (es : List ℕ) (n : ℕ) → 0 < length es → allSilent n (0 ∷ es) ≡ eqb (getD es 0 0) n
 unfolding allSilent isLeading
-pair es n h = rw (lt-ltb 0 (count (0 ∷ es)) (omega arith))
+pair es n h = rw (lt-ltb 0 (silenceCount (0 ∷ es)) (omega arith))
 
 -- ---- it sounds
 
 -- a leading silence holds the first frame
-held : (ys : List ℕ) → 0 < count ys → startAt ys 0 ≡ 0 → startAt ys 0 < endAt ys 0 → inSilence 0 ys ≡ true
+held : (ys : List ℕ) → 0 < silenceCount ys → startAt ys 0 ≡ 0 → startAt ys 0 < endAt ys 0 → inSilence 0 ys ≡ true
 unfolding inSilence
 held [] h s o = absurd (omega arith)
 held (a ∷ []) h s o = absurd (omega arith)
@@ -51,9 +51,9 @@ held (a ∷ (b ∷ ys)) h s o = rw (le-leb a 0 (omega (arith, s)), lt-ltb 0 b (o
 leads : (n : ℕ) (ss : List ℕ) → Listed n ss → allSilent n ss ≡ true → inSilence 0 ss ≡ true
 unfolding allSilent isLeading
 leads n ss l t =
-    let p = both (ltb 0 (count ss) && eqb (startAt ss 0) 0) (eqb (endAt ss 0) n) t in
-    let q = both (ltb 0 (count ss)) (eqb (startAt ss 0) 0) (p .0) in
-    let h = ltb-true 0 (count ss) (q .0) in
+    let p = both (ltb 0 (silenceCount ss) && eqb (startAt ss 0) 0) (eqb (endAt ss 0) n) t in
+    let q = both (ltb 0 (silenceCount ss)) (eqb (startAt ss 0) 0) (p .0) in
+    let h = ltb-true 0 (silenceCount ss) (q .0) in
     held ss h (eqb-true (startAt ss 0) 0 (q .1)) (listed-own l 0 h)
 
 fails : (b : Bool) → (b ≡ true → ⊥) → b ≡ false

@@ -11,19 +11,19 @@ use Rattle.plan_settings.specs.declared.config.Gap.{Gap}
 use Rattle.plan_settings.specs.declared.config.Gap.the-variants.{Keep, Drop}
 use Rattle.candidate_span.specs.declared.ends.SpanEnds.the-variants.{Empty, Between}
 use Rattle.candidate_span.specs.declared.padding.Padding.{Padding}
-use Rattle.candidate_span.specs.Listed.{count, startAt, endAt}
+use Rattle.candidate_span.specs.Listed.{silenceCount, startAt, endAt}
 use Rattle.candidate_span.specs.Span.{isLeading, isTrailing, allSilent, emptySpan, firstOf, lastOf, endsOf}
 
 -- ---- no silence is listed
 
-module _ (ss : List ℕ) (none : count ss ≡ 0) where
+module _ (ss : List ℕ) (none : silenceCount ss ≡ 0) where
   leading-none : isLeading ss ≡ false
   unfolding isLeading
-  leading-none = rw (le-ltb 0 (count ss) (omega arith))
+  leading-none = rw (le-ltb 0 (silenceCount ss) (omega arith))
 
   trailing-none : (n : ℕ) → isTrailing n ss ≡ false
   unfolding isTrailing
-  trailing-none n = rw (le-ltb 0 (count ss) (omega arith))
+  trailing-none n = rw (le-ltb 0 (silenceCount ss) (omega arith))
 
   -- then the recording is not silent all through
   pub silent-none : (n : ℕ) → false ≡ allSilent n ss
@@ -42,14 +42,14 @@ module _ (ss : List ℕ) (none : count ss ≡ 0) where
 
 -- ---- some silence is listed: s is the start of the first, or of the last, and e its end
 
-module _ (ss : List ℕ) (some : count ss ≡ 0 → ⊥) where
+module _ (ss : List ℕ) (some : silenceCount ss ≡ 0 → ⊥) where
   leading-is : isLeading ss ≡ eqb (startAt ss 0) 0
   unfolding isLeading
-  leading-is = rw (lt-ltb 0 (count ss) (pos-of-ne-zero some))
+  leading-is = rw (lt-ltb 0 (silenceCount ss) (pos-of-ne-zero some))
 
-  trailing-is : (n : ℕ) → isTrailing n ss ≡ eqb (endAt ss (count ss - 1)) n
+  trailing-is : (n : ℕ) → isTrailing n ss ≡ eqb (endAt ss (silenceCount ss - 1)) n
   unfolding isTrailing
-  trailing-is n = rw (lt-ltb 0 (count ss) (pos-of-ne-zero some))
+  trailing-is n = rw (lt-ltb 0 (silenceCount ss) (pos-of-ne-zero some))
 
   unled : (s : ℕ) → s ≡ startAt ss 0 → (s ≡ 0 → ⊥) → isLeading ss ≡ false
   unled s p d = leading-is ∙ ne-eqb (startAt ss 0) 0 (λ e. d (p ∙ e))
@@ -78,15 +78,15 @@ module _ (ss : List ℕ) (some : count ss ≡ 0 → ⊥) where
   first-led p s e r a d q h = rw (led s a d) (h ∙ ap (λ (x : ℕ). x - p .pre) q)
 
   -- the last silence does not end with the recording, or it does
-  pub last-untrailed : (p : Padding) (e : ℕ) → e ≡ endAt ss (count ss - 1) → (e ≡ p .frames → ⊥) → p .frames ≡ lastOf Drop p ss
+  pub last-untrailed : (p : Padding) (e : ℕ) → e ≡ endAt ss (silenceCount ss - 1) → (e ≡ p .frames → ⊥) → p .frames ≡ lastOf Drop p ss
   unfolding lastOf
-  last-untrailed p e a d = rw (trailing-is (p .frames), ne-eqb (endAt ss (count ss - 1)) (p .frames) (λ h. d (a ∙ h)))
+  last-untrailed p e a d = rw (trailing-is (p .frames), ne-eqb (endAt ss (silenceCount ss - 1)) (p .frames) (λ h. d (a ∙ h)))
 
   -- then the span ends at the padding after the last sound
-  pub last-trailed : (p : Padding) (e s r : ℕ) → e ≡ endAt ss (count ss - 1) → e ≡ p .frames → s ≡ startAt ss (count ss - 1) → r ≡ min (s + p .tail) (p .frames)
+  pub last-trailed : (p : Padding) (e s r : ℕ) → e ≡ endAt ss (silenceCount ss - 1) → e ≡ p .frames → s ≡ startAt ss (silenceCount ss - 1) → r ≡ min (s + p .tail) (p .frames)
       → r ≡ lastOf Drop p ss
   unfolding lastOf
-  last-trailed p e s r a d q h = rw (trailing-is (p .frames), eq-eqb (endAt ss (count ss - 1)) (p .frames) (sym a ∙ d)) (h ∙ ap (λ (x : ℕ). min (x + p .tail) (p .frames)) q)
+  last-trailed p e s r a d q h = rw (trailing-is (p .frames), eq-eqb (endAt ss (silenceCount ss - 1)) (p .frames) (sym a ∙ d)) (h ∙ ap (λ (x : ℕ). min (x + p .tail) (p .frames)) q)
 
 -- ---- the ends
 

@@ -44,14 +44,18 @@ fn first(p: Padding, silences: &[u32]) -> usize
 fn last(p: Padding, silences: &[u32]) -> usize
     ensures { λ r. ⌜ r ≡ lastOf Drop p (now (silences .entry)) ⌝ }
 {
-    let count = silences.len() / 2;
-    if count == 0 {
+    let silence_count = silences.len() / 2;
+    if silence_count == 0 {
         return p.frames;
     }
-    if listed::end_at(silences, count - 1) != p.frames {
+    if listed::end_at(silences, silence_count - 1) != p.frames {
         return p.frames;
     }
-    bounds::after(p.frames, listed::start_at(silences, count - 1), p.tail)
+    bounds::after(
+        p.frames,
+        listed::start_at(silences, silence_count - 1),
+        p.tail,
+    )
 }
 
 // The ends of the span of a recording with these silences. Dropping gaps moves its ends inward to the padding of the

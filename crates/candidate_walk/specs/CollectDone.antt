@@ -9,7 +9,7 @@ use lib.Ieee.{Float}
 use lib.ListN.{length, getD}
 use lib.Seq.{length-take-le, getD-take}
 use Rattle.base_laws.specs.Tests.{lt-or-le}
-use Rattle.candidate_span.specs.Listed.{count, startAt, endAt}
+use Rattle.candidate_span.specs.Listed.{silenceCount, startAt, endAt}
 use Rattle.candidate_span.specs.ListedLaws.{listed-own, listed-apart, listed-within}
 use Rattle.candidate_span.specs.SpanLaws.{by-end}
 use Rattle.candidate_span.specs.BoundsLaws.{inner-parts, inner-is}
@@ -49,7 +49,7 @@ module _ (x : Context) (silences : ℕ) (work : List ℕ) (workf : List Float) (
   size = length-take-le (2 * silences) work (omega (arith, h .apart, h .room))
 
   -- as many silences are listed as are held
-  pub held-count : count ss ≡ silences
+  pub held-count : silenceCount ss ≡ silences
   held-count = omega (arith, size)
 
   read : (i : ℕ) → i < 2 * silences → getD ss i 0 ≡ getD work i 0

@@ -1,6 +1,6 @@
 -- What the functions of the walk need of work memory.
 -- One law for each end of the step at a boundary: at a silence's own candidate, at a point, and at neither.
-use mathlib.Core.Path.{_≡_}
+use mathlib.Core.Path.{_≡_, sym, ap, _∙_}
 use mathlib.Core.List.{List, [], _∷_}
 use Prim.Native.Nat.{ℕ, _+_, _-_, _*_, _≤_, _<_}
 use native.Mathlib.Omega.{arith}
@@ -10,12 +10,13 @@ use lib.Seq.{length-take-le}
 use mathlib.Core.Bool.{Bool, true, false, cond}
 use lib.Dec.{ltb, eqb}
 use borrow.Author.Tests.{ltb-true, eqb-true}
-use Rattle.base_terms.specs.Layout.{side, runsAt, searchAt, scoresAt}
+use Rattle.base_terms.specs.Layout.{side, runsAt, entriesAt, searchAt, costsAt, scoresAt}
 use Rattle.grid.specs.Limits.{maxFrames}
 use Rattle.candidate_span.specs.declared.held.HeldSpan.{HeldSpan}
 use Rattle.candidate_span.specs.ListedLaws.{Listed}
 use Rattle.candidate_span.specs.Span.{firstOf, lastOf}
-use Rattle.candidate_cuts.specs.CutsLaws.{Prepared}
+use Rattle.candidate_points.specs.Placed.{placed}
+use Rattle.candidate_cuts.specs.CutsLaws.{CutReady}
 use Rattle.candidates.specs.declared.context.Context.{Context}
 use Rattle.candidate_walk.specs.declared.collect.Walk.{Walk}
 use Rattle.candidate_walk.specs.Held.{silencesHeld, runsHeld, levelsHeld}
@@ -23,8 +24,9 @@ use Rattle.candidates.specs.PointLaws.{Heard, Stretched, Cuttable}
 use Rattle.base_laws.specs.Tests.{both}
 use Rattle.candidates.specs.declared.candidate.Candidate.{Candidate}
 use Rattle.candidates.specs.Candidates.{pointAt, cheaper}
-use Rattle.candidate_walk.specs.Collect.{ownHere, withPoint, pointHeld, nextOwn, hereOf, walkOf}
-use Rattle.candidate_walk.specs.HeldLaws.{Puttable}
+use Rattle.candidates.specs.Entries.{entriesOf, costsOf}
+use Rattle.candidate_walk.specs.Collect.{ownHere, withPoint, pointHeld, nextOwn, hereOf, entriesHere, costsHere, walkOf}
+use Rattle.candidate_walk.specs.HeldLaws.{placed-none, Puttable}
 
 -- so many silences, and room for all that candidates are made from and for themselves
 pub record Holding (x : Context) (silences : ℕ) (work : List ℕ) (workf : List Float) : Type 0 where
@@ -56,7 +58,7 @@ pub record Passing (x : Context) (silences stop k : ℕ) (w : Walk) (work : List
 -- what a whole walk needs: the span of a recording whose silences can be cut
 pub record Collectable (x : Context) (span : HeldSpan) (work : List ℕ) (workf : List Float) : Type 0 where
   pub holding : Holding x (span .silences) work workf
-  pub prepared : Prepared (x .gap) (x .placement) (x .padding .frames) (levelsHeld (x .padding .frames) workf) (silencesHeld (span .silences) work)
+  pub prepared : CutReady (x .gap) (x .placement) (x .padding .frames) (levelsHeld (x .padding .frames) workf) (silencesHeld (span .silences) work)
   pub starts : span .first ≡ firstOf (x .gap) (x .padding) (silencesHeld (span .silences) work)
   pub stops : span .last ≡ lastOf (x .gap) (x .padding) (silencesHeld (span .silences) work)
 
@@ -163,10 +165,23 @@ module _ (x : Context) (silences stop k : ℕ) (mark : Bool) (w : Walk) (work : 
   -- ---- at neither
 
   module _ (other : ownHere w stop k ≡ false) (unset : mark ≡ false) where
-    -- nothing is written
-    pub none-here : [] ≡ hereOf x silences stop k mark w work workf
+    none-here : [] ≡ hereOf x silences stop k mark w work workf
     unfolding hereOf
     none-here = rw (other, unset)
+
+    -- nothing is written in the u32 list
+    pub none-entries : work ≡ entriesHere x silences stop k mark w work workf
+    unfolding entriesOf
+    none-entries =
+        sym (placed-none (entriesAt (x .padding .frames) + 3 * w .written) work)
+        ∙ ap (λ (cs : List Candidate). placed (entriesAt (x .padding .frames) + 3 * w .written) (entriesOf cs) work) none-here
+
+    -- nor in the f64 list
+    pub none-costs : workf ≡ costsHere x silences stop k mark w work workf
+    unfolding costsOf
+    none-costs =
+        sym (placed-none (costsAt (x .padding .frames) + w .written) workf)
+        ∙ ap (λ (cs : List Candidate). placed (costsAt (x .padding .frames) + w .written) (costsOf cs) workf) none-here
 
     -- the walk is as it was
     pub none-walk : w ≡ walkOf x silences stop k mark w work workf

@@ -1,14 +1,14 @@
 -- A step of the walk keeps what holds of it; where it starts and ends.
 use mathlib.Core.Path.{_≡_, refl, sym, ap, _∙_}
 use mathlib.Core.Logic.{inl, inr}
-use mathlib.Core.Bool.{Bool, true, false}
+use mathlib.Core.Bool.{Bool, true, false, _||_}
 use mathlib.Core.List.{List, [], _∷_, _++_, append-assoc, append-nil}
 use Prim.Native.Nat.{ℕ, suc, _+_, _-_, _*_, _≤_, _<_}
 use native.Mathlib.Nat.{eq-or-lt-of-le}
 use native.Mathlib.Omega.{arith}
 use lib.Ieee.{Float}
 use lib.ListN.{length, length-append}
-use Rattle.base_laws.specs.Tests.{lt-or-le, tested}
+use Rattle.base_laws.specs.Tests.{lt-or-le, tested, neither}
 use Rattle.base_terms.specs.Layout.{entriesAt, costsAt}
 use Rattle.candidate_span.specs.declared.held.HeldSpan.{HeldSpan}
 use Rattle.candidate_span.specs.Kept.{boundaries}
@@ -24,7 +24,7 @@ use Rattle.candidate_walk.specs.Held.{silencesHeld, levelsHeld, marked}
 use Rattle.candidates.specs.EntriesLaws.{entries-length, costs-length, entries-append, costs-append}
 use Rattle.candidate_walk.specs.HeldLaws.{placed-more, placed-none}
 use Rattle.candidate_walk.specs.Collect.{ownHere, nextOwn, hereOf, walkOf, listedHeld, insideHeld}
-use Rattle.candidate_walk.specs.CollectLaws.{Collectable, own-parts}
+use Rattle.candidate_walk.specs.CollectLaws.{Collectable, own-parts, none-entries, none-costs, none-walk}
 use Rattle.candidate_walk.specs.CollectStep.{Ranged, WalkHolds, last-in, first-below, own-after, here-is, own-same, own-starts, later, next-inner, none-own}
 
 -- ---- what a step changes
@@ -176,6 +176,13 @@ module _ {x : Context} {span : HeldSpan} {stop from : ℕ} {work₀ : List ℕ} 
     -- what holds at boundary k holds at the next one after the step
     pub walk-next : WalkHolds x span stop from work₀ workf₀ (k + 1) w′ work′ workf′
     walk-next = elim (tested (ownHere w stop k)) [ inl o ↦ next-own o | inr o ↦ next-other o ]
+
+  -- and without a step where nothing stands at boundary k
+  pub walk-none : (mark || ownHere w stop k) ≡ false → WalkHolds x span stop from work₀ workf₀ (k + 1) w work workf
+  walk-none e =
+      let p = neither mark (ownHere w stop k) e in
+      walk-next (none-walk x (span .silences) stop k mark w work workf (p .1) (p .0))
+      (none-entries x (span .silences) stop k mark w work workf (p .1) (p .0)) (none-costs x (span .silences) stop k mark w work workf (p .1) (p .0))
 
 -- ---- start and end
 

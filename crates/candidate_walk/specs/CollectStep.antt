@@ -17,7 +17,7 @@ use Rattle.base_terms.specs.Layout.{entriesAt, costsAt}
 use Rattle.candidate_span.specs.declared.held.HeldSpan.{HeldSpan}
 use Rattle.candidate_span.specs.Kept.{boundaries, passing}
 use Rattle.candidate_points.specs.Points.{isIn}
-use Rattle.candidate_span.specs.Listed.{count}
+use Rattle.candidate_span.specs.Listed.{silenceCount}
 use Rattle.candidate_span.specs.ListedLaws.{Listed}
 use Rattle.candidate_span.specs.SpanLaws.{ends-order}
 use Rattle.candidate_points.specs.Placed.{placed}
@@ -65,7 +65,7 @@ module _ (p : ℕ → Bool) where
 
 -- the silences with sound on both sides are those from `from` up to `stop`
 pub record Ranged (x : Context) (ss : List ℕ) (from stop : ℕ) : Type 0 where
-  pub stops : stop ≤ count ss
+  pub stops : stop ≤ silenceCount ss
   pub inner : (j : ℕ) → from ≤ j → j < stop → InnerAt (x .padding .frames) ss j
   pub only : (j : ℕ) → InnerAt (x .padding .frames) ss j → (from ≤ j) × (j < stop)
 
@@ -204,7 +204,7 @@ module _ {x : Context} {span : HeldSpan} {stop from : ℕ} {work₀ : List ℕ} 
         let q = own-inside x ss [] levels [] (span .first) (span .last) planned i a in
         omega (arith, p, q)
 
-    inner-at : (j : ℕ) → j < count ss → IsOwn x ss levels j → InnerAt n ss j
+    inner-at : (j : ℕ) → j < silenceCount ss → IsOwn x ss levels j → InnerAt n ss j
     inner-at j h t = record { listed = h; inner = t }
 
     -- the next silence's own candidate stands here
@@ -225,7 +225,7 @@ module _ {x : Context} {span : HeldSpan} {stop from : ℕ} {work₀ : List ℕ} 
           rw (o, point-same, marks-same, next-is below, ← mark-is)
           (sym (survivor-own x ss (runsHeld n work₀) levels (marksHeld x span work₀) k i (next-inner below .listed) (next-inner below .inner) own-starts
           (λ (j : ℕ) (h : j < i) (t : IsOwn x ss levels j) (e : leftAt x ss levels j ≡ k). absurd (omega (arith, e, g .before j h (inner-at j (omega (arith, below, r .stops)) t))))
-          (λ (j : ℕ) (h : i < j) (l : j < count ss) (t : IsOwn x ss levels j) (e : leftAt x ss levels j ≡ k). absurd (omega (arith, e, own-starts, later i j h (next-inner below) (inner-at j l t))))))
+          (λ (j : ℕ) (h : i < j) (l : j < silenceCount ss) (t : IsOwn x ss levels j) (e : leftAt x ss levels j ≡ k). absurd (omega (arith, e, own-starts, later i j h (next-inner below) (inner-at j l t))))))
 
     -- it does not
     module _ (o : ownHere w stop k ≡ false) where
@@ -250,7 +250,7 @@ module _ {x : Context} {span : HeldSpan} {stop from : ℕ} {work₀ : List ℕ} 
       unfolding hereOf
       here-other =
           rw (o, point-same, marks-same, ← mark-is)
-          (sym (survivor-point x ss (runsHeld n work₀) levels (marksHeld x span work₀) k (λ (j : ℕ) (l : j < count ss) (t : IsOwn x ss levels j) (e : leftAt x ss levels j ≡ k). none-own j (inner-at j l t) e)))
+          (sym (survivor-point x ss (runsHeld n work₀) levels (marksHeld x span work₀) k (λ (j : ℕ) (l : j < silenceCount ss) (t : IsOwn x ss levels j) (e : leftAt x ss levels j ≡ k). none-own j (inner-at j l t) e)))
 
     -- what is written at boundary k is the survivor there, or nothing where none is
     pub here-is : hereOf x (span .silences) stop k (marked n work k) w work workf ≡ cheapest (withLeft k (listedHeld x span work₀ workf₀))

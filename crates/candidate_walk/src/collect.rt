@@ -114,7 +114,10 @@ fn pass_all(
     };
     for k in span.first + 1..span.last {
         let marked = work_u32[marks + k] != 0;
-        w = pass(x, span.silences, stop, k, marked, w, work_u32, work_f64);
+        // Most boundaries have no candidate: what `pass` is handed is copied only where there is one.
+        if marked | own_here(w, stop, k) {
+            w = pass(x, span.silences, stop, k, marked, w, work_u32, work_f64);
+        }
     }
     w.written
 }

@@ -8,7 +8,7 @@ use native.Mathlib.Omega.{arith}
 use lib.Ieee.{Float}
 use borrow.Author.Tests.{eq-eqb, ne-eqb}
 use Rattle.base_laws.specs.Tests.{lt-or-le}
-use Rattle.candidate_span.specs.Listed.{count}
+use Rattle.candidate_span.specs.Listed.{silenceCount}
 use Rattle.candidate_span.specs.Kept.{boundaries}
 use Rattle.candidate_span.specs.KeptIn.{Outside, of-boundaries}
 use Rattle.candidate_points.specs.Points.{isIn}
@@ -93,8 +93,8 @@ module _ (x : Context) (ss runs : List ℕ) (levels : List Float) (ks js : List 
   listed-added : allListed x ss runs levels (ks ++ js) ≡ allListed x ss runs levels ks ++ map (pointAt x ss runs levels) js
   unfolding allListed
   listed-added =
-      ap (λ (ps : List Candidate). ownFrom x ss levels (count ss) 0 ++ ps) (map-append (pointAt x ss runs levels) ks js)
-      ∙ sym (append-assoc (ownFrom x ss levels (count ss) 0) (map (pointAt x ss runs levels) ks) (map (pointAt x ss runs levels) js))
+      ap (λ (ps : List Candidate). ownFrom x ss levels (silenceCount ss) 0 ++ ps) (map-append (pointAt x ss runs levels) ks js)
+      ∙ sym (append-assoc (ownFrom x ss levels (silenceCount ss) 0) (map (pointAt x ss runs levels) ks) (map (pointAt x ss runs levels) js))
 
   -- the candidates with added points are the survivors of the candidates and the added points
   pub candidates-added : candidatesOf x ss runs levels (ks ++ js) first last

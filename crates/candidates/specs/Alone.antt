@@ -20,8 +20,8 @@ use Rattle.candidates.specs.Order.{candidates-apart}
 use Rattle.candidates.specs.Found.{every, listed-found}
 
 -- both ends of a candidate
-abbrev pub cutOf : Candidate → Cut
-cutOf c = record { left = c .left; right = c .right }
+abbrev pub candidateCut : Candidate → Cut
+candidateCut c = record { left = c .left; right = c .right }
 
 module _ (x : Context) (ss runs : List ℕ) (levels : List Float) (ks : List ℕ) (first last : ℕ) where
   -- the candidates
@@ -30,13 +30,13 @@ module _ (x : Context) (ss runs : List ℕ) (levels : List Float) (ks : List ℕ
 
   module _ (p : Planned x ss levels ks first last) where
     -- a candidate whose left end is below its right end is a dropped gap
-    pub gap-dropped : (i : ℕ) → i < length cs → candidateAt cs i .left < candidateAt cs i .right → List·Memᴰ (cutOf (candidateAt cs i)) (droppedOf x ss)
+    pub gap-dropped : (i : ℕ) → i < length cs → candidateAt cs i .left < candidateAt cs i .right → List·Memᴰ (candidateCut (candidateAt cs i)) (droppedOf x ss)
     gap-dropped i h =
-        every x ss runs levels ks first last (λ (c : Candidate). c .left < c .right → List·Memᴰ (cutOf c) (droppedOf x ss)) (λ (l : first < first). absurd (omega arith)) (λ (l : last < last). absurd (omega arith))
+        every x ss runs levels ks first last (λ (c : Candidate). c .left < c .right → List·Memᴰ (candidateCut c) (droppedOf x ss)) (λ (l : first < first). absurd (omega arith)) (λ (l : last < last). absurd (omega arith))
         (λ (c : Candidate) (s : Source x ss runs levels ks c) (f : first < c .left) (l : c .left < last). go c s)
         (candidateAt cs i) (at-member cs i h)
       where
-        go : (c : Candidate) → Source x ss runs levels ks c → c .left < c .right → List·Memᴰ (cutOf c) (droppedOf x ss)
+        go : (c : Candidate) → Source x ss runs levels ks c → c .left < c .right → List·Memᴰ (candidateCut c) (droppedOf x ss)
         go c (own j a e) l = rw e (own-dropped x ss runs levels ks first last p j a (rw e at l))
         go c (point k t e) l = absurd (lt-irrefl k (rw (e, point-ends x ss runs levels ks k .0, point-ends x ss runs levels ks k .1) at l))
 
@@ -44,7 +44,7 @@ module _ (x : Context) (ss runs : List ℕ) (levels : List Float) (ks : List ℕ
     pub record GapFound (g : Cut) : Type 0 where
       pub number : ℕ
       pub counted : number < length cs
-      pub is : cutOf (candidateAt cs number) ≡ g
+      pub is : candidateCut (candidateAt cs number) ≡ g
 
     -- whatever has its left end where a silence's candidate is a dropped gap is that candidate
     own-alone : (j : ℕ) → InnerAt (x .padding .frames) ss j → ownAt x ss levels j .left < ownAt x ss levels j .right
@@ -59,16 +59,16 @@ module _ (x : Context) (ss runs : List ℕ) (levels : List Float) (ks : List ℕ
     pub dropped-found : (g : Cut) → List·Memᴰ g (droppedOf x ss) → GapFound g
     dropped-found g m =
         let d = dropped-cut (x .gap) (x .placement) (x .padding) levels ss (p .prepared) g m in
-        let e : g ≡ cutOf (ownAt x ss levels (d .number)) = unfold ownAt in d .is in
+        let e : g ≡ candidateCut (ownAt x ss levels (d .number)) = unfold ownAt in d .is in
         let i = gaps-inside (x .gap) (x .padding) ss (p .prepared .spanned) g m in
         let w = own-inside x ss runs levels ks first last p (d .number) (d .at) in
         let r = listed-found x ss runs levels ks first last (ownAt x ss levels (d .number)) (own (d .number) (d .at) refl) (w .0) (omega (arith, w .1, w .2)) in
         let c = candidateAt cs (r .number) in
         let o : c ≡ ownAt x ss levels (d .number) = own-alone (d .number) (d .at) (rw e at (i .1)) c (at-member cs (r .number) (r .counted)) (r .at) in
-        record { number = r .number; counted = r .counted; is = ap cutOf o ∙ sym e }
+        record { number = r .number; counted = r .counted; is = ap candidateCut o ∙ sym e }
 
     -- document 01: "In a plan no other candidate, found or added later, lies in a dropped gap, edges included"
-    pub gap-alone : (g : Cut) → List·Memᴰ g (droppedOf x ss) → (i : ℕ) → i < length cs → (cutOf (candidateAt cs i) ≡ g)
+    pub gap-alone : (g : Cut) → List·Memᴰ g (droppedOf x ss) → (i : ℕ) → i < length cs → (candidateCut (candidateAt cs i) ≡ g)
         ⊎ ((candidateAt cs i .right < g .left) ⊎ (g .right < candidateAt cs i .left))
     gap-alone g m i h =
         let r = dropped-found g m in
@@ -77,7 +77,7 @@ module _ (x : Context) (ss runs : List ℕ) (levels : List Float) (ks : List ℕ
           | inl l ↦ inr (inl (subst (λ (d : Cut). b .right < d .left) (r .is) (candidates-apart x ss runs levels ks first last p i (r .number) l (r .counted))))
           | inr l ↦
               elim (eq-or-lt-of-le l) [
-                | inl e ↦ inl (ap (λ (j : ℕ). cutOf (candidateAt cs j)) (sym e) ∙ r .is)
+                | inl e ↦ inl (ap (λ (j : ℕ). candidateCut (candidateAt cs j)) (sym e) ∙ r .is)
                 | inr q ↦ inr (inr (subst (λ (d : Cut). d .right < b .left) (r .is) (candidates-apart x ss runs levels ks first last p (r .number) i q h)))
               ]
         ]

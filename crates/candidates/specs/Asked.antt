@@ -19,7 +19,7 @@ use Rattle.candidates.specs.EntriesLaws.{costs-length}
 use Rattle.candidates.specs.Members.{candidateAt}
 use Rattle.candidates.specs.Sources.{Planned}
 use Rattle.candidates.specs.Order.{span-ends, candidates-some, candidates-few, position-order, positions-apart}
-use Rattle.candidates.specs.Costs.{Costed, candidate-cost}
+use Rattle.candidates.specs.Costs.{Costable, candidate-cost}
 
 sample-at : (f : Candidate → ℕ) (cs : List Candidate) (i : ℕ) → i < length cs → getD (map f cs) i 0 ≡ f (candidateAt cs i)
 sample-at f [] i h = absurd (omega arith)
@@ -68,7 +68,7 @@ module _ (x : Context) (ss runs : List ℕ) (levels : List Float) (ks : List ℕ
       right i h = sample-at (rightSample g) cs i h
 
   -- and their costs may be added up
-  pub costs-asked : Costed x g runs levels → Costs (costsOf (candidatesOf x ss runs levels ks first last)) (length (candidatesOf x ss runs levels ks first last))
+  pub costs-asked : Costable x g runs levels → Costs (costsOf (candidatesOf x ss runs levels ks first last)) (length (candidatesOf x ss runs levels ks first last))
   costs-asked q =
       record {
         each = costs-length (candidatesOf x ss runs levels ks first last);

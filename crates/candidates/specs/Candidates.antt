@@ -10,7 +10,7 @@ use lib.ListN.{getD}
 use Rattle.base_terms.specs.Floats.{nought}
 use Rattle.candidate_span.specs.Bounds.{lowOf, highOf, isInner}
 use Rattle.candidate_span.specs.Kept.{boundaries}
-use Rattle.candidate_span.specs.Listed.{count, startAt, endAt}
+use Rattle.candidate_span.specs.Listed.{silenceCount, startAt, endAt}
 use Rattle.candidate_points.specs.Blocked.{touches}
 use Rattle.candidate_costs.specs.Cost.{cutCost}
 use Rattle.candidate_costs.specs.Stretch.{stretchAt, secsOf}
@@ -43,7 +43,7 @@ pausesBy x ss (suc i) k = pausesBy x ss i k || touches (lowOf (x .padding) (star
 
 -- of one of all silences
 unfoldable pub inPause : Context → List ℕ → ℕ → Bool
-inPause x ss k = pausesBy x ss (count ss) k
+inPause x ss k = pausesBy x ss (silenceCount ss) k
 
 -- why a point at boundary k is cut there: it lies in silence beyond the padding; its level is in the quietest quarter of the scale; or neither, which is forced
 unfoldable pub reasonAt : Context → List ℕ → List Float → ℕ → Reason
@@ -76,7 +76,7 @@ ownFrom x ss levels (suc n) i =
 
 -- the candidates in the order in which they are listed: the silences', then the points at boundaries ks
 unfoldable pub allListed : Context → List ℕ → List ℕ → List Float → List ℕ → List Candidate
-allListed x ss runs levels ks = ownFrom x ss levels (count ss) 0 ++ map (pointAt x ss runs levels) ks
+allListed x ss runs levels ks = ownFrom x ss levels (silenceCount ss) 0 ++ map (pointAt x ss runs levels) ks
 
 -- ---- the survivors
 

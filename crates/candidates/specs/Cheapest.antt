@@ -18,7 +18,7 @@ use Rattle.candidates.specs.Candidates.{allListed, withLeft, cheaper, ch
 use Rattle.candidates.specs.Members.{candidateAt, left-of, Survivor, none, one, survivor-at, survivor-of}
 use Rattle.candidates.specs.Sources.{Planned, listed-source}
 use Rattle.candidates.specs.Found.{inside-span, inner-survives}
-use Rattle.candidates.specs.Costs.{Costed, source-cost}
+use Rattle.candidates.specs.Costs.{Costable, source-cost}
 
 -- r is the cheapest of some candidates, the earliest of equals: it is the first, and none behind it is cheaper; or it is cheaper than the first, and the cheapest of the others
 abbrev pub Cheapest : List Candidate → Candidate → Type 0
@@ -82,7 +82,7 @@ survives-here cs (k ∷ ks) c m = elim (List·Memᴰ·append-cases (cheapest (wi
     here (none e n) i = absurd (List·Memᴰ·not-nil (subst (λ (ds : List Candidate). List·Memᴰ c ds) e i))
     here (one d e o l) i = ap (λ (a : Candidate). a .left) (List·Memᴰ·eq-of-singleton (subst (λ (ds : List Candidate). List·Memᴰ c ds) e i)) ∙ l
 
-module _ (x : Context) (g : FrameGrid) (runs : List ℕ) (levels : List Float) (q : Costed x g runs levels) (ss ks : List ℕ) (first last : ℕ) (p : Planned x ss levels ks first last) where
+module _ (x : Context) (g : FrameGrid) (runs : List ℕ) (levels : List Float) (q : Costable x g runs levels) (ss ks : List ℕ) (first last : ℕ) (p : Planned x ss levels ks first last) where
   -- each candidate between the ends is the cheapest of those listed with its left end, the earliest of equals
   pub candidate-cheapest : (i : ℕ) → 0 < i → suc i < length (candidatesOf x ss runs levels ks first last)
       → Cheapest (withLeft (candidateAt (candidatesOf x ss runs levels ks first last) i .left) (allListed x ss runs levels ks)) (candidateAt (candidatesOf x ss runs levels ks first last) i)

@@ -36,7 +36,7 @@ use Rattle.candidates.specs.Order.{span-ends}
 use Rattle.candidates.specs.Found.{every, inside-span, inner-survives, candidate-source}
 
 -- what costs are made with: weights that refusal 10 passes, levels from 0 to 1, the grid's frame, and a stretch for each frame
-pub record Costed (x : Context) (g : FrameGrid) (runs : List ℕ) (levels : List Float) : Type 0 where
+pub record Costable (x : Context) (g : FrameGrid) (runs : List ℕ) (levels : List Float) : Type 0 where
   pub weighed : weightsOk (x .weights) ≡ true
   pub scale : (k : ℕ) → k ≤ x .padding .frames → OnScale (getD levels k nan)
   pub bounded : Bounded g
@@ -45,7 +45,7 @@ pub record Costed (x : Context) (g : FrameGrid) (runs : List ℕ) (levels : List
   pub stretches : length runs ≡ x .padding .frames
   pub counted : (i : ℕ) → getD runs i 0 < 4294967296
 
-module _ (x : Context) (g : FrameGrid) (runs : List ℕ) (levels : List Float) (q : Costed x g runs levels) where
+module _ (x : Context) (g : FrameGrid) (runs : List ℕ) (levels : List Float) (q : Costable x g runs levels) where
   -- so many frames last a time that is not negative
   secs : (frames : ℕ) → frames < 4294967296 → T (nonneg (secsOf (x .«frame_secs») frames))
   secs frames h = rw (q .lasts) (secs-fine (g .«frame_rate») (g .hop) (q .bounded .divisor) (q .rate) (q .bounded .hop) frames h .0)

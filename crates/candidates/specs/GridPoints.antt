@@ -13,7 +13,7 @@ use Rattle.candidate_points.specs.Blocked.{isBlocked}
 use Rattle.candidate_points.specs.Points.{gridPoints, isIn, isPoint}
 use Rattle.candidate_points.specs.Theorems.{point-inside}
 use Rattle.candidate_points.specs.Clear.{point-clear}
-use Rattle.candidate_cuts.specs.CutsLaws.{Prepared}
+use Rattle.candidate_cuts.specs.CutsLaws.{CutReady}
 use Rattle.candidates.specs.declared.context.Context.{Context}
 use Rattle.candidates.specs.Sources.{Planned, droppedOf}
 
@@ -37,7 +37,7 @@ module _ (x : Context) (g : FrameGrid) (s : Spacing) (ss : List ℕ) (levels : L
       rw (sym (f .padding)) (point-clear (x .gap) g s ss levels (s .block) first last (f .some) (rw (f .padding) l) k (unfold isPoint in t))
 
   -- so prepared silences and the grid points make a plan's candidates
-  pub grid-planned : Prepared (x .gap) (x .placement) (x .padding .frames) levels ss
+  pub grid-planned : CutReady (x .gap) (x .placement) (x .padding .frames) levels ss
       → Planned x ss levels (pointsOf (firstOf (x .gap) (x .padding) ss) (lastOf (x .gap) (x .padding) ss)) (firstOf (x .gap) (x .padding) ss) (lastOf (x .gap) (x .padding) ss)
   grid-planned p =
       let first = firstOf (x .gap) (x .padding) ss in

@@ -4,7 +4,7 @@ use mathlib.Core.List.{List}
 use Prim.Native.Nat.{ℕ, _-_, _≤_, _<_}
 use lib.Ieee.{Float, nan}
 use lib.ListN.{length, getD}
-use Rattle.candidate_span.specs.Listed.{count, startAt, endAt}
+use Rattle.candidate_span.specs.Listed.{silenceCount, startAt, endAt}
 use Rattle.candidate_span.specs.ListedLaws.{Listed}
 use Rattle.candidate_costs.specs.Cost.{cutCost}
 use Rattle.candidate_costs.specs.Stretch.{stretchAt, secsOf}
@@ -27,7 +27,7 @@ pub record Stretched (runs : List ℕ) (k : ℕ) : Type 0 where
 
 -- silence i has sound on both sides
 pub record Cuttable (x : Context) (ss : List ℕ) (levels : List Float) (i : ℕ) : Type 0 where
-  pub listed : i < count ss
+  pub listed : i < silenceCount ss
   pub inner : Inner (x .placement) (x .padding .frames) levels (startAt ss i) (endAt ss i)
 
 -- ---- what their functions put together

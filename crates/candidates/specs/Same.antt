@@ -5,7 +5,7 @@ use mathlib.Core.List.{List, [], _∷_, _++_, map}
 use Prim.Native.Nat.{ℕ, zero, suc, _+_, _-_, _≤_, _<_}
 use native.Mathlib.Omega.{arith}
 use lib.Ieee.{Float}
-use Rattle.candidate_span.specs.Listed.{count}
+use Rattle.candidate_span.specs.Listed.{silenceCount}
 use Rattle.candidate_span.specs.Kept.{boundaries}
 use Rattle.candidate_points.specs.Points.{isIn}
 use Rattle.candidates.specs.declared.candidate.Candidate.{Candidate}
@@ -24,7 +24,7 @@ module _ (x : Context) (ss runs : List ℕ) (levels : List Float) where
   pub survivor-same : (ks js : List ℕ) (k : ℕ) → isIn ks k ≡ isIn js k → cheapest (withLeft k (allListed x ss runs levels ks)) ≡ cheapest (withLeft k (allListed x ss runs levels js))
   unfolding allListed
   survivor-same ks js k e =
-      let cs = ownFrom x ss levels (count ss) 0 in
+      let cs = ownFrom x ss levels (silenceCount ss) 0 in
       rw (left-append k cs (map (pointAt x ss runs levels) ks), left-append k cs (map (pointAt x ss runs levels) js)) (go (withLeft k cs))
     where
       go : (cs : List Candidate) → cheapest (cs ++ withLeft k (map (pointAt x ss runs levels) ks)) ≡ cheapest (cs ++ withLeft k (map (pointAt x ss runs levels) js))

@@ -8,14 +8,14 @@ use native.Mathlib.Nat.{lt-irrefl, eq-or-lt-of-le}
 use native.Mathlib.Omega.{arith}
 use lib.Ieee.{Float}
 use Rattle.base_laws.specs.Tests.{lt-or-le}
-use Rattle.candidate_span.specs.Listed.{count, startAt, endAt}
+use Rattle.candidate_span.specs.Listed.{silenceCount, startAt, endAt}
 use Rattle.candidate_span.specs.Bounds.{isInner}
 use Rattle.candidate_span.specs.Span.{firstOf, lastOf}
 use Rattle.candidate_span.specs.Gaps.{Cut, gapsOf}
 use Rattle.candidate_span.specs.KeptIn.{Outside}
 use Rattle.candidate_points.specs.Points.{isIn}
 use Rattle.candidate_cuts.specs.CutLaws.{cut-within}
-use Rattle.candidate_cuts.specs.CutsLaws.{Prepared, InnerAt, inner-cut, cut-inside, cuts-apart, cut-dropped}
+use Rattle.candidate_cuts.specs.CutsLaws.{CutReady, InnerAt, inner-cut, cut-inside, cuts-apart, cut-dropped}
 use Rattle.candidates.specs.declared.candidate.Candidate.{Candidate}
 use Rattle.candidates.specs.declared.context.Context.{Context}
 use Rattle.candidates.specs.Candidates.{pointAt, ownAt, ownFrom, allListed}
@@ -27,7 +27,7 @@ droppedOf x ss = gapsOf (x .gap) (x .padding) ss
 
 -- what a plan has when candidates are sought: a span, prepared silences, and points at kept frame boundaries only
 pub record Planned (x : Context) (ss : List ℕ) (levels : List Float) (ks : List ℕ) (first last : ℕ) : Type 0 where
-  pub prepared : Prepared (x .gap) (x .placement) (x .padding .frames) levels ss
+  pub prepared : CutReady (x .gap) (x .placement) (x .padding .frames) levels ss
   pub starts : first ≡ firstOf (x .gap) (x .padding) ss
   pub stops : last ≡ lastOf (x .gap) (x .padding) ss
   pub clear : (k : ℕ) → isIn ks k ≡ true → first < k → k < last → Outside (droppedOf x ss) k
@@ -38,7 +38,7 @@ module _ (x : Context) (ss runs : List ℕ) (levels : List Float) (ks : List ℕ
     own : (i : ℕ) → InnerAt (x .padding .frames) ss i → c ≡ ownAt x ss levels i → Source c
     point : (k : ℕ) → isIn ks k ≡ true → c ≡ pointAt x ss runs levels k → Source c
 
-  own-from : (n i : ℕ) (c : Candidate) → i + n ≡ count ss → List·Memᴰ c (ownFrom x ss levels n i) → Source c
+  own-from : (n i : ℕ) (c : Candidate) → i + n ≡ silenceCount ss → List·Memᴰ c (ownFrom x ss levels n i) → Source c
   unfolding ownFrom
   own-from zero i c h m = absurd (List·Memᴰ·not-nil m)
   own-from (suc n) i c h m = go (isInner (x .padding .frames) (startAt ss i) (endAt ss i)) refl m (own-from n (suc i) c (omega arith))
@@ -69,16 +69,16 @@ module _ (x : Context) (ss runs : List ℕ) (levels : List Float) (ks : List ℕ
   -- every listed candidate has a source
   pub listed-source : (c : Candidate) → List·Memᴰ c (allListed x ss runs levels ks) → Source c
   unfolding allListed
-  listed-source c m = elim (List·Memᴰ·append-cases (ownFrom x ss levels (count ss) 0) m) [
-    | inl i ↦ own-from (count ss) 0 c (omega arith) i
+  listed-source c m = elim (List·Memᴰ·append-cases (ownFrom x ss levels (silenceCount ss) 0) m) [
+    | inl i ↦ own-from (silenceCount ss) 0 c (omega arith) i
     | inr i ↦ let p = Memᴰ·of-map (pointAt x ss runs levels) ks i in point (p .0) (in-is ks (p .0) (p .1)) (sym (p .2))
   ]
 
   -- and whatever has one is listed
   pub source-listed : (c : Candidate) → Source c → List·Memᴰ c (allListed x ss runs levels ks)
   unfolding allListed
-  source-listed c (own i a e) = rw e (Memᴰ·append-left (map (pointAt x ss runs levels) ks) (from-own (count ss) 0 i (omega arith) (omega (arith, a .listed)) (a .inner)))
-  source-listed c (point k t e) = rw e (Memᴰ·append-right (ownFrom x ss levels (count ss) 0) (Memᴰ·map (pointAt x ss runs levels) (is-in ks k t)))
+  source-listed c (own i a e) = rw e (Memᴰ·append-left (map (pointAt x ss runs levels) ks) (from-own (silenceCount ss) 0 i (omega arith) (omega (arith, a .listed)) (a .inner)))
+  source-listed c (point k t e) = rw e (Memᴰ·append-right (ownFrom x ss levels (silenceCount ss) 0) (Memᴰ·map (pointAt x ss runs levels) (is-in ks k t)))
 
   -- ---- where it lies
 

@@ -10,7 +10,7 @@ use lib.Ieee.{Float, lt}
 use borrow.Author.Tests.{eq-eqb, ne-eqb, eqb-true}
 use Rattle.base_laws.specs.Tests.{tested}
 use Rattle.candidate_span.specs.Bounds.{isInner}
-use Rattle.candidate_span.specs.Listed.{count, startAt, endAt}
+use Rattle.candidate_span.specs.Listed.{silenceCount, startAt, endAt}
 use Rattle.candidate_points.specs.Points.{isIn}
 use Rattle.candidates.specs.declared.candidate.Candidate.{Candidate}
 use Rattle.candidates.specs.declared.context.Context.{Context}
@@ -114,12 +114,12 @@ module _ (x : Context) (ss : List ℕ) (levels : List Float) where
         (own-none n (suc i) (λ (j : ℕ) (a : suc i ≤ j) (b : j < suc i + n). f j (omega arith) (omega arith)))
 
     -- beside silence i, which has one there, no other does
-    module _ (i : ℕ) (h : i < count ss) (own : IsOwn i) (at : leftAt i ≡ k)
-        (before : (j : ℕ) → j < i → IsOwn j → leftAt j ≡ k → ⊥) (beyond : (j : ℕ) → i < j → j < count ss → IsOwn j → leftAt j ≡ k → ⊥) where
+    module _ (i : ℕ) (h : i < silenceCount ss) (own : IsOwn i) (at : leftAt i ≡ k)
+        (before : (j : ℕ) → j < i → IsOwn j → leftAt j ≡ k → ⊥) (beyond : (j : ℕ) → i < j → j < silenceCount ss → IsOwn j → leftAt j ≡ k → ⊥) where
       later : ℕ
-      later = count ss - suc i
+      later = silenceCount ss - suc i
 
-      all-of : i + suc later ≡ count ss
+      all-of : i + suc later ≡ silenceCount ss
       unfolding later
       all-of = omega arith
 
@@ -129,24 +129,24 @@ module _ (x : Context) (ss : List ℕ) (levels : List Float) where
           (ap (λ (t : List Candidate). ownAt x ss levels i ∷ t) (own-none later (suc i) (λ (j : ℕ) (a : suc i ≤ j) (b : j < suc i + later). beyond j a (omega (arith, all-of)))))
 
       -- so it is the only own candidate with that left end
-      pub own-one : withLeft k (ownFrom x ss levels (count ss) 0) ≡ ownAt x ss levels i ∷ []
+      pub own-one : withLeft k (ownFrom x ss levels (silenceCount ss) 0) ≡ ownAt x ss levels i ∷ []
       own-one =
-          rw (own-split i (suc later) (count ss) 0 i (sym all-of) (omega arith), left-append k)
+          rw (own-split i (suc later) (silenceCount ss) 0 i (sym all-of) (omega arith), left-append k)
           (rw (own-none i 0 (λ (j : ℕ) (a : 0 ≤ j) (b : j < 0 + i). before j (omega arith))) from-here)
 
 -- ---- the survivor at boundary k
 
 module _ (x : Context) (ss runs : List ℕ) (levels : List Float) (ks : List ℕ) (k : ℕ) where
   -- where no silence has its own candidate: the point, if one stands there
-  pub survivor-point : ((j : ℕ) → j < count ss → IsOwn x ss levels j → leftAt x ss levels j ≡ k → ⊥)
+  pub survivor-point : ((j : ℕ) → j < silenceCount ss → IsOwn x ss levels j → leftAt x ss levels j ≡ k → ⊥)
       → cheapest (withLeft k (allListed x ss runs levels ks)) ≡ cond (isIn ks k) (pointAt x ss runs levels k ∷ []) []
   unfolding allListed
   survivor-point f =
-      rw (left-append k, own-none x ss levels k (count ss) 0 (λ (j : ℕ) (a : 0 ≤ j) (b : j < 0 + count ss). f j (omega arith))) (points-alone x ss runs levels k ks)
+      rw (left-append k, own-none x ss levels k (silenceCount ss) 0 (λ (j : ℕ) (a : 0 ≤ j) (b : j < 0 + silenceCount ss). f j (omega arith))) (points-alone x ss runs levels k ks)
 
   -- where silence i has it: this one, or the point if that is cheaper
-  pub survivor-own : (i : ℕ) → i < count ss → IsOwn x ss levels i → leftAt x ss levels i ≡ k
-      → ((j : ℕ) → j < i → IsOwn x ss levels j → leftAt x ss levels j ≡ k → ⊥) → ((j : ℕ) → i < j → j < count ss → IsOwn x ss levels j → leftAt x ss levels j ≡ k → ⊥)
+  pub survivor-own : (i : ℕ) → i < silenceCount ss → IsOwn x ss levels i → leftAt x ss levels i ≡ k
+      → ((j : ℕ) → j < i → IsOwn x ss levels j → leftAt x ss levels j ≡ k → ⊥) → ((j : ℕ) → i < j → j < silenceCount ss → IsOwn x ss levels j → leftAt x ss levels j ≡ k → ⊥)
       → cheapest (withLeft k (allListed x ss runs levels ks)) ≡ cond (isIn ks k) (cheaper (ownAt x ss levels i) (pointAt x ss runs levels k)) (ownAt x ss levels i) ∷ []
   unfolding allListed cheapest
   survivor-own i h own at f g =

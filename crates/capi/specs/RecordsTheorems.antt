@@ -24,7 +24,7 @@ use Rattle.plan_records.specs.Pieces.{pieceOf}
 use Rattle.plan_records.specs.Cuts.{cutOf}
 use Rattle.plan_records.specs.declared.pieces.Piece.{Piece}
 use Rattle.plan_records.specs.declared.cuts.Cut.{Cut}
-use Rattle.plan_theorems.specs.Made.{startAt, endAt, lengthAt, reasonAt, Made, MadeOfSpan}
+use Rattle.plan_theorems.specs.Made.{pieceStart, pieceEnd, lengthAt, reasonAt, Made, MadeOfSpan}
 use Rattle.plan_theorems.specs.Theorems.{made-of-span}
 
 -- of the first 3 k numbers, those of row i
@@ -51,8 +51,8 @@ module _ (r : Recording) (segment : SegmentConfig) (settings : PlanConfig) (valu
     -- of the first 3 k numbers, record i is piece i with its flags
     pub records-made : (records : List Piece) → k ≤ length records → (i : ℕ) (z : Piece) → i < k → getD (recordsEndOf pieceOf (take (3 * k) (after .pieces)) records .records) i z
         ≡ record {
-          start = startAt after i;
-          end = endAt after i;
+          start = pieceStart after i;
+          end = pieceEnd after i;
           «too_short» = isShorter (minimumIn (gridOf r (length values)) settings) (lengthAt after i);
           «too_long» = isLonger (maximumIn (gridOf r (length values)) settings) (lengthAt after i);
         }
@@ -65,7 +65,7 @@ module _ (r : Recording) (segment : SegmentConfig) (settings : PlanConfig) (valu
 
     -- of the first 3 (k - 1) numbers, record i is the cut after piece i
     pub cut-records-made : (records : List Cut) → k - 1 ≤ length records → (i : ℕ) (z : Cut) → suc i < k
-        → getD (recordsEndOf cutOf (take (3 * (k - 1)) (after .cuts)) records .records) i z ≡ cutOf (endAt after i) (startAt after (suc i)) (reasonAt after i)
+        → getD (recordsEndOf cutOf (take (3 * (k - 1)) (after .cuts)) records .records) i z ≡ cutOf (pieceEnd after i) (pieceStart after (suc i)) (reasonAt after i)
     cut-records-made records room i z h =
         let l = front-length (3 * (k - 1)) (before .cuts) (after .cuts) (made .written .fits .1) (made .written .cuts) in
         let lies = of-span (omega (arith, h)) .fills .cuts i h in

@@ -7,7 +7,7 @@ use Rattle.grid.specs.declared.boundary.FrameGrid.{FrameGrid}
 use Rattle.candidate_span.specs.Gaps.{Cut}
 use Rattle.division.specs.Pieces.{pieceFrom, lengthOf}
 use Rattle.division.specs.Places.{cutAt}
-use Rattle.completion.specs.Reachable.{reachableOf}
+use Rattle.completion_reach.specs.Reachable.{reachableOf}
 
 -- the boundary that a piece from a can reach on the way to z, a frame on at least: a frame longer than the limit cannot be split
 abbrev pub onTo : FrameGrid → ℕ → ℕ → ℕ → ℕ

@@ -15,9 +15,9 @@ use Rattle.candidate_span.specs.Gaps.{Cut}
 use Rattle.division.specs.Division.{Row}
 use Rattle.division.specs.Pieces.{Piece, pieceFrom, piecesFrom, IsSingle, lengthOf}
 use Rattle.division.specs.Places.{cutAt}
-use Rattle.completion.specs.Reachable.{reachableOf}
-use Rattle.completion.specs.ReachableLaws.{reached}
-use Rattle.completion.specs.Cuts.{markCut, marking}
+use Rattle.completion_reach.specs.Reachable.{reachableOf}
+use Rattle.completion_reach.specs.ReachableLaws.{reached}
+use Rattle.completion_reach.specs.Cuts.{markCut, marking}
 use Rattle.completion.specs.CutsLaws.{mark-length}
 use Rattle.completion.specs.Bridge.{onTo, bridgeFrom, bridgeOf}
 

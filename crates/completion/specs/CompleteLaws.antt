@@ -12,7 +12,7 @@ use Rattle.grid.specs.BoundaryLaws.{Accepted}
 use Rattle.grid.specs.declared.boundary.FrameGrid.{FrameGrid}
 use Rattle.candidate_span.specs.Gaps.{Cut}
 use Rattle.division.specs.PiecesLaws.{row-inside}
-use Rattle.completion.specs.Cuts.{markCut, marking}
+use Rattle.completion_reach.specs.Cuts.{markCut, marking}
 use Rattle.completion.specs.MarkingLaws.{marking-length, marking-append}
 use Rattle.completion.specs.Bridge.{bridgeOf}
 use Rattle.completion.specs.BridgeLaws.{Bridgeable, bridge-rises}

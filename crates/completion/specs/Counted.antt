@@ -8,7 +8,7 @@ use lib.ListN.{drop}
 use Rattle.plan_settings.specs.declared.config.Gap.{Gap}
 use Rattle.candidate_span.specs.declared.padding.Padding.{Padding}
 use Rattle.candidate_span.specs.Bounds.{lowOf}
-use Rattle.candidate_span.specs.Listed.{count}
+use Rattle.candidate_span.specs.Listed.{silenceCount}
 use Rattle.candidate_span.specs.Gaps.{Cut, isGap, gapsOf, dropped}
 use Rattle.completion.specs.declared.shares.Passed.{Passed}
 
@@ -25,7 +25,7 @@ isAhead p start end k = isGap p start end && leb k (lowOf p start)
 
 -- the gaps of the silences that are passed drop `removed` frames, and every boundary from `at` on is moved on by them
 pub record Counting (gap : Gap) (p : Padding) (ss : List ℕ) (at : ℕ) (passed : Passed) : Type 0 where
-  pub within : passed .silences ≤ count ss
+  pub within : passed .silences ≤ silenceCount ss
   pub balance : passed .removed + dropped (gapsOf gap p (drop (2 * passed .silences) ss)) ≡ dropped (gapsOf gap p ss)
   pub moved : (k : ℕ) → at ≤ k → movedOn (gapsOf gap p ss) k ≡ movedOn (gapsOf gap p (drop (2 * passed .silences) ss)) (k + passed .removed)
 

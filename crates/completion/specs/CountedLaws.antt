@@ -15,7 +15,7 @@ use Rattle.plan_settings.specs.declared.config.Gap.the-variants.{Keep, Drop}
 use Rattle.candidate_span.specs.declared.bounds.Bounds.{Bounds}
 use Rattle.candidate_span.specs.declared.padding.Padding.{Padding}
 use Rattle.candidate_span.specs.Bounds.{lowOf, highOf, boundsOf, isInner}
-use Rattle.candidate_span.specs.Listed.{count, startAt, endAt}
+use Rattle.candidate_span.specs.Listed.{silenceCount, startAt, endAt}
 use Rattle.candidate_span.specs.Gaps.{Cut, isGap, innerGaps, gapsOf, gapWidth, dropped, Spread}
 use Rattle.candidate_span.specs.GapsLaws.{dropped-first}
 use Rattle.candidate_span.specs.Kept.{keptFrames}
@@ -26,8 +26,8 @@ use Rattle.division.specs.Places.{cutAt, points, placesFrom}
 use Rattle.division.specs.PlacesLaws.{same-ends, place-inside, places-apart}
 use Rattle.division.specs.Shares.{placeAfter}
 use Rattle.completion.specs.declared.shares.Passed.{Passed}
-use Rattle.completion.specs.Place.{placeAt}
-use Rattle.completion.specs.PlaceLaws.{Standing, held, free, standing}
+use Rattle.completion_reach.specs.Place.{placeAt}
+use Rattle.completion_reach.specs.PlaceLaws.{Standing, held, free, standing}
 use Rattle.completion.specs.Counted.{movedOn, isAhead, Counting, Counted}
 
 -- ---- the place with j kept frames before it
@@ -164,7 +164,7 @@ module _ (p : Padding) (start end k w : ℕ) (is : w ≡ gapWidth p start end) w
       go false c f e = absurd (d e)
 
 -- the silences from number i on
-rest-at : (ss : List ℕ) (i : ℕ) → i < count ss → drop (2 * i) ss ≡ startAt ss i ∷ (endAt ss i ∷ drop (2 * (i + 1)) ss)
+rest-at : (ss : List ℕ) (i : ℕ) → i < silenceCount ss → drop (2 * i) ss ≡ startAt ss i ∷ (endAt ss i ∷ drop (2 * (i + 1)) ss)
 rest-at ss i h =
     let e : suc (2 * i) ≡ 2 * i + 1 = omega arith in
     let f : suc (2 * i + 1) ≡ 2 * (i + 1) = omega arith in
@@ -205,13 +205,13 @@ counted-keep p ss at passed c = record { counting = c; here = omega (arith, c .b
 
 module _ (p : Padding) (ss : List ℕ) (at i removed : ℕ) (c : Counting Drop p ss at (record { silences = i; removed = removed })) where
   -- no silence is left
-  pub counted-all : count ss ≤ i → movedOn (gapsOf Drop p ss) at ≡ at + removed
+  pub counted-all : silenceCount ss ≤ i → movedOn (gapsOf Drop p ss) at ≡ at + removed
   unfolding gapsOf movedOn
   counted-all h =
       c .moved at (omega arith)
       ∙ ap (λ (gs : List Cut). movedOn gs (at + removed)) (no-pair p (drop (2 * i) ss) (omega (arith, c .within, h, length-drop (2 * i) ss)))
 
-  module _ (here : i < count ss) (start end : ℕ) (begins : start ≡ startAt ss i) (stops : end ≡ endAt ss i) where
+  module _ (here : i < silenceCount ss) (start end : ℕ) (begins : start ≡ startAt ss i) (stops : end ≡ endAt ss i) where
     rest : drop (2 * i) ss ≡ start ∷ (end ∷ drop (2 * (i + 1)) ss)
     rest = rest-at ss i here ∙ sym (λ j. begins j ∷ (stops j ∷ drop (2 * (i + 1)) ss))
 

@@ -13,13 +13,13 @@ use Rattle.candidate_span.specs.Span.{Span, spanIn}
 use Rattle.division.specs.Division.{Place}
 use Rattle.division.specs.PlacesLaws.{place-inside}
 use Rattle.division.specs.GreedyLaws.{Start, start-first, start-right}
-use Rattle.completion.specs.declared.ground.Ground.{Ground}
-use Rattle.completion.specs.declared.next.Next.{Next}
-use Rattle.completion.specs.declared.next.Next.the-variants.{Whole, Stuck, To}
-use Rattle.completion.specs.GroundLaws.{Founded}
-use Rattle.completion.specs.Next.{nextOf}
-use Rattle.completion.specs.NextLaws.{Stepped, next-stepped}
-use Rattle.completion.specs.Cuts.{cutting, cutsFrom, cutsOf, markCut, marking}
+use Rattle.completion_reach.specs.declared.ground.Ground.{Ground}
+use Rattle.completion_reach.specs.declared.next.Next.{Next}
+use Rattle.completion_reach.specs.declared.next.Next.the-variants.{Whole, Stuck, To}
+use Rattle.completion_reach.specs.GroundLaws.{Founded}
+use Rattle.completion_reach.specs.Next.{nextOf}
+use Rattle.completion_reach.specs.NextLaws.{Stepped, next-stepped}
+use Rattle.completion_reach.specs.Cuts.{cutting, cutsFrom, cutsOf, markCut, marking}
 
 -- silences in front, marks behind them, and room for one at each boundary of the span
 pub record MarkRoom (x : Ground) (base : ℕ) (work : List ℕ) : Type 0 where

@@ -10,7 +10,7 @@ use lib.Seq.{getD-set-same, getD-set-other}
 use borrow.Author.Tests.{eqb-true, eqb-false}
 use Rattle.candidate_span.specs.Gaps.{Cut}
 use Rattle.candidate_points.specs.Points.{isIn}
-use Rattle.completion.specs.Cuts.{markCut, marking, pointsIn}
+use Rattle.completion_reach.specs.Cuts.{markCut, marking, pointsIn}
 use Rattle.completion.specs.CutsLaws.{mark-length, mark-stays}
 
 -- the list keeps its length

@@ -7,10 +7,10 @@ use Rattle.candidate_span.specs.ListedLaws.{Listed}
 use Rattle.candidate_span.specs.Gaps.{gapsOf, dropped}
 use Rattle.candidate_span.specs.Span.{spanIn}
 use Rattle.division.specs.Division.{keptIn}
-use Rattle.completion.specs.declared.ground.Ground.{Ground}
+use Rattle.completion_reach.specs.declared.ground.Ground.{Ground}
 use Rattle.completion.specs.declared.shares.Passed.{Passed}
 use Rattle.completion.specs.declared.shares.Share.{Share}
-use Rattle.completion.specs.Place.{placeAt, cutOf}
+use Rattle.completion_reach.specs.Place.{placeAt, heldCut}
 use Rattle.completion.specs.Counted.{movedOn, Counting}
 
 -- the gaps that are passed on the way to boundary `at`, counted over kept frames alone, and room for all of them
@@ -21,7 +21,7 @@ pub record Partable (x : Ground) (ss : List ℕ) (at : ℕ) (passed : Passed) : 
 
 -- the cut at that boundary, and the gaps that are passed before it
 pub record Parted (x : Ground) (ss : List ℕ) (at : ℕ) (r : Share) : Type 0 where
-  pub cut-is : r .cut ≡ cutOf (placeAt (gapsOf (x .gap) (x .padding) ss) (movedOn (gapsOf (x .gap) (x .padding) ss) at))
+  pub cut-is : r .cut ≡ heldCut (placeAt (gapsOf (x .gap) (x .padding) ss) (movedOn (gapsOf (x .gap) (x .padding) ss) at))
   pub counting : Counting (x .gap) (x .padding) ss at (r .passed)
 
 -- `frames` are kept, no fewer than the pieces, and the span lies within the most frames

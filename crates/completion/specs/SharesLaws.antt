@@ -14,12 +14,12 @@ use Rattle.division.specs.Division.{keptIn, Place}
 use Rattle.division.specs.PlacesLaws.{place-inside}
 use Rattle.division.specs.Shares.{framesBefore, placeAfter, sharesFrom, sharesOf}
 use Rattle.division.specs.SharesLaws.{share-some, share-less, share-first, share-place}
-use Rattle.completion.specs.declared.ground.Ground.{Ground}
-use Rattle.completion.specs.declared.place.Cut as lent
+use Rattle.completion_reach.specs.declared.ground.Ground.{Ground}
+use Rattle.completion_reach.specs.declared.place.HeldCut.{HeldCut}
 use Rattle.completion.specs.declared.shares.Passed.{Passed}
 use Rattle.completion.specs.declared.shares.Share.{Share}
-use Rattle.completion.specs.Place.{placeAt, cutOf}
-use Rattle.completion.specs.Cuts.{markCut, marking}
+use Rattle.completion_reach.specs.Place.{placeAt, heldCut}
+use Rattle.completion_reach.specs.Cuts.{markCut, marking}
 use Rattle.completion.specs.CutsLaws.{MarkRoom, mark-length, mark-stays}
 use Rattle.completion.specs.Counted.{Counting, Counted}
 use Rattle.completion.specs.Shares.{Partable, Parted, Sharable}
@@ -27,9 +27,9 @@ use Rattle.completion.specs.CountedLaws.{after-moved, place-of, counting
 
 -- the cut where `pass` has come to
 pub parted : (x : Ground) (ss : List ℕ) (at : ℕ) (passed : Passed) → Counted (x .gap) (x .padding) ss at passed
-    → (c : lent.Cut) → c ≡ cutOf (placeAt (gapsOf (x .gap) (x .padding) ss) (at + passed .removed)) → Parted x ss at (record { cut = c; passed = passed })
+    → (c : HeldCut) → c ≡ heldCut (placeAt (gapsOf (x .gap) (x .padding) ss) (at + passed .removed)) → Parted x ss at (record { cut = c; passed = passed })
 parted x ss at passed q c e =
-    record { cut-is = e ∙ ap (λ (k : ℕ). cutOf (placeAt (gapsOf (x .gap) (x .padding) ss) k)) (sym (q .here)); counting = q .counting }
+    record { cut-is = e ∙ ap (λ (k : ℕ). heldCut (placeAt (gapsOf (x .gap) (x .padding) ss) k)) (sym (q .here)); counting = q .counting }
 
 -- the cuts from share i on are still to be marked
 pub record Sharing (x : Ground) (base pieces : ℕ) (work₀ : List ℕ) (i : ℕ) (passed : Passed) (work : List ℕ) : Type 0 where
@@ -114,16 +114,16 @@ module _ (x : Ground) (base frames pieces : ℕ) (work₀ : List ℕ) (room : Ma
       place = share-place span (room .founded .spread) pieces (omega (arith, more)) most i (omega (arith, w .some)) more
 
       -- the cut that code makes is that of the share
-      cut-of : (r : Share) → Parted x silences (x .span .first + framesBefore (keptIn span) pieces i) r → r .cut ≡ cutOf (placeAfter span (framesBefore (keptIn span) pieces i))
+      cut-of : (r : Share) → Parted x silences (x .span .first + framesBefore (keptIn span) pieces i) r → r .cut ≡ heldCut (placeAfter span (framesBefore (keptIn span) pieces i))
       cut-of r q =
           q .cut-is
-          ∙ ap (λ (k : ℕ). cutOf (placeAt (span .gaps) k))
+          ∙ ap (λ (k : ℕ). heldCut (placeAt (span .gaps) k))
           (sym (after-moved span (room .founded .spread) (framesBefore (keptIn span) pieces i) (share-first span (room .founded .spread) pieces (omega (arith, more)) most i (omega (arith, w .some))) less))
-          ∙ ap cutOf (place-of span (room .founded .spread) (placeAfter span (framesBefore (keptIn span) pieces i)) place)
+          ∙ ap heldCut (place-of span (room .founded .spread) (placeAfter span (framesBefore (keptIn span) pieces i)) place)
 
       module _ (r : Share) (q : Parted x silences (x .span .first + framesBefore (keptIn span) pieces i) r) where
         left-is : r .cut .left ≡ placeAfter span (framesBefore (keptIn span) pieces i) .left
-        left-is = ap (λ (c : lent.Cut). c .left) (cut-of r q)
+        left-is = ap (λ (c : HeldCut). c .left) (cut-of r q)
 
         -- there is room for the mark of the share's cut
         pub sharing-room : base + r .cut .left < length work
@@ -150,7 +150,7 @@ module _ (x : Ground) (base frames pieces : ℕ) (work₀ : List ℕ) (room : Ma
             here = placeAfter span (framesBefore (keptIn span) pieces i)
 
             is : work′ ≡ markCut base here work
-            is = e ∙ ap (λ (c : lent.Cut). markCut base (record { left = c .left; right = c .right }) work) (cut-of r q)
+            is = e ∙ ap (λ (c : HeldCut). markCut base (record { left = c .left; right = c .right }) work) (cut-of r q)
 
             one : suc i ≡ i + 1
             one = omega arith

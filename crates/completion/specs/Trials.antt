@@ -9,13 +9,13 @@ use Rattle.candidate_span.specs.Kept.{keptFrames}
 use Rattle.candidate_span.specs.Span.{Span}
 use Rattle.division.specs.Places.{cutAt}
 use Rattle.division.specs.Divisions.{divisionsOf, keeps, anyOf, isFeasible}
-use Rattle.completion.specs.declared.reach.Sought.the-variants.{Reach, Nothing}
-use Rattle.completion.specs.Reachable.{reachableIn}
-use Rattle.completion.specs.Place.{placeAt}
-use Rattle.completion.specs.Next.{nextAt}
-use Rattle.completion.specs.Fits.{fitsFrom, fitsOf}
-use Rattle.completion.specs.Reach.{leastFrom, reachOf}
-use Rattle.completion.specs.Cuts.{cutsFrom, cutsOf}
+use Rattle.completion_reach.specs.declared.reach.Sought.the-variants.{Reach, Nothing}
+use Rattle.completion_reach.specs.Reachable.{reachableIn}
+use Rattle.completion_reach.specs.Place.{placeAt}
+use Rattle.completion_reach.specs.Next.{nextAt}
+use Rattle.completion_reach.specs.Fits.{fitsFrom, fitsOf}
+use Rattle.completion_reach.specs.Reach.{leastFrom, reachOf}
+use Rattle.completion_reach.specs.Cuts.{cutsFrom, cutsOf}
 use Rattle.completion.specs.Bridge.{bridgeFrom, bridgeOf}
 
 grid : FrameGrid

@@ -1,12 +1,12 @@
 // Completion by length: only the boundaries needed to bridge what is longer than the maximum between one candidate and
 // the next, as marks in work memory.
 use crate::far;
-use crate::reachable;
 use base_code::sizes;
+use completion_reach::reachable;
 use grid::FrameGrid;
 ghost use mathlib.Core.Path.{_≡_};
 ghost use Rattle.completion.specs.Bridge.{bridgeOf};
-ghost use Rattle.completion.specs.Cuts.{marking};
+ghost use Rattle.completion_reach.specs.Cuts.{marking};
 ghost use Rattle.completion.specs.BridgeLaws.{Bridgeable};
 ghost use Rattle.completion.specs.Complete.{bridgesOf};
 ghost use Rattle.completion.specs.CompleteLaws.{Completable};

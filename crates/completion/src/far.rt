@@ -1,12 +1,12 @@
 // The cuts of the division that goes as far as it can at each step, as marks in work memory.
-use crate::ground::Ground;
-use crate::next;
-use crate::next::Next;
+use completion_reach::ground::Ground;
+use completion_reach::next;
+use completion_reach::next::Next;
 ghost use mathlib.Core.Path.{_≡_};
 ghost use Prim.Native.Nat.{_+_, _*_, _<_};
 ghost use lib.ListN.{length, take};
 ghost use Rattle.candidate_span.specs.Span.{spanIn};
-ghost use Rattle.completion.specs.Cuts.{cutsOf, markCut, marking};
+ghost use Rattle.completion_reach.specs.Cuts.{cutsOf, markCut, marking};
 ghost use Rattle.completion.specs.CutsLaws.{MarkRoom};
 
 // Marks a cut from boundary `left` to boundary `right`, if it is at one boundary.

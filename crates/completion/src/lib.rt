@@ -1,12 +1,7 @@
-// Completion: by count, how far a division can go at each step, whether a limit leaves few enough pieces, the reach,
-// and the cuts that are added; by length, the points between neighbours.
-// Contracts cite the file of specs/ of the module's name, `far` Cuts, `bridge` also Complete; laws stand beside each.
+// Completion: by count, the cuts that are added so that a division within the reach is found; by length, the points
+// between neighbours.
+// Contracts cite specs/Shares for `shares`, Bridge and Complete for `bridge`, and Cuts of completion_reach; laws stand
+// beside each.
 pub mod bridge;
 pub mod far;
-pub mod fits;
-pub mod ground;
-pub mod next;
-pub mod place;
-pub mod reach;
-pub mod reachable;
 pub mod shares;

@@ -1,12 +1,12 @@
 // The cuts between equal shares of the kept frames, as marks in work memory.
 use crate::far;
-use crate::ground::Ground;
-use crate::place;
-use crate::place::Cut;
 use candidate_span::bounds;
 use candidate_span::kept;
 use candidate_span::listed;
 use candidate_span::padding::Padding;
+use completion_reach::ground::Ground;
+use completion_reach::place;
+use completion_reach::place::HeldCut;
 use plan_settings::config::Gap;
 ghost use mathlib.Core.Path.{_≡_};
 ghost use Prim.Native.Nat.{_+_, _*_, _≤_};
@@ -16,7 +16,7 @@ ghost use Rattle.plan_settings.specs.declared.config.Gap.the-variants.{Drop};
 ghost use Rattle.candidate_span.specs.Gaps.{gapsOf, dropped};
 ghost use Rattle.candidate_span.specs.Span.{spanIn};
 ghost use Rattle.division.specs.Shares.{sharesOf};
-ghost use Rattle.completion.specs.Cuts.{marking};
+ghost use Rattle.completion_reach.specs.Cuts.{marking};
 ghost use Rattle.completion.specs.CutsLaws.{MarkRoom};
 ghost use Rattle.completion.specs.Counted.{isAhead, Counting, Counted};
 ghost use Rattle.completion.specs.Shares.{Partable, Parted, Sharable};
@@ -78,7 +78,7 @@ fn pass(gap: Gap, p: Padding, silences: &[u32], at: usize, passed: Passed) -> Pa
 
 // A cut, and the gaps that are passed before it.
 pub struct Share {
-    pub cut: Cut,
+    pub cut: HeldCut,
     pub passed: Passed,
 }
 

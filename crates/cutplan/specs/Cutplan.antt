@@ -6,12 +6,12 @@ use lib.Dec.{ltb}
 use lib.ListN.{length}
 use Rattle.base_terms.specs.Lists.{onto}
 use Rattle.job.specs.Answer.{faultNumber}
-use Rattle.job.specs.Job.{Outcome, asks, fails, jobOf}
+use Rattle.job.specs.Job.{JobOrFault, asks, fails, jobOf}
 use Rattle.listing.specs.Listing.{refusalLine}
 use Rattle.cutplan.specs.Lines.{longestListing, linesOfPlan, refusedOfPlan}
 
 -- the lines for a job, or that of refusal 19
-unfoldable pub printedFor : Outcome → List ℕ
+unfoldable pub printedFor : JobOrFault → List ℕ
 printedFor (asks a) = linesOfPlan (a .recording) (a .segment) (a .settings) (a .values) (a .flags) (a .levels)
 printedFor (fails fault at) = refusalLine (faultNumber fault)
 
@@ -20,7 +20,7 @@ abbrev pub cutplanOf : List ℕ → List ℕ
 cutplanOf job = printedFor (jobOf job)
 
 -- the number of a job's refusal, 19 where there is no job, and 0 where there is a plan
-unfoldable pub refusedFor : Outcome → ℕ
+unfoldable pub refusedFor : JobOrFault → ℕ
 refusedFor (asks a) = refusedOfPlan (a .recording) (a .segment) (a .settings) (a .values) (a .flags) (a .levels)
 refusedFor (fails fault at) = faultNumber fault
 

@@ -22,9 +22,9 @@ use Rattle.plan_pieces.specs.AnswerLaws.{answer-most}
 use Rattle.plan_pieces.specs.Output.{Output}
 use Rattle.plan_pieces.specs.declared.answer.Answer.{Answer}
 use Rattle.plan_pieces.specs.declared.answer.Answer.the-variants.{Planned, Refused, ShortParent, NoReach, ShortOutput}
-use Rattle.plan_theorems.specs.Made.{startAt, endAt, Shows, Written}
+use Rattle.plan_theorems.specs.Made.{pieceStart, pieceEnd, Shows, PlanWritten}
 use Rattle.plan_theorems.specs.Theorems.{plan-made, plan-ended}
-use Rattle.job.specs.Job.{Asked, Outcome, asks, fails, jobOf}
+use Rattle.job.specs.Job.{Asked, JobOrFault, asks, fails, jobOf}
 use Rattle.job.specs.Theorems.{fault-number}
 use Rattle.job.specs.declared.answer.Fault.{Fault}
 use Rattle.listing.specs.Listing.{listingOf}
@@ -47,7 +47,7 @@ module _ (job : List ℕ) (a : Asked) (read : jobOf job ≡ asks a) where
   s = spanOf (a .settings .gap) (paddingIn (a .recording) (a .segment) (a .settings) (length (a .values))) (silencesIn (a .recording) (a .segment) (a .values) (a .flags))
 
   module _ (n : ℕ) (made : endFor job a read .answer ≡ Planned n) where
-    written : Written n lentOutput out
+    written : PlanWritten n lentOutput out
     written = plan-made (a .recording) (a .segment) (a .settings) (a .values) (a .flags) (a .levels) lentOutput lentWork lentParents n made .written
 
     ready : PlanReady (a .recording) (a .segment) (a .settings) (a .values) (a .flags) (a .levels) (length (lentWork .u32s)) (length (lentWork .u64s)) (length (lentWork .f64s))
@@ -68,7 +68,7 @@ module _ (job : List ℕ) (a : Asked) (read : jobOf job ≡ asks a) where
         go ByLength e = let d = of-span job a read n made pieces .demand-by-length e in (d .0, d .1)
         go (ByCount count) e = let d = of-span job a read n made pieces .demand-by-count count e in (d .0, d .1)
 
-    piece-wide : (k : ℕ) → k < n → isU64 (startAt out k) × isU64 (endAt out k)
+    piece-wide : (k : ℕ) → k < n → isU64 (pieceStart out k) × isU64 (pieceEnd out k)
     piece-wide k h =
         let shows = shown (omega (arith, h)) .1 in
         (subst isU64 (sym (shows .piece-start k h)) (boundary-wide _), subst isU64 (sym (shows .piece-end k h)) (boundary-wide _))
@@ -102,9 +102,9 @@ module _ (job : List ℕ) (a : Asked) (read : jobOf job ≡ asks a) where
 pub cutplan-short : (job : List ℕ) → length (cutplanOf job) ≤ longestListing
 cutplan-short job = go (jobOf job) refl
   where
-    go : (o : Outcome) → jobOf job ≡ o → length (cutplanOf job) ≤ longestListing
+    go : (o : JobOrFault) → jobOf job ≡ o → length (cutplanOf job) ≤ longestListing
     go (asks a) e = subst (λ (text : List ℕ). length text ≤ longestListing) (sym (job-lines job a e)) (answer-short job a e (endFor job a e .answer) refl)
-    go (fails fault at) e = subst (λ (o : Outcome). length (printedFor o) ≤ longestListing) (sym e) (fault-short fault at)
+    go (fails fault at) e = subst (λ (o : JobOrFault). length (printedFor o) ≤ longestListing) (sym e) (fault-short fault at)
       where
         fault-short : (fault : Fault) (at : ℕ) → length (printedFor (fails fault at)) ≤ longestListing
         fault-short fault at = unfold printedFor in rw (fault-number fault) (omega (arith, refusal-fits 19 (omega arith)))

@@ -31,7 +31,7 @@ use Rattle.planner.specs.Operation.{End}
 use Rattle.plan_theorems.specs.Made.{MadeOfSpan}
 use Rattle.plan_theorems.specs.Theorems.{plan-made, plan-ended, made-of-span}
 use Rattle.job.specs.Limits.{mostFrames}
-use Rattle.job.specs.Job.{readOf, valuesIn, levelsFor, levelsIn, Asked, Outcome, asks, fails, withLists, jobOf}
+use Rattle.job.specs.Job.{readOf, valuesIn, levelsFor, levelsIn, Asked, JobOrFault, asks, fails, withLists, jobOf}
 use Rattle.job.specs.JobLaws.{read-within, values-length}
 use Rattle.job.specs.Encode.{encode, Encodable}
 use Rattle.job.specs.Theorems.{fault-number, read-encoded}
@@ -40,9 +40,9 @@ use Rattle.job.specs.declared.answer.Head.{Head}
 use Rattle.job.specs.declared.answer.Reading.{Reading}
 use Rattle.job.specs.declared.answer.Reading.the-variants.{Job, Refused}
 use Rattle.listing.specs.Listing.{refusalLine}
-use Rattle.listing.specs.Rows.{Row, rowsOf}
-use Rattle.listing.specs.Parse.{parsedOf, planned, refused}
-use Rattle.listing.specs.ParseLaws.{parsed-listing, parsed-refusal}
+use Rattle.listing.specs.Rows.{ListedRow, rowsOf}
+use Rattle.listing_parser.specs.Parse.{parsedOf, planned, refused}
+use Rattle.listing_parser.specs.ParseLaws.{parsed-listing, parsed-refusal}
 use Rattle.cutplan.specs.Memory.{lentWork, lentParents, endWithin, handedWithin}
 use Rattle.cutplan.specs.MemoryLaws.{never-12, never-13}
 use Rattle.cutplan.specs.Lines.{linesFor, lentOutput, linesOfPlan}
@@ -79,11 +79,11 @@ record Asking (a : Asked) : Type 0 where
   fitting : Fitting (a .values) (a .levels)
 
 -- a job, and whether there is one
-abbrev askedOr : Asked → Outcome → Asked
+abbrev askedOr : Asked → JobOrFault → Asked
 askedOr other (asks a) = a
 askedOr other (fails fault at) = other
 
-abbrev isAsked : Outcome → Bool
+abbrev isAsked : JobOrFault → Bool
 isAsked (asks a) = true
 isAsked (fails fault at) = false
 
@@ -162,7 +162,7 @@ refusal-of-fault job fault at e = rw e (fault-number fault)
 pub cutplan-number-most : (job : List ℕ) → refusedIn job ≤ 19
 cutplan-number-most job = go (jobOf job) refl
   where
-    go : (o : Outcome) → jobOf job ≡ o → refusedIn job ≤ 19
+    go : (o : JobOrFault) → jobOf job ≡ o → refusedIn job ≤ 19
     go (asks a) e = omega (arith, refusal-of-plan job a e, answer-most (endFor job a e .answer))
     go (fails fault at) e = omega (arith, refusal-of-fault job fault at e)
 
@@ -170,7 +170,7 @@ cutplan-number-most job = go (jobOf job) refl
 pub cutplan-number-line : (job : List ℕ) → (refusedIn job ≡ 0 → ⊥) → cutplanOf job ≡ refusalLine (refusedIn job)
 cutplan-number-line job other = go (jobOf job) refl
   where
-    go : (o : Outcome) → jobOf job ≡ o → cutplanOf job ≡ refusalLine (refusedIn job)
+    go : (o : JobOrFault) → jobOf job ≡ o → cutplanOf job ≡ refusalLine (refusedIn job)
     go (asks a) e =
         let number = refusal-of-plan job a e in
         job-lines job a e
@@ -179,10 +179,10 @@ cutplan-number-line job other = go (jobOf job) refl
     go (fails fault at) e = unfold printedFor refusedFor in rw e
 
 -- where it is 0, what is printed, parsed, is a plan
-pub cutplan-number-plan : (job : List ℕ) → refusedIn job ≡ 0 → (pieces : List Row) × (cuts : List Row) × (parsedOf (cutplanOf job) ≡ some (planned pieces cuts))
+pub cutplan-number-plan : (job : List ℕ) → refusedIn job ≡ 0 → (pieces : List ListedRow) × (cuts : List ListedRow) × (parsedOf (cutplanOf job) ≡ some (planned pieces cuts))
 cutplan-number-plan job none = go (jobOf job) refl
   where
-    go : (o : Outcome) → jobOf job ≡ o → (pieces : List Row) × (cuts : List Row) × (parsedOf (cutplanOf job) ≡ some (planned pieces cuts))
+    go : (o : JobOrFault) → jobOf job ≡ o → (pieces : List ListedRow) × (cuts : List ListedRow) × (parsedOf (cutplanOf job) ≡ some (planned pieces cuts))
     go (asks a) e =
         let made = plan-ended (a .recording) (a .segment) (a .settings) (a .values) (a .flags) (a .levels) lentOutput lentWork lentParents .number .0
         (sym (refusal-of-plan job a e) ∙ none) in

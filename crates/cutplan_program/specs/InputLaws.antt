@@ -138,13 +138,6 @@ reads-fit (ended done buffer after w) = omega (arith, w .room, w .length-stays)
 reads-fit (failed done buffer after w) = tt
 reads-fit (more done k buffer next r after w on) = reads-fit on
 
--- its length stays
-pub reads-length : {done : ℕ} {buffer after : List ℕ} {r : Input} → Reads done buffer r after → length after ≡ length buffer
-reads-length (full done buffer e) = refl
-reads-length (ended done buffer after w) = w .length-stays
-reads-length (failed done buffer after w) = w .length-stays
-reads-length (more done k buffer next r after w on) = reads-length on ∙ w .length-stays
-
 -- what was read stays where it is, whatever is read behind it
 pub reads-kept : {done : ℕ} {buffer after : List ℕ} {r : Input} → Reads done buffer r after → take done after ≡ take done buffer
 reads-kept (full done buffer e) = refl

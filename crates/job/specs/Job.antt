@@ -120,12 +120,12 @@ pub record Asked : Type 0 where
   pub levels : List Float
 
 -- the job, or why there is none and where that shows
-pub data Outcome : Type 0 where
-  asks : Asked → Outcome
-  fails : Fault → ℕ → Outcome
+pub data JobOrFault : Type 0 where
+  asks : Asked → JobOrFault
+  fails : Fault → ℕ → JobOrFault
 
 -- what was read, with its lists
-unfoldable pub withLists : List ℕ → Reading → Outcome
+unfoldable pub withLists : List ℕ → Reading → JobOrFault
 withLists job (Job h) =
     asks (record {
       recording = h .recording;
@@ -138,5 +138,5 @@ withLists job (Job h) =
 withLists job (Refused fault at) = fails fault at
 
 -- what bytes say as a job
-unfoldable pub jobOf : List ℕ → Outcome
+unfoldable pub jobOf : List ℕ → JobOrFault
 jobOf job = withLists job (readOf job)

@@ -13,7 +13,6 @@ use Rattle.grid.specs.Validate.{levelCount}
 use Rattle.grid.specs.declared.validate.Domain.{Domain}
 use Rattle.grid.specs.declared.validate.Domain.the-variants.{Decibels, Scores}
 use Rattle.job.specs.Job.{numbersOf, listsSize, endOf, fitted, known, readOf, Within, valuesIn, flagsFor, flagsIn, levelsFor, levelsIn}
-use Rattle.job.specs.Job.{asks, fails, withLists, jobOf}
 use Rattle.job.specs.Limits.{mostBytes, mostFrames}
 use Rattle.job.specs.declared.answer.Head.{Head}
 use Rattle.job.specs.declared.answer.Fault.{Fault}
@@ -135,43 +134,25 @@ module _ {job : List ℕ} {h : Head} (w : Within job h) where
     pub levels-inside : h .lists + 5 * h .frames + 8 * h .frames ≤ length job
     levels-inside = omega (arith, decibels-end)
 
--- ---- the whole job, and how long its lists are
+-- ---- how long a job's lists are
 
-module _ (job : List ℕ) where
-  pub job-asks : (h : Head) → readOf job ≡ Job h
-      → jobOf job
-      ≡ asks (record {
-        recording = h .recording;
-        segment = h .segment;
-        settings = h .settings;
-        values = valuesIn job h;
-        flags = flagsIn job h;
-        levels = levelsIn job h;
-      })
-  unfolding jobOf withLists
-  job-asks h e = rw e
+module _ (job : List ℕ) (h : Head) where
+  pub values-length : length (valuesIn job h) ≡ h .frames
+  unfolding valuesIn
+  values-length = tabulate-length _ (h .frames)
 
-  pub job-fails : (fault : Fault) (at : ℕ) → readOf job ≡ Refused fault at → jobOf job ≡ fails fault at
-  unfolding jobOf withLists
-  job-fails fault at e = rw e
+  pub flags-length : length (flagsIn job h) ≡ h .frames
+  unfolding flagsIn
+  flags-length = go (h .recording .domain) (h .lists) (h .frames)
+    where
+      go : (d : Domain) (at n : ℕ) → length (flagsFor job d at n) ≡ n
+      go Decibels at n = tabulate-length _ n
+      go Scores at n = length-replicate n 0
 
-  module _ (h : Head) where
-    pub values-length : length (valuesIn job h) ≡ h .frames
-    unfolding valuesIn
-    values-length = tabulate-length _ (h .frames)
-
-    pub flags-length : length (flagsIn job h) ≡ h .frames
-    unfolding flagsIn
-    flags-length = go (h .recording .domain) (h .lists) (h .frames)
-      where
-        go : (d : Domain) (at n : ℕ) → length (flagsFor job d at n) ≡ n
-        go Decibels at n = tabulate-length _ n
-        go Scores at n = length-replicate n 0
-
-    pub levels-length : length (levelsIn job h) ≡ levelCount (h .recording .domain) (h .frames)
-    unfolding levelsIn
-    levels-length = go (h .recording .domain) (h .lists) (h .frames)
-      where
-        go : (d : Domain) (at n : ℕ) → length (levelsFor job d at n) ≡ levelCount d n
-        go Decibels at n = tabulate-length _ n
-        go Scores at n = refl
+  pub levels-length : length (levelsIn job h) ≡ levelCount (h .recording .domain) (h .frames)
+  unfolding levelsIn
+  levels-length = go (h .recording .domain) (h .lists) (h .frames)
+    where
+      go : (d : Domain) (at n : ℕ) → length (levelsFor job d at n) ≡ levelCount d n
+      go Decibels at n = tabulate-length _ n
+      go Scores at n = refl

@@ -9,7 +9,7 @@ use Rattle.path_pieces.specs.declared.weights.Weights.{Weights}
 use Rattle.kinds.specs.Flagged.{gapOf, modeOf}
 use Rattle.kinds.specs.Numbered.{placementOf}
 use Rattle.job.specs.Fields.{stands, u64Field, f32Field, kindField, firstUnknown}
-use Rattle.job.specs.declared.settings.Lengths.{Lengths}
+use Rattle.job.specs.declared.settings.LengthFields.{LengthFields}
 use Rattle.job.specs.declared.settings.ModeField.{ModeField}
 use Rattle.job.specs.declared.settings.PlacementField.{PlacementField}
 use Rattle.job.specs.declared.settings.Shape.{Shape}
@@ -17,7 +17,7 @@ use Rattle.job.specs.declared.settings.WeightsField.{WeightsField}
 use Rattle.job.specs.declared.settings.Settings.{Settings}
 
 -- 0 min, 1 target, 2 max: u64, else 5, 15, 30 s
-unfoldable pub lengthsAt : (job : List ℕ) (map at : ℕ) → Lengths
+unfoldable pub lengthsAt : (job : List ℕ) (map at : ℕ) → LengthFields
 lengthsAt job map at =
     let least = u64Field job at (stands map 0) 5000000000 in
     let target = u64Field job (least .next) (stands map 1) 15000000000 in

@@ -15,7 +15,7 @@ ghost use Rattle.job.specs.Settings.{lengthsAt, modeAt, placementAt, sha
 ghost use Rattle.job.specs.Settings.{weightsIn, defaultWeights, weightsAt, settingsAt};
 
 // How long pieces should be, and the place behind these fields.
-pub struct Lengths {
+pub struct LengthFields {
     pub min: u64,
     pub target: u64,
     pub max: u64,
@@ -58,7 +58,7 @@ pub struct Settings {
 }
 
 // 0 to 2: each, or the Rust's default.
-fn lengths_at(job: &[u8], map: u16, at: usize) -> Lengths
+fn lengths_at(job: &[u8], map: u16, at: usize) -> LengthFields
     requires { ⌜ at ≤ 900 ⌝ }
     ensures { λ r. ⌜ r .next ≤ at + 24 ⌝ }
     ensures { λ r. ⌜ r ≡ lengthsAt (now (job .entry)) map at ⌝ }
@@ -66,7 +66,7 @@ fn lengths_at(job: &[u8], map: u16, at: usize) -> Lengths
     let min = fields::u64_field(job, at, fields::stands(map, 1), 5_000_000_000);
     let target = fields::u64_field(job, min.next, fields::stands(map, 2), 15_000_000_000);
     let max = fields::u64_field(job, target.next, fields::stands(map, 4), 30_000_000_000);
-    Lengths {
+    LengthFields {
         min: min.value,
         target: target.value,
         max: max.value,

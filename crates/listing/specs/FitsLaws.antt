@@ -10,7 +10,7 @@ use Rattle.base_terms.specs.Limits.{isU64}
 use Rattle.base_laws.specs.Tests.{tested}
 use Rattle.base_code.specs.FrontLaws.{tabulate-length}
 use Rattle.base_terms.specs.Lists.{tabulate}
-use Rattle.listing.specs.Text.{bytesOf, decimalOf, joined}
+use Rattle.listing.specs.Text.{textBytes, decimalOf, joined}
 use Rattle.listing.specs.TextLaws.{decimal-fits}
 use Rattle.listing.specs.Rows.{AllWide, rowAt, rowsOf}
 use Rattle.listing.specs.Listing.{flagsWord, reasonWord, numbersLine, planLine, pieceLine, cutLine, linesOf, listed, listingOf, refusalLine, planLineRoom, pieceLineRoom, cutLineRoom, refusalRoom, roomFor}
@@ -42,15 +42,15 @@ numbers-fit word a b h k = simp length-append (omega (arith, number-fits a h, nu
 
 plan-fits : (pieces cuts : ℕ) → isU64 pieces → isU64 cuts → length (planLine pieces cuts) ≤ planLineRoom
 unfolding planLine joined
-plan-fits pieces cuts h k = simp length-append (omega (arith, numbers-fit (bytesOf "plan ") pieces cuts h k))
+plan-fits pieces cuts h k = simp length-append (omega (arith, numbers-fit (textBytes "plan ") pieces cuts h k))
 
 piece-fits : (start end flags : ℕ) → isU64 start → isU64 end → length (pieceLine start end flags) ≤ pieceLineRoom
 unfolding pieceLine joined
-piece-fits start end flags h k = simp length-append (omega (arith, numbers-fit (bytesOf "piece ") start end h k, flags-fit flags))
+piece-fits start end flags h k = simp length-append (omega (arith, numbers-fit (textBytes "piece ") start end h k, flags-fit flags))
 
 cut-fits : (end start reason : ℕ) → isU64 end → isU64 start → length (cutLine end start reason) ≤ cutLineRoom
 unfolding cutLine joined
-cut-fits end start reason h k = simp length-append (omega (arith, numbers-fit (bytesOf "cut ") end start h k, reason-fits reason))
+cut-fits end start reason h k = simp length-append (omega (arith, numbers-fit (textBytes "cut ") end start h k, reason-fits reason))
 
 -- the line of a refusal, whose number has 32 bits, takes no more than `refusalRoom`
 pub refusal-fits : (number : ℕ) → number < 4294967296 → length (refusalLine number) ≤ refusalRoom

@@ -4,7 +4,7 @@ use mathlib.Core.Path.{_≡_}
 use mathlib.Core.List.{List, [], _∷_}
 use lib.ListN.{length}
 use Rattle.base_code.specs.FrontLaws.{tabulate-length}
-use Rattle.listing.specs.Text.{bytesOf, decimalOf}
+use Rattle.listing.specs.Text.{textBytes, decimalOf}
 use Rattle.listing.specs.Rows.{rowAt, rowsOf}
 use Rattle.listing.specs.Listing.{flagsWord, reasonWord, numbersLine, planLine, pieceLine, cutLine, linesOf, listed, listingOf, refusalLine}
 use Rattle.listing.specs.Written.{Room, Written}
@@ -14,25 +14,25 @@ use Rattle.listing.specs.WrittenLaws.{Rooms, Wrote}
 
 module _ {list : List ℕ} {at : ℕ} where
   pub numbers-rooms : (word : List ℕ) (a b : ℕ) → Room (length (numbersLine word a b)) list at
-      → Rooms (word ∷ decimalOf a ∷ bytesOf " " ∷ decimalOf b ∷ []) list at
+      → Rooms (word ∷ decimalOf a ∷ textBytes " " ∷ decimalOf b ∷ []) list at
   unfolding numbersLine
   numbers-rooms word a b r = record { all = r }
 
-  pub plan-rooms : (pieces cuts : ℕ) → Room (length (planLine pieces cuts)) list at → Rooms (numbersLine (bytesOf "plan ") pieces cuts ∷ bytesOf "\n" ∷ []) list at
+  pub plan-rooms : (pieces cuts : ℕ) → Room (length (planLine pieces cuts)) list at → Rooms (numbersLine (textBytes "plan ") pieces cuts ∷ textBytes "\n" ∷ []) list at
   unfolding planLine
   plan-rooms pieces cuts r = record { all = r }
 
   pub piece-rooms : (start end flags : ℕ) → Room (length (pieceLine start end flags)) list at
-      → Rooms (numbersLine (bytesOf "piece ") start end ∷ bytesOf " " ∷ flagsWord flags ∷ bytesOf "\n" ∷ []) list at
+      → Rooms (numbersLine (textBytes "piece ") start end ∷ textBytes " " ∷ flagsWord flags ∷ textBytes "\n" ∷ []) list at
   unfolding pieceLine
   piece-rooms start end flags r = record { all = r }
 
   pub cut-rooms : (end start reason : ℕ) → Room (length (cutLine end start reason)) list at
-      → Rooms (numbersLine (bytesOf "cut ") end start ∷ bytesOf " " ∷ reasonWord reason ∷ bytesOf "\n" ∷ []) list at
+      → Rooms (numbersLine (textBytes "cut ") end start ∷ textBytes " " ∷ reasonWord reason ∷ textBytes "\n" ∷ []) list at
   unfolding cutLine
   cut-rooms end start reason r = record { all = r }
 
-  pub refusal-rooms : (number : ℕ) → Room (length (refusalLine number)) list at → Rooms (bytesOf "refused " ∷ decimalOf number ∷ bytesOf "\n" ∷ []) list at
+  pub refusal-rooms : (number : ℕ) → Room (length (refusalLine number)) list at → Rooms (textBytes "refused " ∷ decimalOf number ∷ textBytes "\n" ∷ []) list at
   unfolding refusalLine
   refusal-rooms number r = record { all = r }
 

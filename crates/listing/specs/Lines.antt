@@ -10,13 +10,13 @@ use lib.Seq.{length-sets}
 use Rattle.base_laws.specs.Tests.{lt-or-le}
 use Rattle.base_terms.specs.Lists.{tabulate}
 use Rattle.listing.specs.Text.{joined}
-use Rattle.listing.specs.Rows.{Row, rowAt, rowsOf}
+use Rattle.listing.specs.Rows.{ListedRow, rowAt, rowsOf}
 use Rattle.listing.specs.Listing.{lineOf, linesOf}
 use Rattle.listing.specs.Written.{Room, Written}
 use Rattle.listing.specs.WrittenLaws.{written-none, written-then}
 
 module _ (line : ℕ → ℕ → ℕ → List ℕ) where
-  lines-snoc : (rows : List Row) (row : Row) → linesOf line (rows ++ (row ∷ [])) ≡ linesOf line rows ++ lineOf line row
+  lines-snoc : (rows : List ListedRow) (row : ListedRow) → linesOf line (rows ++ (row ∷ [])) ≡ linesOf line rows ++ lineOf line row
   unfolding linesOf joined
   lines-snoc [] row = append-nil (lineOf line row)
   lines-snoc (first ∷ rows) row = rw (lines-snoc rows row, append-assoc)

@@ -6,21 +6,21 @@ use Rattle.base_terms.specs.Limits.{isU64}
 use Rattle.base_terms.specs.Lists.{tabulate}
 
 -- a piece's start, end and flags; a cut's previous end, next start and reason
-pub record Row : Type 0 where
+pub record ListedRow : Type 0 where
   pub from : ℕ
   pub to : ℕ
   pub mark : ℕ
 
 -- row i of the numbers
-abbrev pub rowAt : List ℕ → ℕ → Row
+abbrev pub rowAt : List ℕ → ℕ → ListedRow
 rowAt numbers i = record { from = getD numbers (3 * i) 0; to = getD numbers (3 * i + 1) 0; mark = getD numbers (3 * i + 2) 0 }
 
 -- the first n
-abbrev pub rowsOf : ℕ → List ℕ → List Row
+abbrev pub rowsOf : ℕ → List ℕ → List ListedRow
 rowsOf n numbers = tabulate (rowAt numbers) n
 
 -- no mark is above `most`
-abbrev pub MarksTo : ℕ → List Row → Type 0
+abbrev pub MarksTo : ℕ → List ListedRow → Type 0
 MarksTo most [] = Unit {0}
 MarksTo most (row ∷ rows) = (row .mark ≤ most) × MarksTo most rows
 

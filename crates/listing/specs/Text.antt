@@ -7,9 +7,9 @@ use mathlib.Core.List.{List, [], _∷_, _++_}
 use lib.Dec.{ltb}
 
 -- a text, byte by byte
-abbrev pub bytesOf : String → List ℕ
-bytesOf nothing = []
-bytesOf (letter then rest) = code letter ∷ bytesOf rest
+abbrev pub textBytes : String → List ℕ
+textBytes nothing = []
+textBytes (letter then rest) = code letter ∷ textBytes rest
 
 -- a digit
 abbrev pub digitOf : ℕ → ℕ

@@ -9,7 +9,7 @@ use Rattle.base_terms.specs.Lists.{onto}
 use Rattle.path_pieces.specs.Domain.{Searchable}
 use Rattle.path_pieces.specs.declared.lengths.Lengths.{Lengths}
 use Rattle.path_pieces.specs.declared.score.Score.{Score}
-use Rattle.path_rules.specs.Paths.{lastOf}
+use Rattle.path_rules.specs.Paths.{lastCandidate}
 use Rattle.path_by_count.specs.Table.{bestWith, wayWith, bestPathByCount, bestScoreByCount}
 use Rattle.path_rules.specs.declared.solved.Solved.{Solved}
 use Rattle.path_by_count_rows.specs.Rows.{behind}
@@ -23,10 +23,10 @@ pub record TreeRoom (l : Lengths) (left right : List ℕ) (over : List ℕ) (cos
 
 module _ (l : Lengths) (left right : List ℕ) (cut : List Float) where
   -- the score of the best path of some pieces to the last candidate, and parents that lead back along it
-  pub record Sought (parent : List ℕ) (pieces : ℕ) (score : Score) : Type 0 where
-    pub is : score ≡ bestWith l left right cut pieces (lastOf left)
+  pub record FoundCounted (parent : List ℕ) (pieces : ℕ) (score : Score) : Type 0 where
+    pub is : score ≡ bestWith l left right cut pieces (lastCandidate left)
     pub back : Back parent (length left) pieces
-    pub way : wayIn parent (length left) pieces (lastOf left) ≡ wayWith l left right cut pieces (lastOf left)
+    pub way : wayIn parent (length left) pieces (lastCandidate left) ≡ wayWith l left right cut pieces (lastCandidate left)
 
   -- the score and the number of candidates of the path by count, which is written to the front of the last list
   pub record SolutionByCount (count : ℕ) (path₀ path : List ℕ) (answer : Solved) : Type 0 where

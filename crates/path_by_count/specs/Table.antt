@@ -8,7 +8,7 @@ use Rattle.path_pieces.specs.Pieces.{pieceLength, noScore, withPiece, withCutAt
 use Rattle.path_pieces.specs.declared.lengths.Lengths.{Lengths}
 use Rattle.path_pieces.specs.declared.score.Score.{Score}
 use Rattle.path_pieces.specs.Least.{foundScore, foundIndex, predecessorOf}
-use Rattle.path_rules.specs.Paths.{piecesOf, lastOf}
+use Rattle.path_rules.specs.Paths.{pieceCount, lastCandidate}
 
 module _ (l : Lengths) (left right : List ℕ) (cut : List Float) where
   -- document 01's "best" of candidate j with exactly k pieces, the cut at j included
@@ -30,8 +30,8 @@ module _ (l : Lengths) (left right : List ℕ) (cut : List Float) where
 
   -- document 01's path by count, of min(count, last index) pieces to the last candidate
   unfoldable pub bestPathByCount : ℕ → List ℕ
-  bestPathByCount count = wayWith (piecesOf left count) (lastOf left)
+  bestPathByCount count = wayWith (pieceCount left count) (lastCandidate left)
 
   -- document 01's score of it
   unfoldable pub bestScoreByCount : ℕ → Score
-  bestScoreByCount count = bestWith (piecesOf left count) (lastOf left)
+  bestScoreByCount count = bestWith (pieceCount left count) (lastCandidate left)

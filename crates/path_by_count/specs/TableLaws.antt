@@ -28,8 +28,8 @@ use Rattle.base_laws.specs.Tests.{lt-or-le}
 use Rattle.path_by_count.specs.Table.{bestWith, parentWith, wayWith}
 
 -- k pieces reach the candidates from k on, and none only the first
-abbrev pub Reached : ℕ → ℕ → Type 0
-Reached k j = (k ≤ j) × (k ≡ 0 → j ≡ 0)
+abbrev pub CanReach : ℕ → ℕ → Type 0
+CanReach k j = (k ≤ j) × (k ≡ 0 → j ≡ 0)
 
 -- ---- the table
 
@@ -79,7 +79,7 @@ module _ {l : Lengths} {left right : List ℕ} {cut : List Float} (ok : Searchab
       predecessor-chosen (ok .candidates) (ok .preferred) (own (suc k)) (suc k) j h g (λ i m. with-nonneg (suc k) i (omega arith))
 
   -- the parent is reached with one piece fewer
-  pub parent-reached : (k j : ℕ) → suc k ≤ j → j < length left → Reached k (parent (suc k) j)
+  pub parent-reached : (k j : ℕ) → suc k ≤ j → j < length left → CanReach k (parent (suc k) j)
   unfolding parentWith
   parent-reached zero j h g = (omega arith, λ e. refl)
   parent-reached (suc k) j h g = (choice k j h g .1 .low, λ e. absurd (omega arith))
@@ -122,7 +122,7 @@ module _ {l : Lengths} {left right : List ℕ} {cut : List Float} (ok : Searchab
   way-with-length zero j = refl
   way-with-length (suc k) j = simp length-append (omega (arith, way-with-length k (parent (suc k) j)))
 
-  way-with-path : (k j : ℕ) → Reached k j → j < length left → Path (AllowedByCount (l .limit) left right) (wayWith l left right cut k j) j
+  way-with-path : (k j : ℕ) → CanReach k j → j < length left → Path (AllowedByCount (l .limit) left right) (wayWith l left right cut k j) j
   unfolding wayWith
   way-with-path zero j (h, z) g = (z refl, refl)
   way-with-path (suc k) j (h, z) g =
@@ -131,11 +131,11 @@ module _ {l : Lengths} {left right : List ℕ} {cut : List Float} (ok : Searchab
       (way-with-path k (parent (suc k) j) (parent-reached k j h g) (omega (arith, a .0))) a
 
   -- it is an allowed path of k pieces
-  pub with-allowed : (k j : ℕ) → Reached k j → j < length left → PathWith (l .limit) left right k j (wayWith l left right cut k j)
+  pub with-allowed : (k j : ℕ) → CanReach k j → j < length left → PathWith (l .limit) left right k j (wayWith l left right cut k j)
   with-allowed k j r g = (way-with-path k j r g, way-with-length k j)
 
   -- of the table's score
-  pub with-attained : (k j : ℕ) → Reached k j → j < length left → pathScore l left right cut (wayWith l left right cut k j) ≡ own k j
+  pub with-attained : (k j : ℕ) → CanReach k j → j < length left → pathScore l left right cut (wayWith l left right cut k j) ≡ own k j
   unfolding wayWith bestWith pathScore scoreFrom
   with-attained zero j r g = refl
   with-attained (suc k) j (h, z) g =
@@ -179,7 +179,7 @@ module _ {l : Lengths} {left right : List ℕ} {cut : List Float} (ok : Searchab
   -- ---- it follows the tie rule
 
   -- the way back follows the tie rule by the table's own best scores
-  pub with-tie : (k j : ℕ) → Reached k j → j < length left → TiePath l left right own (wayWith l left right cut k j) j
+  pub with-tie : (k j : ℕ) → CanReach k j → j < length left → TiePath l left right own (wayWith l left right cut k j) j
   unfolding wayWith
   with-tie zero j (h, z) g = (z refl, refl)
   with-tie (suc k) j (h, z) g =

@@ -4,15 +4,15 @@ use crate::walk;
 use base_code::layout;
 use base_code::sizes;
 use path_by_count_rows::first;
-use path_by_count_search::tree;
+use path_by_count_tree::tree;
 use path_pieces::lengths::Lengths;
 use path_pieces::score::Score;
 use path_rules::solved::Solved;
 ghost use Prim.Native.Nat.{_+_, _*_, _≤_, _<_};
 ghost use lib.ListN.{length};
-ghost use Rattle.path_rules.specs.Paths.{piecesOf};
+ghost use Rattle.path_rules.specs.Paths.{pieceCount};
 ghost use Rattle.path_by_count_rows.specs.Rows.{behind};
-ghost use Rattle.path_by_count.specs.Counted.{TreeRoom, Sought, SolutionByCount};
+ghost use Rattle.path_by_count.specs.Counted.{TreeRoom, FoundCounted, SolutionByCount};
 
 // The score of the best path of `pieces` pieces to the last candidate, and the parents that lead back.
 pub fn best_score(
@@ -28,7 +28,7 @@ pub fn best_score(
     requires { ⌜ (0 < pieces) × (pieces < length (now left)) ⌝ }
     requires { ⌜ pieces * length (now left) ≤ length (now parent) ⌝ }
     ensures { λ r. ⌜
-        Sought lengths (now (left .entry)) (now (right .entry))
+        FoundCounted lengths (now (left .entry)) (now (right .entry))
         (behind (length (now (left .entry))) (now (cost .entry)))
         (now (parent .exit)) pieces r
         ⌝ }
@@ -73,8 +73,8 @@ pub fn search_by_count(
 ) -> Solved
     requires { ⌜ TreeRoom lengths (now left) (now right) (now over) (now cost) ⌝ }
     requires { ⌜ 0 < count ⌝ }
-    requires { ⌜ piecesOf (now left) count * length (now left) ≤ length (now parent) ⌝ }
-    requires { ⌜ piecesOf (now left) count + 1 ≤ length (now path) ⌝ }
+    requires { ⌜ pieceCount (now left) count * length (now left) ≤ length (now parent) ⌝ }
+    requires { ⌜ pieceCount (now left) count + 1 ≤ length (now path) ⌝ }
     ensures { λ r. ⌜
         SolutionByCount lengths (now (left .entry)) (now (right .entry))
         (behind (length (now (left .entry))) (now (cost .entry))) count

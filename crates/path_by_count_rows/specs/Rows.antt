@@ -14,7 +14,7 @@ use Rattle.path_pieces.specs.Least.{foundScore, foundIndex, predecessorOf}
 use Rattle.path_pieces.specs.Domain.{Searchable}
 use Rattle.path_pieces.specs.declared.lengths.Lengths.{Lengths}
 use Rattle.path_pieces.specs.declared.score.Score.{Score}
-use Rattle.path_by_count_search.specs.Tree.{Leaves, noLeaf, Covers}
+use Rattle.path_by_count_tree.specs.Tree.{Leaves, noLeaf, Covers}
 use Rattle.path_by_count_rows.specs.First.{firstStart}
 
 -- ---- one score of a row
@@ -53,7 +53,7 @@ pub record Kept (from : ℕ) (over₀ : List ℕ) (cost₀ : List Float) (over :
   pub after : (m : ℕ) → from ≤ m → scoreAt over cost m ≡ scoreAt over₀ cost₀ m
 
 -- a score for each of n candidates: no more pieces over the limit than candidates before it, at a cost that is not negative; no other leaf has a score
-pub record Row (leaves n : ℕ) (over : List ℕ) (cost : List Float) : Type 0 where
+pub record ScoreRow (leaves n : ℕ) (over : List ℕ) (cost : List Float) : Type 0 where
   pub few : (i : ℕ) → i < n → getD over (leaves + i) 0 ≤ i
   pub fine : (i : ℕ) → i < n → T (nonneg (getD cost (leaves + i) nan))
   pub beyond : (i : ℕ) → n ≤ i → i < leaves → leafScore leaves over cost i ≡ noLeaf
@@ -66,7 +66,7 @@ module _ (l : Lengths) (left right : List ℕ) (leaves : ℕ) (over₀ : List �
     pub score : (j : ℕ) → j < length left → leafScore leaves over cost j ≡ firstScore l left right (behind (length left) cost) j
     pub parent : (j : ℕ) → j < length left → getD row j 0 ≡ 0
     pub laid : Laid l left right leaves over cost
-    pub is-row : Row leaves (length left) over cost
+    pub is-row : ScoreRow leaves (length left) over cost
     pub cuts : behind (length left) cost ≡ behind (length left) cost₀
 
   -- row k, by the scores of the row before: k - 1 pieces reach the candidates from k - 1 on
@@ -75,7 +75,7 @@ module _ (l : Lengths) (left right : List ℕ) (leaves : ℕ) (over₀ : List �
         → leafScore leaves over cost j ≡ withCutAt (behind (length left) cost) j (foundScore (predecessorOf l left right (leafScore leaves over₀ cost₀) (k - 1) j))
     pub parent : (j : ℕ) → k ≤ j → j < length left → getD row j 0 ≡ foundIndex (predecessorOf l left right (leafScore leaves over₀ cost₀) (k - 1) j)
     pub laid : Laid l left right leaves over cost
-    pub is-row : Row leaves (length left) over cost
+    pub is-row : ScoreRow leaves (length left) over cost
     pub cuts : behind (length left) cost ≡ behind (length left) cost₀
 
 -- ---- a row while it is written
@@ -98,7 +98,7 @@ module _ (l : Lengths) (left right : List ℕ) (leaves : ℕ) (over₀ : List �
 -- a row with its tree
 pub record Planted (l : Lengths) (left right : List ℕ) (leaves : ℕ) (over : List ℕ) (cost : List Float) : Type 0 where
   pub laid : Laid l left right leaves over cost
-  pub is-row : Row leaves (length left) over cost
+  pub is-row : ScoreRow leaves (length left) over cost
   pub covers : Covers leaves leaves over cost 1 0 leaves
 
 -- what the search for a predecessor of candidate j in row k reads: candidates with their first starts, and of the row before the scores of the candidates before j,

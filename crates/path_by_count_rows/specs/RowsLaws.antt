@@ -26,13 +26,13 @@ use Rattle.path_pieces.specs.declared.best.Found.{Found}
 use Rattle.path_pieces.specs.declared.lengths.Lengths.{Lengths}
 use Rattle.path_pieces.specs.declared.score.Score.{Score}
 use Rattle.path_pieces.specs.declared.best.Best.{Best}
-use Rattle.path_by_count_search.specs.Least.{every, leastIn}
+use Rattle.path_by_count_tree.specs.Least.{every, leastIn}
 use Rattle.path_by_count_search.specs.Starts.{arrivalAt, Starts}
 use Rattle.path_by_count_rows.specs.FirstLaws.{first-start-high, first-start-none, first-start-all}
-use Rattle.path_by_count_search.specs.Tree.{noLeaf}
-use Rattle.path_by_count_search.specs.TreeLaws.{Sound, covers-all, covers-front}
-use Rattle.path_by_count_search.specs.Fill.{written, kept, Padded, Linked}
-use Rattle.path_by_count_rows.specs.Rows.{startOf, firstScore, leafScore, behind, Laid, Kept, Row, FirstRow, NextRow, FirstWritten, NextWritten, Planted, RowReady}
+use Rattle.path_by_count_tree.specs.Tree.{noLeaf}
+use Rattle.path_by_count_tree.specs.TreeLaws.{Sound, covers-all, covers-front}
+use Rattle.path_by_count_tree.specs.Fill.{written, kept, Padded, Linked}
+use Rattle.path_by_count_rows.specs.Rows.{startOf, firstScore, leafScore, behind, Laid, Kept, ScoreRow, FirstRow, NextRow, FirstWritten, NextWritten, Planted, RowReady}
 
 -- ---- where the last piece may start
 
@@ -163,7 +163,7 @@ module _ {l : Lengths} {left right : List ℕ} {cut : List Float} (ok : Searchab
 
 -- ---- the tree of a row
 
-row-fair : {leaves n : ℕ} {over : List ℕ} {cost : List Float} → Row leaves n over cost → (i : ℕ) → i < n → Fair i (leafScore leaves over cost i)
+row-fair : {leaves n : ℕ} {over : List ℕ} {cost : List Float} → ScoreRow leaves n over cost → (i : ℕ) → i < n → Fair i (leafScore leaves over cost i)
 row-fair r i h = (r .few i h, r .fine i h)
 
 linked-kept : {leaves : ℕ} {over₀ over : List ℕ} {cost₀ cost : List Float} → length over ≡ length over₀ → length cost ≡ length cost₀
@@ -188,13 +188,13 @@ module _ (leaves n : ℕ) (over : List ℕ) (cost : List Float) where
 
 module _ {l : Lengths} {left right : List ℕ} {leaves : ℕ} where
   -- linked anew, a row has its tree
-  pub planted : {over₀ over : List ℕ} {cost₀ cost : List Float} → Laid l left right leaves over₀ cost₀ → Row leaves (length left) over₀ cost₀
+  pub planted : {over₀ over : List ℕ} {cost₀ cost : List Float} → Laid l left right leaves over₀ cost₀ → ScoreRow leaves (length left) over₀ cost₀
       → length over ≡ length over₀ → length cost ≡ length cost₀ → Linked over₀ cost₀ leaves over cost 1 → Planted l left right leaves over cost
   planted {over₀} {over} {cost₀} {cost} x r eo ec k =
       let keeps = linked-kept eo ec k in
       let laid = laid-kept x (omega (arith, tree-size x)) keeps in
       let same : (i : ℕ) → leafScore leaves over cost i ≡ leafScore leaves over₀ cost₀ i = λ i. k .after (leaves + i) (omega arith) in
-      let row : Row leaves (length left) over cost = record {
+      let row : ScoreRow leaves (length left) over cost = record {
         few = λ i h. rw (ap (λ (s : Score). s .over) (same i)) (r .few i h);
         fine = λ i h. rw (ap (λ (s : Score). s .cost) (same i)) (r .fine i h);
         beyond = λ i h g. same i ∙ r .beyond i h g;

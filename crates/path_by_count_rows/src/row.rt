@@ -2,7 +2,7 @@
 use base_code::layout;
 use base_code::sizes;
 use path_by_count_search::least;
-use path_by_count_search::tree;
+use path_by_count_tree::tree;
 use path_pieces::best::Best;
 use path_pieces::lengths::Lengths;
 use path_pieces::score;
@@ -13,7 +13,7 @@ ghost use lib.ListN.{length};
 ghost use Rattle.base_terms.specs.Layout.{behindTree};
 ghost use Rattle.path_pieces.specs.Least.{heldOf, predecessorOf};
 ghost use Rattle.path_pieces.specs.Domain.{Searchable};
-ghost use Rattle.path_by_count_rows.specs.Rows.{firstScore, leafScore, behind, Laid, Row, Planted, RowReady};
+ghost use Rattle.path_by_count_rows.specs.Rows.{firstScore, leafScore, behind, Laid, ScoreRow, Planted, RowReady};
 ghost use Rattle.path_by_count_rows.specs.Rows.{FirstRow, NextRow, FirstWritten, NextWritten};
 
 // The best predecessor of candidate j in row k, sought from `near` on. The first starts stand from `firsts` on.
@@ -103,7 +103,7 @@ pub fn next_row(
     row: &mut [u32],
 )
     requires { ⌜ Laid lengths (now left) (now right) leaves (now over) (now cost) ⌝ }
-    requires { ⌜ Row leaves (length (now left)) (now over) (now cost) ⌝ }
+    requires { ⌜ ScoreRow leaves (length (now left)) (now over) (now cost) ⌝ }
     requires { ⌜ (0 < k) × (k ≤ length (now left)) ⌝ }
     requires { ⌜ length (now row) ≡ length (now left) ⌝ }
     ensures { λ _. ⌜

@@ -5,7 +5,7 @@ use Prim.Native.Nat.{ℕ, _+_, _-_, _*_, _/_, _≤_}
 use lib.Dec.{ltb}
 use lib.Ieee.{Float}
 use Rattle.path_by_count_search.specs.declared.narrow.Place.{Place}
-use Rattle.path_by_count_search.specs.Tree.{Covers}
+use Rattle.path_by_count_tree.specs.Tree.{Covers}
 
 -- one of two, by a test
 abbrev pub pickPlace : Bool → Place → Place → Place

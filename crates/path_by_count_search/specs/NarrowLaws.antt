@@ -9,8 +9,8 @@ use lib.ListN.{length}
 use borrow.Author.Tests.{lt-ltb, le-ltb}
 use Rattle.base_laws.specs.Tests.{lt-or-le}
 use Rattle.path_by_count_search.specs.declared.narrow.Place.{Place}
-use Rattle.path_by_count_search.specs.Tree.{Covers}
-use Rattle.path_by_count_search.specs.TreeLaws.{bound-of, not-empty, lower-half, upper-half}
+use Rattle.path_by_count_tree.specs.Tree.{Covers}
+use Rattle.path_by_count_tree.specs.TreeLaws.{bound-of, not-empty, lower-half, upper-half}
 use Rattle.path_by_count_search.specs.Narrow.{middleOf, lowerOf, upperOf, narrowerOf, Encloses}
 
 -- ---- which place it is

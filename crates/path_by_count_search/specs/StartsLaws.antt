@@ -14,8 +14,8 @@ use Rattle.path_pieces.specs.LeastLaws.{least-only}
 use Rattle.path_pieces.specs.declared.lengths.Lengths.{Lengths}
 use Rattle.path_pieces.specs.declared.score.Score.{Score}
 use Rattle.path_pieces.specs.declared.best.Best.{Best}
-use Rattle.path_by_count_search.specs.Least.{every, entry, pickBest, leastIn, IsLeast}
-use Rattle.path_by_count_search.specs.LeastLaws.{least-one, least-more}
+use Rattle.path_by_count_tree.specs.Least.{every, entry, pickBest, leastIn, IsLeast}
+use Rattle.path_by_count_tree.specs.LeastLaws.{least-one, least-more}
 use Rattle.path_by_count_search.specs.Starts.{arrivalAt, lengthsHeld, Starts, Start}
 
 module _ {l : Lengths} {right over : List ℕ} {cost : List Float} {base to end : ℕ} (s : Starts l right over cost base to end) where

@@ -9,8 +9,8 @@ use Rattle.path_pieces.specs.Least.{heldOf}
 use Rattle.path_pieces.specs.LeastLaws.{least-only}
 use Rattle.path_pieces.specs.declared.score.Score.{Score}
 use Rattle.path_pieces.specs.declared.best.Best.{Best}
-use Rattle.path_by_count_search.specs.Least.{every, leastIn}
-use Rattle.path_by_count_search.specs.LeastLaws.{before-least}
+use Rattle.path_by_count_tree.specs.Least.{every, leastIn}
+use Rattle.path_by_count_tree.specs.LeastLaws.{before-least}
 use Rattle.path_by_count_search.specs.Visit.{FirstIn}
 
 -- document 01's "the pruned tree search stays, and is shown to give this"

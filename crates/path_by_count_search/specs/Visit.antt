@@ -15,9 +15,9 @@ use Rattle.path_pieces.specs.declared.lengths.Lengths.{Lengths}
 use Rattle.path_pieces.specs.declared.score.Score.{Score}
 use Rattle.path_pieces.specs.declared.best.Best.{Best}
 use Rattle.path_by_count_search.specs.declared.visit.Query.{Query}
-use Rattle.path_by_count_search.specs.Least.{entry, pickBest, Before}
+use Rattle.path_by_count_tree.specs.Least.{entry, pickBest, Before}
 use Rattle.path_by_count_search.specs.Starts.{arrivalAt}
-use Rattle.path_by_count_search.specs.Tree.{noLeaf, Covers}
+use Rattle.path_by_count_tree.specs.Tree.{noLeaf, Covers}
 use Rattle.path_by_count_search.specs.Bound.{boundOf}
 use Rattle.path_by_count_search.specs.declared.halves.Half.{Half}
 use Rattle.path_by_count_search.specs.declared.halves.Ordered.{Ordered}

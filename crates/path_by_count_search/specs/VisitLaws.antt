@@ -19,11 +19,11 @@ use Rattle.path_pieces.specs.Pieces.{atMost, scoreAt, lessThan}
 use Rattle.path_pieces.specs.declared.score.Score.{Score}
 use Rattle.path_pieces.specs.declared.best.Best.{Best}
 use Rattle.path_by_count_search.specs.declared.visit.Query.{Query}
-use Rattle.path_by_count_search.specs.Least.{entry, aheadOf, firstOf, Before}
-use Rattle.path_by_count_search.specs.LeastLaws.{before-refl, before-trans, ahead-before, not-ahead-before}
+use Rattle.path_by_count_tree.specs.Least.{entry, aheadOf, aheadBest, Before}
+use Rattle.path_by_count_tree.specs.LeastLaws.{before-refl, before-trans, ahead-before, not-ahead-before}
 use Rattle.path_by_count_search.specs.Starts.{Starts}
-use Rattle.path_by_count_search.specs.Tree.{noLeaf, Bound, Covers}
-use Rattle.path_by_count_search.specs.TreeLaws.{bound-of, lower-half, upper-half}
+use Rattle.path_by_count_tree.specs.Tree.{noLeaf, Bound, Covers}
+use Rattle.path_by_count_tree.specs.TreeLaws.{bound-of, lower-half, upper-half}
 use Rattle.path_by_count_search.specs.Bound.{boundOf}
 use Rattle.path_by_count_search.specs.BoundLaws.{bound-nonneg, bound-least}
 use Rattle.path_by_count_search.specs.Visit.{lengthsOf, Ranged, Looks, OneOf, FirstIn, through, activeBound, outlookOf, inOrder, halfOf, halvesOf, Halved, Part, Parts}
@@ -106,7 +106,7 @@ module _ (q : Query) {right over : List ℕ} {cost : List Float} (s : Starts (le
 module _ (score : ℕ → Score) where
   -- one candidate alone
   pub one-first : (lo hi from to : ℕ) (b r : Best) → hi ≡ lo + 1 → from ≤ lo → lo < to → T (nonneg (score lo .cost)) → T (nonneg (b .score .cost))
-      → r ≡ firstOf (entry score lo) b → FirstIn score lo hi from to b r
+      → r ≡ aheadBest (entry score lo) b → FirstIn score lo hi from to b r
   one-first lo hi from to b r e f t p q h = subst (λ (x : Best). FirstIn score lo hi from to b x) (sym h) (elim (passes (aheadOf (entry score lo) b)) [
     | inl y ↦ rw (is-true (aheadOf (entry score lo) b) y) (record {
       source = inr (record { low = omega arith; high = omega arith; first = f; last = t; is = refl });
@@ -151,7 +151,7 @@ module _ (score : ℕ → Score) where
 
   -- one more
   pub next-first : (start i from to : ℕ) (b m r : Best) → start ≤ i → from ≤ i → i < to → T (nonneg (score i .cost)) → T (nonneg (m .score .cost))
-      → FirstIn score start i from to b m → r ≡ firstOf (entry score i) m → FirstIn score start (i + 1) from to b r
+      → FirstIn score start i from to b m → r ≡ aheadBest (entry score i) m → FirstIn score start (i + 1) from to b r
   next-first start i from to b m r a f t p q x e =
       join start i i (i + 1) start (i + 1) from to b m r x (one-first i (i + 1) from to m r refl f t p q e)
       (λ k l u. elim (lt-or-le k i) [ inl g ↦ inl (l, g) | inr g ↦ inr (g, u) ]) (omega arith) (omega arith) a (omega arith)

@@ -2,10 +2,10 @@
 // first.
 use crate::bound;
 use crate::range;
-use crate::tree;
 use crate::visit;
 use crate::visit::Query;
 use base_code::sizes;
+use path_by_count_tree::tree;
 use path_pieces::best::Best;
 use path_pieces::score;
 use path_pieces::score::Score;

@@ -8,9 +8,9 @@ use path_pieces::lengths::Lengths;
 ghost use mathlib.Core.Path.{_≡_};
 ghost use Prim.Native.Nat.{_≤_, _<_};
 ghost use Rattle.path_pieces.specs.Least.{heldOf};
-ghost use Rattle.path_by_count_search.specs.Least.{leastIn};
+ghost use Rattle.path_by_count_tree.specs.Least.{leastIn};
 ghost use Rattle.path_by_count_search.specs.Starts.{arrivalAt, Starts};
-ghost use Rattle.path_by_count_search.specs.Tree.{Covers};
+ghost use Rattle.path_by_count_tree.specs.Tree.{Covers};
 
 // The best predecessor among the candidates from..to of a piece that ends at the place `end`: a short range is searched
 // candidate by candidate, a longer one by the tree. That search starts from the candidate of the range next to `near`:

@@ -8,7 +8,7 @@ ghost use Prim.Native.Nat.{_+_, _*_, _≤_, _<_};
 ghost use lib.Dec.{T};
 ghost use Rattle.base_terms.specs.Floats.{nonneg};
 ghost use Rattle.path_by_count_search.specs.Starts.{Starts};
-ghost use Rattle.path_by_count_search.specs.Tree.{Covers};
+ghost use Rattle.path_by_count_tree.specs.Tree.{Covers};
 ghost use Rattle.path_by_count_search.specs.Visit.{lengthsOf, FirstIn, through};
 ghost use Rattle.path_by_count_search.specs.Narrow.{narrowerOf};
 

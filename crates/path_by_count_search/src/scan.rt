@@ -8,7 +8,7 @@ ghost use Prim.Native.Nat.{_-_, _<_};
 ghost use lib.ListN.{getD};
 ghost use Rattle.path_pieces.specs.Pieces.{withPiece, lessThan, scoreAt};
 ghost use Rattle.path_pieces.specs.Least.{heldOf};
-ghost use Rattle.path_by_count_search.specs.Least.{pickBest, leastIn};
+ghost use Rattle.path_by_count_tree.specs.Least.{pickBest, leastIn};
 ghost use Rattle.path_by_count_search.specs.Starts.{arrivalAt, Starts, Start};
 
 // The score through candidate i of a path whose last piece ends at the place `end`; the candidate's own score stands at

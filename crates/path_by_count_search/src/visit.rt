@@ -1,10 +1,10 @@
 // The pruned search over the tree of least scores: ranges whose bound cannot improve the best so far are left out.
 //
 // Floating-point rounding can break Monge argmin ordering, even with convex real-valued costs, so only bounds prune.
-use crate::best;
 use crate::halves;
 use crate::scan;
 use base_code::sizes;
+use path_by_count_tree::best;
 use path_pieces::best::Best;
 use path_pieces::lengths::Lengths;
 use path_pieces::weights;
@@ -12,9 +12,9 @@ ghost use mathlib.Core.Path.{_≡_};
 ghost use Prim.Native.Nat.{_+_};
 ghost use lib.Dec.{T};
 ghost use Rattle.base_terms.specs.Floats.{nonneg};
-ghost use Rattle.path_by_count_search.specs.Least.{entry, firstOf};
+ghost use Rattle.path_by_count_tree.specs.Least.{entry, aheadBest};
 ghost use Rattle.path_by_count_search.specs.Starts.{Starts, Start};
-ghost use Rattle.path_by_count_search.specs.Tree.{Covers};
+ghost use Rattle.path_by_count_tree.specs.Tree.{Covers};
 ghost use Rattle.path_by_count_search.specs.Visit.{lengthsOf, FirstIn, through};
 
 // So few candidates are compared one after the other: a bound costs about as much as a score, so that halving on would
@@ -54,7 +54,7 @@ pub fn lengths_of(query: Query) -> Lengths
 fn at_leaf(right: &[u64], over: &[u32], cost: &[f64], query: Query, i: usize, best: Best) -> Best
     requires { ⌜ Start (now right) (now over) (now cost) (query .leaves + i) i (query .end) ⌝ }
     ensures { λ r. ⌜
-        r ≡ firstOf (entry (through query (now (right .entry)) (now (over .entry)) (now (cost .entry))) i) best
+        r ≡ aheadBest (entry (through query (now (right .entry)) (now (over .entry)) (now (cost .entry))) i) best
         ⌝ }
 {
     let lengths = lengths_of(query);

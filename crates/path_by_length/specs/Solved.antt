@@ -10,7 +10,7 @@ use Rattle.path_pieces.specs.Limits.{maxIndex}
 use Rattle.path_pieces.specs.Domain.{Searchable}
 use Rattle.path_pieces.specs.declared.lengths.Lengths.{Lengths}
 use Rattle.path_rules.specs.declared.solved.Solved.{Solved}
-use Rattle.path_rules.specs.Paths.{lastOf}
+use Rattle.path_rules.specs.Paths.{lastCandidate}
 use Rattle.path_by_length.specs.Table.{bestScore, bestOver, bestCost, parentOf, Falling, bestPath}
 
 -- ---- the table
@@ -56,7 +56,7 @@ module _ (l : Lengths) (left right : List ℕ) where
   -- the whole table, and the best path's score and number of candidates, read off it
   pub record Settled (over₀ : List ℕ) (cost₀ : List Float) (over : List ℕ) (cost : List Float) (answer : Solved) : Type 0 where
     pub filled : Filled over₀ cost₀ over cost (length left)
-    pub score : answer .score ≡ bestScore l left right (cutsIn (length left) cost₀) (lastOf left)
+    pub score : answer .score ≡ bestScore l left right (cutsIn (length left) cost₀) (lastCandidate left)
     pub count : answer .len ≡ length (bestPath l left right (cutsIn (length left) cost₀))
 
 -- ---- the way back

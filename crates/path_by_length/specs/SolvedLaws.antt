@@ -17,7 +17,7 @@ use Rattle.path_pieces.specs.declared.best.Found.{Found}
 use Rattle.path_pieces.specs.declared.best.Found.the-variants.{At, Nothing}
 use Rattle.path_pieces.specs.Least.{foundScore, foundIndex, lowestLeast, predecessorOf}
 use Rattle.path_pieces.specs.LeastLaws.{least-nothing}
-use Rattle.path_rules.specs.Paths.{lastOf}
+use Rattle.path_rules.specs.Paths.{lastCandidate}
 use Rattle.path_by_length.specs.Table.{bestScore, bestOver, bestCost, parentOf, wayTo, bestPath}
 use Rattle.path_by_length_search.specs.Backward.{Scored, Costed}
 use Rattle.path_by_length.specs.WayLaws.{way-same}
@@ -192,20 +192,20 @@ module _ {l : Lengths} {left right over₀ : List ℕ} {cost₀ : List Float} (r
 
 module _ {l : Lengths} {left right over₀ : List ℕ} {cost₀ : List Float} (room : TableRoom l left right over₀ cost₀)
     {over : List ℕ} {cost : List Float} (f : Filled l left right over₀ cost₀ over cost (length left)) where
-  last-inside : lastOf left < length left
+  last-inside : lastCandidate left < length left
   last-inside = omega (arith, room .domain .candidates .some)
 
   -- its score at the last candidate is the best
-  pub filled-score : scoreAt over cost (lastOf left) ≡ bestScore l left right (cutsIn (length left) cost₀) (lastOf left)
-  filled-score = f .scores (lastOf left) last-inside
+  pub filled-score : scoreAt over cost (lastCandidate left) ≡ bestScore l left right (cutsIn (length left) cost₀) (lastCandidate left)
+  filled-score = f .scores (lastCandidate left) last-inside
 
-  parent-same : (k : ℕ) → k ≤ lastOf left → parentAt (parentsIn (length left) over) k ≡ parentOf l left right (cutsIn (length left) cost₀) k
+  parent-same : (k : ℕ) → k ≤ lastCandidate left → parentAt (parentsIn (length left) over) k ≡ parentOf l left right (cutsIn (length left) cost₀) k
   parent-same k h =
       let inside : k < length left = omega (arith, last-inside) in
       getD-take (length left) (drop (behindTable (length left)) over) k 0 inside ∙ getD-drop (behindTable (length left)) over k 0 ∙ f .parents k inside
 
   -- its parents lead back
-  pub filled-parents : Parents (parentsIn (length left) over) (lastOf left)
+  pub filled-parents : Parents (parentsIn (length left) over) (lastCandidate left)
   filled-parents = record {
     inside = rw (length-take-le (length left) (drop (behindTable (length left)) over) (simp length-drop (omega (arith, f .overs, room .overs)))) last-inside;
     few = omega (arith, room .domain .candidates .few);
@@ -213,6 +213,6 @@ module _ {l : Lengths} {left right over₀ : List ℕ} {cost₀ : List Float} (r
   }
 
   -- along the best path
-  pub filled-path : wayTo (parentAt (parentsIn (length left) over)) (lastOf left) ≡ bestPath l left right (cutsIn (length left) cost₀)
+  pub filled-path : wayTo (parentAt (parentsIn (length left) over)) (lastCandidate left) ≡ bestPath l left right (cutsIn (length left) cost₀)
   unfolding bestPath
-  filled-path = way-same (parentAt (parentsIn (length left) over)) (parentOf l left right (cutsIn (length left) cost₀)) (lastOf left) (filled-parents .falling) parent-same
+  filled-path = way-same (parentAt (parentsIn (length left) over)) (parentOf l left right (cutsIn (length left) cost₀)) (lastCandidate left) (filled-parents .falling) parent-same

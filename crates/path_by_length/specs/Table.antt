@@ -8,7 +8,7 @@ use Rattle.path_pieces.specs.Pieces.{noScore, withCutAt}
 use Rattle.path_pieces.specs.declared.lengths.Lengths.{Lengths}
 use Rattle.path_pieces.specs.declared.score.Score.{Score}
 use Rattle.path_pieces.specs.Least.{foundScore, foundIndex, predecessorOf}
-use Rattle.path_rules.specs.Paths.{lastOf}
+use Rattle.path_rules.specs.Paths.{lastCandidate}
 
 module _ (l : Lengths) (left right : List ℕ) (cut : List Float) where
   -- the best score at candidate j, from those of the candidates before it
@@ -55,4 +55,4 @@ Falling parent last = (j : ℕ) → 0 < j → j ≤ last → parent j < j
 
 -- document 01's path by length: the path of the table, from the first candidate to the last
 unfoldable pub bestPath : Lengths → List ℕ → List ℕ → List Float → List ℕ
-bestPath l left right cut = wayTo (parentOf l left right cut) (lastOf left)
+bestPath l left right cut = wayTo (parentOf l left right cut) (lastCandidate left)

@@ -15,7 +15,7 @@ use Rattle.path_pieces.specs.Pieces.{atMost}
 use Rattle.path_pieces.specs.Domain.{Searchable}
 use Rattle.path_pieces.specs.declared.lengths.Lengths.{Lengths}
 use Rattle.path_pieces.specs.declared.score.Score.{Score}
-use Rattle.path_rules.specs.Paths.{PathByLength, pathScore, BestByLength, lastOf}
+use Rattle.path_rules.specs.Paths.{PathByLength, pathScore, BestByLength, lastCandidate}
 use Rattle.path_rules.specs.PathsLaws.{path-weaken}
 use Rattle.path_rules.specs.Ties.{OwnBest, Chosen, TieRule}
 use Rattle.path_rules.specs.TiesLaws.{tie-unique, chosen-same}
@@ -35,23 +35,23 @@ own-best {l} {left} {right} {cut} ok = record {
 -- ---- the path of the table
 
 module _ {l : Lengths} {left right : List ℕ} {cut : List Float} (ok : Searchable l left right cut) where
-  last-inside : lastOf left < length left
+  last-inside : lastCandidate left < length left
   last-inside = omega (arith, ok .candidates .some)
 
   -- it is allowed
   pub best-path-allowed : PathByLength (l .limit) left right (bestPath l left right cut)
   unfolding bestPath
-  best-path-allowed = best-allowed ok (lastOf left) last-inside
+  best-path-allowed = best-allowed ok (lastCandidate left) last-inside
 
   -- and has the table's score
-  pub best-path-score : pathScore l left right cut (bestPath l left right cut) ≡ bestScore l left right cut (lastOf left)
+  pub best-path-score : pathScore l left right cut (bestPath l left right cut) ≡ bestScore l left right cut (lastCandidate left)
   unfolding bestPath
-  best-path-score = best-attained ok (lastOf left) last-inside
+  best-path-score = best-attained ok (lastCandidate left) last-inside
 
   -- which is at most the score of every allowed path
   pub best-path-least : (other : List ℕ) → PathByLength (l .limit) left right other
-      → T (atMost (bestScore l left right cut (lastOf left)) (pathScore l left right cut other))
-  best-path-least other p = best-below ok other (lastOf left) last-inside p
+      → T (atMost (bestScore l left right cut (lastCandidate left)) (pathScore l left right cut other))
+  best-path-least other p = best-below ok other (lastCandidate left) last-inside p
 
   -- so it is best
   pub best-path-is-best : BestByLength l left right cut (bestPath l left right cut)
@@ -61,9 +61,9 @@ module _ {l : Lengths} {left right : List ℕ} {cut : List Float} (ok : Searchab
   pub best-path-tie : {own : ℕ → Score} → OwnBest l left right cut own → TieRule l left right own (bestPath l left right cut)
   unfolding bestPath
   best-path-tie {own} best =
-      path-weaken (Chosen l left right (bestScore l left right cut)) (Chosen l left right own) (lastOf left) (λ i j c. c .high)
-      (λ i j h c. chosen-same ok (own-best ok) best i j (omega (arith, last-inside)) c) (wayTo (parentOf l left right cut) (lastOf left))
-      (best-chosen ok (lastOf left) last-inside)
+      path-weaken (Chosen l left right (bestScore l left right cut)) (Chosen l left right own) (lastCandidate left) (λ i j c. c .high)
+      (λ i j h c. chosen-same ok (own-best ok) best i j (omega (arith, last-inside)) c) (wayTo (parentOf l left right cut) (lastCandidate left))
+      (best-chosen ok (lastCandidate left) last-inside)
 
   -- and no other path does
   pub best-path-only : {own : ℕ → Score} → OwnBest l left right cut own → (other : List ℕ) → TieRule l left right own other → other ≡ bestPath l left right cut

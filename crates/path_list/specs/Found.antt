@@ -12,13 +12,13 @@ use Rattle.path_rules.specs.BestPath.{BestPathByLength, BestPathByCount}
 use Rattle.path_rules.specs.declared.solved.Solved.{Solved}
 
 -- the path stands at the front of the output, and nothing beyond it has changed
-pub record Written (before after : List ℕ) (s : Solved) : Type 0 where
+pub record PathWritten (before after : List ℕ) (s : Solved) : Type 0 where
   pub fits : s .len ≤ length before
   pub written : after ≡ onto (take (s .len) after) before
 
 -- document 01's path by length
 pub record FoundByLength (l : Lengths) (left right : List ℕ) (cost : List Float) (before after : List ℕ) (s : Solved) : Type 0 where
-  pub output : Written before after s
+  pub output : PathWritten before after s
   -- allowed, of least score, and the one path of the tie rule
   pub best : BestPathByLength l left right cost (take (s .len) after)
   -- its score, added left to right, is the one answered
@@ -26,6 +26,6 @@ pub record FoundByLength (l : Lengths) (left right : List ℕ) (cost : List Floa
 
 -- document 01's path by count
 pub record FoundByCount (count : ℕ) (l : Lengths) (left right : List ℕ) (cost : List Float) (before after : List ℕ) (s : Solved) : Type 0 where
-  pub output : Written before after s
+  pub output : PathWritten before after s
   pub best : BestPathByCount l left right cost count (take (s .len) after)
   pub score : pathScore l left right cost (take (s .len) after) ≡ s .score

@@ -11,7 +11,7 @@ use Rattle.path_pieces.specs.declared.lengths.Lengths.{Lengths}
 use Rattle.path_pieces.specs.declared.mode.Mode.{Mode}
 use Rattle.path_pieces.specs.declared.mode.Mode.the-variants.{ByLength, ByCount}
 use Rattle.path_pieces.specs.declared.score.Score.{Score}
-use Rattle.path_rules.specs.Paths.{lastOf, piecesOf}
+use Rattle.path_rules.specs.Paths.{lastCandidate, pieceCount}
 use Rattle.path_by_length.specs.Table.{bestScore, bestPath}
 use Rattle.path_by_count.specs.Table.{bestPathByCount, bestScoreByCount}
 use Rattle.path_tests.specs.Refusal.{firstRefusalOf}
@@ -48,7 +48,7 @@ handedOf way score path =
 
 -- by length, document 01's best path
 abbrev pub handedByLength : Lengths → List ℕ → List ℕ → List Float → List ℕ → Outcome
-handedByLength l left right cost path = handedOf (bestPath l left right cost) (bestScore l left right cost (lastOf left)) path
+handedByLength l left right cost path = handedOf (bestPath l left right cost) (bestScore l left right cost (lastCandidate left)) path
 
 -- by count, the best path of min(count, last index) pieces
 abbrev pub handedByCount : Lengths → List ℕ → List ℕ → List Float → ℕ → List ℕ → Outcome
@@ -58,7 +58,7 @@ handedByCount l left right cost count path = handedOf (bestPathByCount l left ri
 unfoldable pub soughtOf : Lengths → List ℕ → List ℕ → List Float → Mode → ℕ → List ℕ → Outcome
 soughtOf l left right cost ByLength parents path = handedByLength l left right cost path
 soughtOf l left right cost (ByCount count) parents path =
-    cond (leb (piecesOf left count * length left) parents) (handedByCount l left right cost count path) (outcomeOf ShortParent path)
+    cond (leb (pieceCount left count * length left) parents) (handedByCount l left right cost count path) (outcomeOf ShortParent path)
 
 -- ---- the operation
 

@@ -16,7 +16,7 @@ use Rattle.path_pieces.specs.declared.lengths.Lengths.{Lengths}
 use Rattle.path_pieces.specs.declared.mode.Mode.{Mode}
 use Rattle.path_pieces.specs.declared.mode.Mode.the-variants.{ByLength, ByCount}
 use Rattle.path_pieces.specs.declared.score.Score.{Score}
-use Rattle.path_rules.specs.Paths.{lastOf, piecesOf}
+use Rattle.path_rules.specs.Paths.{lastCandidate, pieceCount}
 use Rattle.path_by_length.specs.Solved.{TableRoom, cutsIn}
 use Rattle.path_rules.specs.declared.solved.Solved.{Solved}
 use Rattle.path_by_count_rows.specs.Rows.{behind}
@@ -73,7 +73,7 @@ module _ {l : Lengths} {left right : List ℕ} {cost : List Float} {mode : Mode}
         record { domain = rw count-cuts (x .domain); overs = omega (arith, x .enough32); costs = omega (arith, x .enoughf, e) }
 
   -- the size of the parent list that is asked can be worked out
-  pub size-fits : (pieces : ℕ) → pieces ≤ lastOf left → pieces * length left ≤ maxCandidates * maxCandidates
+  pub size-fits : (pieces : ℕ) → pieces ≤ lastCandidate left → pieces * length left ≤ maxCandidates * maxCandidates
   size-fits pieces h =
       let few : length left ≤ maxCandidates = x .domain .candidates .few in
       let a : pieces ≤ maxCandidates = omega arith in
@@ -105,13 +105,13 @@ module _ (l : Lengths) (left right : List ℕ) (cost : List Float) where
   sought-length parents path = refl
 
   -- 14
-  pub sought-short : (count parents : ℕ) (path : List ℕ) → parents < piecesOf left count * length left
+  pub sought-short : (count parents : ℕ) (path : List ℕ) → parents < pieceCount left count * length left
       → outcomeOf ShortParent path ≡ soughtOf l left right cost (ByCount count) parents path
   unfolding soughtOf
-  sought-short count parents path h = rw (lt-leb (piecesOf left count * length left) parents h)
+  sought-short count parents path h = rw (lt-leb (pieceCount left count * length left) parents h)
 
   -- and where the parent list is long enough, by count
-  pub sought-count : (count parents : ℕ) (path : List ℕ) → piecesOf left count * length left ≤ parents
+  pub sought-count : (count parents : ℕ) (path : List ℕ) → pieceCount left count * length left ≤ parents
       → handedByCount l left right cost count path ≡ soughtOf l left right cost (ByCount count) parents path
   unfolding soughtOf
-  sought-count count parents path h = rw (le-leb (piecesOf left count * length left) parents h)
+  sought-count count parents path h = rw (le-leb (pieceCount left count * length left) parents h)

@@ -18,7 +18,7 @@ use Rattle.path_pieces.specs.declared.lengths.Lengths.{Lengths}
 use Rattle.path_pieces.specs.declared.mode.Mode.{Mode}
 use Rattle.path_pieces.specs.declared.mode.Mode.the-variants.{ByLength, ByCount}
 use Rattle.path_pieces.specs.declared.score.Score.{Score}
-use Rattle.path_rules.specs.Paths.{piecesOf, lastOf, pathScore}
+use Rattle.path_rules.specs.Paths.{pieceCount, lastCandidate, pathScore}
 use Rattle.path_by_length.specs.Table.{bestScore, bestPath}
 use Rattle.path_by_count.specs.Table.{bestPathByCount, bestScoreByCount}
 use Rattle.path_by_length.specs.Theorems.{best-path-score, best-path-all}
@@ -33,14 +33,14 @@ use Rattle.path_tests.specs.declared.refusal.Refusal.the-variants.{BadLists, Ba
 use Rattle.path_list.specs.declared.search.Answer.{Answer}
 use Rattle.path_list.specs.declared.search.Answer.the-variants.{Found, Refused, ShortParent, ShortPath}
 use Rattle.path_list.specs.Operation.{numberOf, Outcome, outcomeOf, handedOf, handedByCount, soughtOf, endAfter, pathOf}
-use Rattle.path_list.specs.Found.{Written, FoundByLength, FoundByCount}
+use Rattle.path_list.specs.Found.{PathWritten, FoundByLength, FoundByCount}
 
 -- ---- a path that is handed out, with its score
 
 record Handed (way : List ℕ) (score : Score) (before after : List ℕ) (s : Solved) : Type 0 where
   is : s .score ≡ score
   front : take (s .len) after ≡ way
-  output : Written before after s
+  output : PathWritten before after s
 
 handed-is : (way : List ℕ) (score : Score) (path : List ℕ) (s : Solved) → handedOf way score path .answer ≡ Found s
     → Handed way score path (handedOf way score path .path) s
@@ -93,7 +93,7 @@ module _ (l : Lengths) (left right : List ℕ) (cost : List Float) (path : List 
   unfolding soughtOf
   found-by-length e =
       let x = searched ByLength e in
-      let h = handed-is (bestPath l left right cost) (bestScore l left right cost (lastOf left)) path s (x .answer) in
+      let h = handed-is (bestPath l left right cost) (bestScore l left right cost (lastCandidate left)) path s (x .answer) in
       let ok = x .accepted .domain in
       rw (x .output)
       (record {
@@ -108,7 +108,7 @@ module _ (l : Lengths) (left right : List ℕ) (cost : List Float) (path : List 
   unfolding soughtOf
   found-by-count count e =
       let x = searched (ByCount count) e in
-      let p = go (leb (piecesOf left count * length left) (length parent)) (x .answer) in
+      let p = go (leb (pieceCount left count * length left) (length parent)) (x .answer) in
       let h = handed-is (bestPathByCount l left right cost count) (bestScoreByCount l left right cost count) path s (p .0) in
       let ok = x .accepted .domain in
       let some = x .accepted .counted count refl .0 in

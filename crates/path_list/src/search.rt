@@ -13,7 +13,7 @@ use path_tests::refusal::Refusal;
 ghost use mathlib.Core.Path.{_≡_};
 ghost use Prim.Native.Nat.{_*_, _≤_, _<_};
 ghost use lib.ListN.{length};
-ghost use Rattle.path_rules.specs.Paths.{piecesOf};
+ghost use Rattle.path_rules.specs.Paths.{pieceCount};
 ghost use Rattle.path_by_length.specs.Solved.{TableRoom, cutsIn};
 ghost use Rattle.path_by_count.specs.Counted.{TreeRoom};
 ghost use Rattle.path_by_count_rows.specs.Rows.{behind};
@@ -67,7 +67,7 @@ fn by_count(
 ) -> Answer
     requires { ⌜ TreeRoom lengths (now left) (now right) (now over) (now cost) ⌝ }
     requires { ⌜ 0 < count ⌝ }
-    requires { ⌜ piecesOf (now left) count * length (now left) ≤ length (now parent) ⌝ }
+    requires { ⌜ pieceCount (now left) count * length (now left) ≤ length (now parent) ⌝ }
     ensures { λ a. ⌜
         outcomeOf a (now (path .exit))
         ≡ handedByCount lengths (now (left .entry)) (now (right .entry))

@@ -8,7 +8,7 @@ use lib.ListN.{length}
 use Rattle.path_pieces.specs.Pieces.{atMost}
 use Rattle.path_pieces.specs.declared.lengths.Lengths.{Lengths}
 use Rattle.path_pieces.specs.declared.score.Score.{Score}
-use Rattle.path_rules.specs.Paths.{piecesOf, PathByLength, PathByCount, pathScore}
+use Rattle.path_rules.specs.Paths.{pieceCount, PathByLength, PathByCount, pathScore}
 use Rattle.path_rules.specs.Ties.{OwnBest, TieRule, OwnBestByCount, TieRuleByCount}
 
 module _ (l : Lengths) (left right : List ℕ) (cost : List Float) where
@@ -31,4 +31,4 @@ module _ (l : Lengths) (left right : List ℕ) (cost : List Float) where
     pub scored : (own : ℕ → ℕ → Score) × OwnBestByCount l left right cost own
     pub tie : {own : ℕ → ℕ → Score} → OwnBestByCount l left right cost own → TieRuleByCount l left right own path
     pub only : {own : ℕ → ℕ → Score} → OwnBestByCount l left right cost own → (other : List ℕ) → TieRuleByCount l left right own other
-        → length other ≡ suc (piecesOf left count) → other ≡ path
+        → length other ≡ suc (pieceCount left count) → other ≡ path

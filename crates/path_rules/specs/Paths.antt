@@ -34,24 +34,24 @@ Path rule [] last = ⊥
 Path rule (i ∷ rest) last = (i ≡ 0) × Onward rule i rest last
 
 -- the last candidate
-abbrev pub lastOf : List ℕ → ℕ
-lastOf left = length left - 1
+abbrev pub lastCandidate : List ℕ → ℕ
+lastCandidate left = length left - 1
 
 -- document 01's "path" by length: from the first candidate to the last
 abbrev pub PathByLength : ℕ → List ℕ → List ℕ → List ℕ → Type 0
-PathByLength limit left right path = Path (Allowed limit left right) path (lastOf left)
+PathByLength limit left right path = Path (Allowed limit left right) path (lastCandidate left)
 
 -- a path by count of k pieces, one fewer than candidates, to candidate j
 abbrev pub PathWith : ℕ → List ℕ → List ℕ → ℕ → ℕ → List ℕ → Type 0
 PathWith limit left right k j path = Path (AllowedByCount limit left right) path j × (length path ≡ suc k)
 
 -- document 01's number of pieces by count: min(count, last index)
-abbrev pub piecesOf : List ℕ → ℕ → ℕ
-piecesOf left count = min count (lastOf left)
+abbrev pub pieceCount : List ℕ → ℕ → ℕ
+pieceCount left count = min count (lastCandidate left)
 
 -- document 01's "path" by count
 abbrev pub PathByCount : ℕ → ℕ → List ℕ → List ℕ → List ℕ → Type 0
-PathByCount count limit left right path = PathWith limit left right (piecesOf left count) (lastOf left) path
+PathByCount count limit left right path = PathWith limit left right (pieceCount left count) (lastCandidate left) path
 
 -- ---- how many pieces are over the limit
 

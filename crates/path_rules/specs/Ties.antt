@@ -9,7 +9,7 @@ use Rattle.path_pieces.specs.Pieces.{mayStart, arrival, atMost}
 use Rattle.path_pieces.specs.declared.lengths.Lengths.{Lengths}
 use Rattle.path_pieces.specs.declared.score.Score.{Score}
 use Rattle.path_pieces.specs.Least.{LowestLeast}
-use Rattle.path_rules.specs.Paths.{Allowed, Path, lastOf, PathWith, pathScore}
+use Rattle.path_rules.specs.Paths.{Allowed, Path, lastCandidate, PathWith, pathScore}
 
 -- ---- own best scores
 
@@ -40,7 +40,7 @@ module _ (l : Lengths) (left right : List ℕ) where
 
   -- "reading from the end, each piece starts" there
   abbrev pub TieRule : (ℕ → Score) → List ℕ → Type 0
-  TieRule own path = Path (Chosen own) path (lastOf left)
+  TieRule own path = Path (Chosen own) path (lastCandidate left)
 
 -- ---- by count: `own k` is the best score of each candidate with k pieces
 
@@ -63,4 +63,4 @@ module _ (l : Lengths) (left right : List ℕ) where
 
   -- "reading from the end, each piece starts" there
   abbrev pub TieRuleByCount : (ℕ → ℕ → Score) → List ℕ → Type 0
-  TieRuleByCount own path = TiePath own path (lastOf left)
+  TieRuleByCount own path = TiePath own path (lastCandidate left)

@@ -16,7 +16,7 @@ use Rattle.path_pieces.specs.DomainLaws.{piece-bounded, piece-nonneg, piece-kee
 use Rattle.path_pieces.specs.declared.lengths.Lengths.{Lengths}
 use Rattle.path_pieces.specs.declared.score.Score.{Score}
 use Rattle.path_pieces.specs.LeastLaws.{lowest-unique, lowest-same}
-use Rattle.path_rules.specs.Paths.{Allowed, Onward, Path, lastOf, step, scoreFrom, pathScore}
+use Rattle.path_rules.specs.Paths.{Allowed, Onward, Path, lastCandidate, step, scoreFrom, pathScore}
 use Rattle.path_rules.specs.PathsLaws.{path-more, onward-rises}
 use Rattle.path_rules.specs.Ties.{OwnBest, Chosen, TieRule}
 
@@ -96,7 +96,7 @@ module _ {l : Lengths} {left right : List ℕ} {cut : List Float} (ok : Searchab
     -- the tie rule leaves one path
     pub tie-unique : (path other : List ℕ) → TieRule l left right own path → TieRule l left right own other → path ≡ other
     tie-unique path other p q =
-        path-unique (Chosen l left right own) (λ i j c. c .high) (lastOf left)
+        path-unique (Chosen l left right own) (λ i j c. c .high) (lastCandidate left)
         (λ i k j h a b.
         let g : j < length left = omega (arith, ok .candidates .some) in
         lowest-unique i k (arrival-fine i j (a .high) g) (arrival-fine k j (b .high) g) a b) path other p q

@@ -19,13 +19,13 @@ use Rattle.path_tests.specs.Ends.{listsOk, endOk, endsFrom, endsOk}
 -- ---- the loop: the test of all candidates has come down to those from i on, which follow the right end `last`
 
 -- those before i passed
-abbrev pub Ending : List ℕ → List ℕ → ℕ → ℕ → ℕ → ℕ → Type 0
-Ending left right limit end last i =
+abbrev pub EndsPassed : List ℕ → List ℕ → ℕ → ℕ → ℕ → ℕ → Type 0
+EndsPassed left right limit end last i =
     (i ≤ length left) × (end ≡ length left) × (length right ≡ length left) × (endsFrom last (drop i left) (drop i right) ≡ endsOk left right limit)
 
 module _ (left right : List ℕ) (limit : ℕ) where
   -- a limit within the bound leaves the test of the candidates
-  pub ending-start : limit ≤ maxLen → length right ≡ length left → Ending left right limit (length left) 0 0
+  pub ending-start : limit ≤ maxLen → length right ≡ length left → EndsPassed left right limit (length left) 0 0
   unfolding endsOk
   ending-start h e = (omega arith, refl, e, rw (le-leb limit maxLen h))
 
@@ -41,17 +41,17 @@ module _ (left right : List ℕ) (limit : ℕ) where
 
   module _ (end last i : ℕ) (l : i < end) where
     -- the candidate at i passes
-    pub ending-next : endOk last (getD left i 0) (getD right i 0) ≡ true → Ending left right limit end last i → Ending left right limit end (getD right i 0) (i + 1)
+    pub ending-next : endOk last (getD left i 0) (getD right i 0) ≡ true → EndsPassed left right limit end last i → EndsPassed left right limit end (getD right i 0) (i + 1)
     ending-next t (a, b, c, d) =
         (omega arith, b, c, sym (ends-step last i (omega arith) (omega arith) ∙ ap (λ (q : Bool). q && endsFrom (getD right i 0) (drop (i + 1) left) (drop (i + 1) right)) t) ∙ d)
 
     -- the candidate at i fails
-    pub ending-fails : endOk last (getD left i 0) (getD right i 0) ≡ false → Ending left right limit end last i → false ≡ endsOk left right limit
+    pub ending-fails : endOk last (getD left i 0) (getD right i 0) ≡ false → EndsPassed left right limit end last i → false ≡ endsOk left right limit
     ending-fails t (a, b, c, d) =
         sym (ends-step last i (omega arith) (omega arith) ∙ ap (λ (q : Bool). q && endsFrom (getD right i 0) (drop (i + 1) left) (drop (i + 1) right)) t) ∙ d
 
   -- no candidate is left
-  pub ending-done : (end last i : ℕ) → end ≤ i → Ending left right limit end last i → true ≡ endsOk left right limit
+  pub ending-done : (end last i : ℕ) → end ≤ i → EndsPassed left right limit end last i → true ≡ endsOk left right limit
   unfolding endsFrom
   ending-done end last i l (a, b, c, d) = sym (ap (λ (xs : List ℕ). endsFrom last xs (drop i right)) (drop-of-length-le left {i = i} (omega arith))) ∙ d
 

@@ -12,7 +12,7 @@ use Rattle.candidates.specs.declared.candidate.Candidate.{Candidate}
 use Rattle.candidates.specs.declared.context.Context.{Context}
 use Rattle.candidates.specs.Candidates.{candidatesOf}
 use Rattle.completion.specs.Bridge.{bridgeOf}
-use Rattle.completion.specs.Cuts.{pointsIn}
+use Rattle.completion_reach.specs.Cuts.{pointsIn}
 use Rattle.plan_division.specs.Along.{endsAt}
 
 -- by count: the cuts of the division that goes as far as it can, and of equal shares

@@ -2,7 +2,7 @@
 use mathlib.Core.Path.{_≡_, refl, sym, ap, subst}
 use mathlib.Core.Bool.{Bool, true, false, cond}
 use mathlib.Core.List.{List, [], _∷_, _++_, List·Memᴰ, List·Memᴰ·head, List·Memᴰ·tail, List·Memᴰ·not-nil, Memᴰ·append-left, Memᴰ·append-right}
-use Prim.Native.Nat.{ℕ, _+_, _≤_, _<_}
+use Prim.Native.Nat.{ℕ, _≤_, _<_}
 use native.Mathlib.Omega.{arith}
 use lib.Dec.{eqb}
 use lib.Ieee.{Float}
@@ -22,7 +22,7 @@ use Rattle.candidates.specs.Members.{is-in, in-is, candidateAt}
 use Rattle.candidates.specs.Sources.{droppedOf, Planned, Source, own, point}
 use Rattle.candidates.specs.Found.{FoundAt, candidate-source, listed-found}
 use Rattle.candidates.specs.Added.{planned-added}
-use Rattle.completion.specs.Cuts.{pointsIn}
+use Rattle.completion_reach.specs.Cuts.{pointsIn}
 use Rattle.plan_division.specs.Along.{endsAt}
 use Rattle.plan_division.specs.Across.{HasLeft, HasCut}
 use Rattle.plan_division.specs.AcrossLaws.{planned-across, place-found}

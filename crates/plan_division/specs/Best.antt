@@ -10,12 +10,12 @@ use Rattle.candidates.specs.Entries.{costsOf}
 use Rattle.candidates.specs.Samples.{leftsOf, rightsOf}
 
 -- by length
-abbrev pub bestOver : FrameGrid → Lengths → List Candidate → List ℕ
-bestOver g l cs = bestPath l (leftsOf g cs) (rightsOf g cs) (costsOf cs)
+abbrev pub bestPathOver : FrameGrid → Lengths → List Candidate → List ℕ
+bestPathOver g l cs = bestPath l (leftsOf g cs) (rightsOf g cs) (costsOf cs)
 
 -- by count
-abbrev pub bestOverByCount : FrameGrid → Lengths → List Candidate → ℕ → List ℕ
-bestOverByCount g l cs asked = bestPathByCount l (leftsOf g cs) (rightsOf g cs) (costsOf cs) asked
+abbrev pub bestPathOverByCount : FrameGrid → Lengths → List Candidate → ℕ → List ℕ
+bestPathOverByCount g l cs asked = bestPathByCount l (leftsOf g cs) (rightsOf g cs) (costsOf cs) asked
 
 -- how many pieces of the best path by count are over the limit
 abbrev pub oversOf : FrameGrid → Lengths → List Candidate → ℕ → ℕ

@@ -21,7 +21,7 @@ use Rattle.candidates.specs.declared.context.Context.{Context}
 use Rattle.candidates.specs.Candidates.{candidatesOf}
 use Rattle.candidates.specs.Sources.{Planned}
 use Rattle.completion.specs.BridgedLaws.{bridged-divides}
-use Rattle.completion.specs.Cuts.{pointsIn}
+use Rattle.completion_reach.specs.Cuts.{pointsIn}
 use Rattle.plan_division.specs.Along.{allCuts}
 use Rattle.plan_division.specs.Across.{HasLeft, HasCut, Across}
 use Rattle.plan_division.specs.AcrossLaws.{all-divides, gaps-all, planned-across}

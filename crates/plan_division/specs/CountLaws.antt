@@ -9,7 +9,7 @@ use Rattle.grid.specs.BoundaryLaws.{Accepted}
 use Rattle.grid.specs.declared.boundary.FrameGrid.{FrameGrid}
 use Rattle.path_pieces.specs.DomainLaws.{over-le}
 use Rattle.path_pieces.specs.declared.lengths.Lengths.{Lengths}
-use Rattle.path_rules.specs.Paths.{Allowed, AllowedByCount, Path, PathByLength, PathByCount, lastOf, overCount, pathScore, BestByCount}
+use Rattle.path_rules.specs.Paths.{Allowed, AllowedByCount, Path, PathByLength, PathByCount, lastCandidate, overCount, pathScore, BestByCount}
 use Rattle.path_rules.specs.PathsLaws.{over-count}
 use Rattle.path_rules.specs.PathsLaws.{path-weaken}
 use Rattle.candidate_span.specs.Gaps.{Cut, Spread}
@@ -36,20 +36,20 @@ use Rattle.plan_division.specs.ThroughLaws.{PathOf, division-path, none-
 
 module _ (g : FrameGrid) (cs : List Candidate) where
   -- the last candidate's number
-  pub last-same : lastOf (leftsOf g cs) ≡ length cs - 1
+  pub last-same : lastCandidate (leftsOf g cs) ≡ length cs - 1
   last-same = ap (λ (n : ℕ). n - 1) (length-map cs (leftSample g))
 
   -- a path by count rises
   pub count-rises : (asked limit : ℕ) (path : List ℕ) → PathByCount asked limit (leftsOf g cs) (rightsOf g cs) path → Rising cs path
   count-rises asked limit path a =
       subst (λ (n : ℕ). Path (λ (i j : ℕ). i < j) path n) last-same
-      (path-weaken (AllowedByCount limit (leftsOf g cs) (rightsOf g cs)) (λ (i j : ℕ). i < j) (lastOf (leftsOf g cs)) (λ i j b. b .0) (λ i j h b. b .0) path (a .0))
+      (path-weaken (AllowedByCount limit (leftsOf g cs) (rightsOf g cs)) (λ (i j : ℕ). i < j) (lastCandidate (leftsOf g cs)) (λ i j b. b .0) (λ i j h b. b .0) path (a .0))
 
   -- so does a path by length
   pub length-rises : (limit : ℕ) (path : List ℕ) → PathByLength limit (leftsOf g cs) (rightsOf g cs) path → Rising cs path
   length-rises limit path a =
       subst (λ (n : ℕ). Path (λ (i j : ℕ). i < j) path n) last-same
-      (path-weaken (Allowed limit (leftsOf g cs) (rightsOf g cs)) (λ (i j : ℕ). i < j) (lastOf (leftsOf g cs)) (λ i j b. b .0) (λ i j h b. b .0) path a)
+      (path-weaken (Allowed limit (leftsOf g cs) (rightsOf g cs)) (λ (i j : ℕ). i < j) (lastCandidate (leftsOf g cs)) (λ i j b. b .0) (λ i j h b. b .0) path a)
 
   -- the pieces along a path with none over the limit are within it
   pub none-longer : (s : Span) → Across s cs → (limit : ℕ) (path : List ℕ) → Rising cs path → overCount limit (leftsOf g cs) (rightsOf g cs) path ≡ 0
@@ -73,7 +73,7 @@ module _ (g : FrameGrid) (ok : Accepted g) (s : Span) (spread : Spread (s .first
       has-all s cs (c .across) k (left-cut s cs (c .across) spread k (d .placed k m) (c .has-far k m))
 
   -- document 01's min(count, last index) is min(N, kept frames)
-  pub count-same : min asked (lastOf (leftsOf g cs)) ≡ piecesAsked s asked
+  pub count-same : min asked (lastCandidate (leftsOf g cs)) ≡ piecesAsked s asked
   count-same =
       let n : length (piecesOf s (allCuts cs)) ≡ length cs - 1 = omega (arith, count-along s cs (c .across) (wholePath cs) (whole-rises s cs (c .across)), whole-length s cs (c .across)) in
       subst (λ (m : ℕ). min asked m ≡ piecesAsked s asked) (n ∙ sym (last-same g cs)) (pieces-asked g ok s spread asked some (allCuts cs) (all-divides s cs (c .across)) shares-all)
@@ -88,7 +88,7 @@ module _ (g : FrameGrid) (ok : Accepted g) (s : Span) (spread : Spread (s .first
   path-kept r within t =
       record {
         path = t .path;
-        allowed = (none-over-allowed limit (leftsOf g cs) (rightsOf g cs) (t .path) (lastOf (leftsOf g cs)) rises none, long);
+        allowed = (none-over-allowed limit (leftsOf g cs) (rightsOf g cs) (t .path) (lastCandidate (leftsOf g cs)) rises none, long);
         none = none;
       }
     where
@@ -97,10 +97,10 @@ module _ (g : FrameGrid) (ok : Accepted g) (s : Span) (spread : Spread (s .first
           sym (overs-along s cs (c .across) g limit (t .path) (t .rising))
           ∙ subst (λ (ks : List Cut). overs g limit (piecesOf s ks) ≡ 0) (sym (t .along)) (overs-none g limit (piecesOf s (r .cuts)) within)
 
-      rises : Path (λ (i j : ℕ). i < j) (t .path) (lastOf (leftsOf g cs))
+      rises : Path (λ (i j : ℕ). i < j) (t .path) (lastCandidate (leftsOf g cs))
       rises = subst (λ (n : ℕ). Path (λ (i j : ℕ). i < j) (t .path) n) (sym (last-same g cs)) (t .rising)
 
-      long : length (t .path) ≡ suc (min asked (lastOf (leftsOf g cs)))
+      long : length (t .path) ≡ suc (min asked (lastCandidate (leftsOf g cs)))
       long =
           count-along s cs (c .across) (t .path) (t .rising)
           ∙ ap suc (subst (λ (ks : List Cut). length (piecesOf s ks) ≡ piecesAsked s asked) (sym (t .along)) (r .number) ∙ sym count-same)

@@ -1,8 +1,8 @@
 -- Demand 3 by count, of the division along the best path over a plan's candidates; N is `asked`.
 --   first-demand    the first path, where it has N pieces and none over the maximum: then no reach is sought
 --   second-demand   the best path over completed candidates, whose limit is the reach
---   first-found, second-found   the same of `bestPathByCount`; found-overs   how many of its pieces are over the limit
-use mathlib.Core.Path.{_≡_, sym, ap, _∙_}
+--   first-found, second-found   the same of `bestPathByCount`
+use mathlib.Core.Path.{_≡_, ap}
 use mathlib.Core.List.{List}
 use Prim.Native.Nat.{ℕ, suc, _<_}
 use native.Mathlib.Omega.{arith}
@@ -18,13 +18,12 @@ use Rattle.path_by_count.specs.Table.{bestPathByCount, bestScoreByCount}
 use Rattle.path_by_count.specs.Theorems.{count-allowed, count-score, count-is-best}
 use Rattle.candidate_span.specs.Gaps.{Spread}
 use Rattle.candidate_span.specs.Span.{Span}
-use Rattle.division.specs.Pieces.{piecesOf, overs}
 use Rattle.division.specs.Demand.{DemandByCount}
 use Rattle.division.specs.DemandLaws.{demand-reach, demand-maximum}
 use Rattle.candidates.specs.declared.candidate.Candidate.{Candidate}
 use Rattle.candidates.specs.Samples.{leftsOf, rightsOf}
 use Rattle.plan_division.specs.Along.{cutsAlong}
-use Rattle.plan_division.specs.AlongLaws.{count-along, overs-along}
+use Rattle.plan_division.specs.AlongLaws.{count-along}
 use Rattle.plan_division.specs.Across.{Across}
 use Rattle.plan_division.specs.AcrossLaws.{along-divides}
 use Rattle.plan_division.specs.Completed.{CompletedByCount}
@@ -53,15 +52,6 @@ module _ (g : FrameGrid) (s : Span) (spread : Spread (s .first) (s .gaps) (s .la
     pub second-found : (l : Lengths) (cost : List Float) → l .limit ≡ reach → Searchable l (leftsOf g cs) (rightsOf g cs) cost
         → DemandByCount g s asked maximum (cutsAlong cs (bestPathByCount l (leftsOf g cs) (rightsOf g cs) cost asked))
     second-found l cost e q = second-demand l cost (bestPathByCount l (leftsOf g cs) (rightsOf g cs) cost asked) e (count-is-best q asked some)
-
-  -- how many pieces along the path that is found are over the limit: its score tells
-  pub found-overs : (some : 0 < asked) → Across s cs → (l : Lengths) (cost : List Float) → Searchable l (leftsOf g cs) (rightsOf g cs) cost
-      → overs g (l .limit) (piecesOf s (cutsAlong cs (bestPathByCount l (leftsOf g cs) (rightsOf g cs) cost asked)))
-      ≡ bestScoreByCount l (leftsOf g cs) (rightsOf g cs) cost asked .over
-  found-overs some p l cost q =
-      let path = bestPathByCount l (leftsOf g cs) (rightsOf g cs) cost asked in
-      overs-along s cs p g (l .limit) path (count-rises g cs asked (l .limit) path (count-allowed q asked some))
-      ∙ sym (over-count l (leftsOf g cs) (rightsOf g cs) cost path) ∙ ap (λ t. t .over) (count-score q asked some)
 
   -- the first path that is found, by the number of its pieces and its score: the limit is the maximum
   pub first-found : (some : 0 < asked) → Across s cs → (l : Lengths) (cost : List Float) → Searchable l (leftsOf g cs) (rightsOf g cs) cost

@@ -22,8 +22,8 @@ use Rattle.candidates.specs.Candidates.{candidatesOf}
 use Rattle.candidates.specs.Entries.{entriesOf}
 use Rattle.candidates.specs.Same.{candidates-same}
 use Rattle.completion.specs.Complete.{leftHeld, rightHeld, bridgesOf}
-use Rattle.completion.specs.Cuts.{cutsOf, pointsIn}
-use Rattle.completion.specs.FitsLaws.{fits-greedy, feasible-fits}
+use Rattle.completion_reach.specs.Cuts.{cutsOf, pointsIn}
+use Rattle.completion_reach.specs.FitsLaws.{fits-greedy, feasible-fits}
 use Rattle.plan_division.specs.Along.{endsAt}
 use Rattle.plan_division.specs.Added.{bridgesAmong, addedByLength, completedWith}
 

@@ -23,7 +23,7 @@ use Rattle.candidates.specs.Entries.{costsOf}
 use Rattle.candidates.specs.Sources.{Planned}
 use Rattle.candidates.specs.Samples.{leftSample}
 use Rattle.candidates.specs.Asked.{candidates-asked, costs-asked}
-use Rattle.completion.specs.Cuts.{pointsIn}
+use Rattle.completion_reach.specs.Cuts.{pointsIn}
 use Rattle.plan_division.specs.Along.{cutsAlong}
 use Rattle.plan_division.specs.AcrossLaws.{planned-across}
 use Rattle.plan_division.specs.CountTheorems.{first-found, second-found}
@@ -31,7 +31,7 @@ use Rattle.plan_division.specs.LengthTheorems.{length-found}
 use Rattle.plan_division.specs.Added.{addedByCount, addedByLength, completedWith}
 use Rattle.plan_division.specs.AddedLaws.{planned-completed}
 use Rattle.plan_division.specs.CompletedLaws.{places-by-count, completed-by-count, places-by-length, completed-by-length}
-use Rattle.plan_division.specs.Best.{bestOver, bestOverByCount, oversOf}
+use Rattle.plan_division.specs.Best.{bestPathOver, bestPathOverByCount, oversOf}
 use Rattle.plan_division.specs.Ready.{Ready, SearchableOver}
 
 -- a plan's candidates are of the search's domain
@@ -61,8 +61,8 @@ module _ (x : Context) (ss runs : List ℕ) (levels : List Float) (ks : List ℕ
 
   module _ (asked : ℕ) (some : 0 < asked) where
     -- the first path, its limit the maximum, meets demand 3 where it has N pieces and none over it: no reach is sought then
-    pub first-plan : length (bestOverByCount g l cs asked) ≡ suc asked → oversOf g l cs asked ≡ 0
-        → DemandByCount g span asked (l .limit) (cutsAlong cs (bestOverByCount g l cs asked))
+    pub first-plan : length (bestPathOverByCount g l cs asked) ≡ suc asked → oversOf g l cs asked ≡ 0
+        → DemandByCount g span asked (l .limit) (cutsAlong cs (bestPathOverByCount g l cs asked))
     first-plan n none =
         first-found g span spread cs asked some (planned-across x ss runs levels ks first last p) l (costsOf cs) (plan-searchable x ss runs levels ks first last g l p q) n none
 
@@ -72,7 +72,7 @@ module _ (x : Context) (ss runs : List ℕ) (levels : List Float) (ks : List ℕ
       byCount = completedWith x ss runs levels ks (addedByCount span asked far) first last
 
       -- the second path, its limit the reach, meets demand 3
-      pub second-plan : DemandByCount g span asked maximum (cutsAlong byCount (bestOverByCount g l byCount asked))
+      pub second-plan : DemandByCount g span asked maximum (cutsAlong byCount (bestPathOverByCount g l byCount asked))
       second-plan =
           let ok = q .sampled .accepted in
           let added = addedByCount span asked far in
@@ -86,7 +86,7 @@ module _ (x : Context) (ss runs : List ℕ) (levels : List Float) (ks : List ℕ
   byLength = completedWith x ss runs levels ks (addedByLength g (l .limit) cs) first last
 
   -- the path by length, its limit the maximum, meets demand 3
-  pub length-plan : DemandByLength g span (l .limit) (cutsAlong byLength (bestOver g l byLength))
+  pub length-plan : DemandByLength g span (l .limit) (cutsAlong byLength (bestPathOver g l byLength))
   length-plan =
       let added = addedByLength g (l .limit) cs in
       length-found g (q .sampled .accepted) span spread (l .limit) cs byLength (completed-by-length x ss runs levels ks first last p g (l .limit)) l (costsOf byLength) refl

@@ -9,13 +9,13 @@ use Rattle.candidates.specs.declared.candidate.Candidate.{Candidate}
 use Rattle.candidates.specs.declared.context.Context.{Context}
 use Rattle.candidates.specs.Samples.{leftsOf, rightsOf}
 use Rattle.candidates.specs.Asked.{Sampled}
-use Rattle.candidates.specs.Costs.{Costed}
+use Rattle.candidates.specs.Costs.{Costable}
 use Rattle.candidates.specs.Entries.{costsOf}
 
 -- what a path over a plan's candidates is asked with, all of it
 pub record Ready (x : Context) (g : FrameGrid) (runs : List ℕ) (levels : List Float) (l : Lengths) : Type 0 where
   pub sampled : Sampled x g
-  pub costed : Costed x g runs levels
+  pub costed : Costable x g runs levels
   pub preferred : Preferred l
 
 -- candidates are of the search's domain

@@ -1,2 +1,2 @@
 // No code. A path over a plan's candidates is a division of the span, and the best one over completed candidates meets
-// demand 3: specs/, whose Lib.antt is the index.
+// demand 3: specs/, where the first line of each file says what it holds.

@@ -14,7 +14,7 @@ use Rattle.grid.specs.declared.boundary.FrameGrid.{FrameGrid}
 use Rattle.path_pieces.specs.Domain.{Preferred}
 use Rattle.path_pieces.specs.Limits.{maxIndex}
 use Rattle.path_pieces.specs.declared.lengths.Lengths.{Lengths}
-use Rattle.path_rules.specs.Paths.{AllowedByCount, Path, lastOf}
+use Rattle.path_rules.specs.Paths.{AllowedByCount, Path, lastCandidate}
 use Rattle.path_by_count.specs.Theorems.{count-allowed}
 use Rattle.path_rules.specs.declared.solved.Solved.{Solved}
 use Rattle.plan_settings.specs.declared.config.PlanConfig.{PlanConfig}
@@ -27,16 +27,16 @@ use Rattle.candidates.specs.declared.context.Context.{Context}
 use Rattle.candidates.specs.Samples.{leftsOf, rightsOf}
 use Rattle.candidate_walk.specs.Held.{silencesHeld, levelsHeld}
 use Rattle.candidate_finder.specs.FinderLaws.{Stands}
-use Rattle.completion.specs.declared.reach.Sought.{Sought}
-use Rattle.completion.specs.declared.reach.Sought.the-variants.{Reach, Nothing}
-use Rattle.completion.specs.Reach.{reachOf}
+use Rattle.completion_reach.specs.declared.reach.Sought.{Sought}
+use Rattle.completion_reach.specs.declared.reach.Sought.the-variants.{Reach, Nothing}
+use Rattle.completion_reach.specs.Reach.{reachOf}
 use Rattle.plan_lengths.specs.PlanLengths.{maximumIn, lengthsWith, lengthsByCount}
 use Rattle.plan_pieces.specs.Along.{reasonsIn, piecesAlongNumbers, cutsAlongNumbers}
 use Rattle.plan_pieces.specs.Output.{Output, Handed, handedOf, handedOutOf}
 use Rattle.plan_pieces.specs.declared.answer.Answer.the-variants.{ShortParent, NoReach}
-use Rattle.plan_path.specs.Positions.{entriesIn}
+use Rattle.plan_lists.specs.Positions.{entriesIn}
 use Rattle.plan_path.specs.Search.{leftsIn, rightsIn}
-use Rattle.plan_division.specs.Best.{bestOverByCount, oversOf}
+use Rattle.plan_division.specs.Best.{bestPathOverByCount, oversOf}
 use Rattle.plan_steps.specs.AlongLaws.{with-searchable, with-few, with-held, with-asked, along-room, along-handed}
 use Rattle.plan_steps.specs.HeldLaws.{room-collects, room-stays}
 use Rattle.plan_steps.specs.CountLaws.{count-placed}
@@ -102,12 +102,12 @@ module _ (x : Context) (g : FrameGrid) (settings : PlanConfig) (asked : ℕ) (sp
               (same₂ : length work₂ ≡ length work₁) (same64 : length positions₂ ≡ length positions)
             where
               abbrev path : List ℕ
-              path = bestOverByCount g l cs asked
+              path = bestPathOverByCount g l cs asked
 
               over : PathOver g cs path work₁ work₂ positions₂ workf₁ workf₂ answer
               over = found .over cs (stands .number) (with-held x g span front levels h added placed k work₁ positions workf₁ stands room₁)
 
-              allowed : Path (AllowedByCount (l .limit) (leftsOf g cs) (rightsOf g cs)) path (lastOf (leftsOf g cs))
+              allowed : Path (AllowedByCount (l .limit) (leftsOf g cs) (rightsOf g cs)) path (lastCandidate (leftsOf g cs))
               allowed = count-allowed (with-searchable x g span front levels h added placed l preferred) asked (q .some) .0
 
               -- the plan along it can be handed out
@@ -127,13 +127,13 @@ module _ (x : Context) (g : FrameGrid) (settings : PlanConfig) (asked : ℕ) (sp
                   along-handed x g span front levels h added placed k work₁ positions workf₁ stands room₁
                   (AllowedByCount (l .limit) (leftsOf g cs) (rightsOf g cs)) (λ i j a. a .0) l preferred path allowed work₂ positions₂ workf₂ answer over same₂ same64
                   settings (l .min) most out now (ap (λ (t : Lengths). t .min) prefers) is e
-                  ∙ ap (λ (t : Lengths). planAlong g settings cs (bestOverByCount g t cs asked) out) prefers
+                  ∙ ap (λ (t : Lengths). planAlong g settings cs (bestPathOverByCount g t cs asked) out) prefers
 
               -- whether it suffices
               pub under-suffices : (b : Bool) → b ≡ (eqb (answer .len) (suc asked) && eqb (answer .score .over) 0) → suffices g settings s asked limit cs ≡ b
               unfolding suffices
               under-suffices b e =
-                  sym (ap (λ (t : Lengths). eqb (length (bestOverByCount g t cs asked)) (suc asked) && eqb (oversOf g t cs asked) 0) prefers)
+                  sym (ap (λ (t : Lengths). eqb (length (bestPathOverByCount g t cs asked)) (suc asked) && eqb (oversOf g t cs asked) 0) prefers)
                   ∙ sym (rw (over .len, found .overs cs (stands .number) (with-held x g span front levels h added placed k work₁ positions workf₁ stands room₁)) at e)
 
               -- the fronts are as they were

@@ -7,7 +7,7 @@ use lib.ListN.{length}
 use Rattle.grid.specs.declared.boundary.FrameGrid.{FrameGrid}
 use Rattle.path_pieces.specs.Domain.{Preferred}
 use Rattle.path_pieces.specs.declared.lengths.Lengths.{Lengths}
-use Rattle.path_rules.specs.Paths.{Allowed, Path, lastOf}
+use Rattle.path_rules.specs.Paths.{Allowed, Path, lastCandidate}
 use Rattle.path_by_length.specs.Theorems.{best-path-allowed}
 use Rattle.path_rules.specs.declared.solved.Solved.{Solved}
 use Rattle.plan_settings.specs.declared.config.PlanConfig.{PlanConfig}
@@ -23,10 +23,10 @@ use Rattle.candidate_finder.specs.FinderLaws.{Stands}
 use Rattle.plan_lengths.specs.PlanLengths.{maximumIn, lengthsWith, lengthsByLength}
 use Rattle.plan_pieces.specs.Along.{reasonsIn, piecesAlongNumbers, cutsAlongNumbers}
 use Rattle.plan_pieces.specs.Output.{Output, Handed, handedOutOf}
-use Rattle.plan_path.specs.Positions.{entriesIn}
+use Rattle.plan_lists.specs.Positions.{entriesIn}
 use Rattle.plan_path.specs.Search.{leftsIn, rightsIn}
 use Rattle.plan_division.specs.Added.{addedByLength}
-use Rattle.plan_division.specs.Best.{bestOver}
+use Rattle.plan_division.specs.Best.{bestPathOver}
 use Rattle.plan_steps.specs.AlongLaws.{with-searchable, with-held, with-asked, along-room, along-handed}
 use Rattle.plan_steps.specs.CompleteLaws.{length-placed}
 use Rattle.plan_steps.specs.Hand.{pathIn, HandRoom}
@@ -70,19 +70,19 @@ module _ (x : Context) (g : FrameGrid) (settings : PlanConfig) (span : HeldSpan)
       -- once the path is found
       module _ (work₂ positions₂ : List ℕ) (workf₂ : List Float) (answer : Solved) (found : FoundByLength g k l work₁ positions workf₁ work₂ positions₂ workf₂ answer)
           (same₂ : length work₂ ≡ length work₁) (same64 : length positions₂ ≡ length positions) where
-        over : PathOver g cs (bestOver g l cs) work₁ work₂ positions₂ workf₁ workf₂ answer
+        over : PathOver g cs (bestPathOver g l cs) work₁ work₂ positions₂ workf₁ workf₂ answer
         over =
             found .over cs (stands .number)
             (with-held x g span (frontOf (x .padding .frames) work) (levelsHeld (x .padding .frames) workf) h added placed k work₁ positions workf₁ stands room₁)
 
-        allowed : Path (Allowed (l .limit) (leftsOf g cs) (rightsOf g cs)) (bestOver g l cs) (lastOf (leftsOf g cs))
+        allowed : Path (Allowed (l .limit) (leftsOf g cs) (rightsOf g cs)) (bestPathOver g l cs) (lastCandidate (leftsOf g cs))
         allowed = best-path-allowed (with-searchable x g span (frontOf (x .padding .frames) work) (levelsHeld (x .padding .frames) workf) h added placed l preferred)
 
         -- the plan along it can be handed out
         pub length-room : HandRoom (g .frames) k (answer .len) work₂ positions₂
         length-room =
             along-room x g span (frontOf (x .padding .frames) work) (levelsHeld (x .padding .frames) workf) h added placed k work₁ positions workf₁ stands room₁
-            (Allowed (l .limit) (leftsOf g cs) (rightsOf g cs)) (λ i j a. a .0) l preferred (bestOver g l cs) allowed work₂ positions₂ workf₂ answer over same₂ same64
+            (Allowed (l .limit) (leftsOf g cs) (rightsOf g cs)) (λ i j a. a .0) l preferred (bestPathOver g l cs) allowed work₂ positions₂ workf₂ answer over same₂ same64
 
         -- what is handed out is the plan by length
         pub length-handed : (out : Output) (now : Handed)
@@ -93,7 +93,7 @@ module _ (x : Context) (g : FrameGrid) (settings : PlanConfig) (span : HeldSpan)
         unfolding planByLength lengthsWith
         length-handed out now e =
             along-handed x g span (frontOf (x .padding .frames) work) (levelsHeld (x .padding .frames) workf) h added placed k work₁ positions workf₁ stands room₁
-            (Allowed (l .limit) (leftsOf g cs) (rightsOf g cs)) (λ i j a. a .0) l preferred (bestOver g l cs) allowed work₂ positions₂ workf₂ answer over same₂ same64
+            (Allowed (l .limit) (leftsOf g cs) (rightsOf g cs)) (λ i j a. a .0) l preferred (bestPathOver g l cs) allowed work₂ positions₂ workf₂ answer over same₂ same64
             settings (l .min) most out now (ap (λ (t : Lengths). t .min) prefers) is e
-            ∙ ap (λ (m : ℕ). planAlong g settings (with (addedByLength g m (with []))) (bestOver g l (with (addedByLength g m (with [])))) out) is
-            ∙ ap (λ (t : Lengths). planAlong g settings (completedByLength g settings with) (bestOver g t (completedByLength g settings with)) out) prefers
+            ∙ ap (λ (m : ℕ). planAlong g settings (with (addedByLength g m (with []))) (bestPathOver g l (with (addedByLength g m (with [])))) out) is
+            ∙ ap (λ (t : Lengths). planAlong g settings (completedByLength g settings with) (bestPathOver g t (completedByLength g settings with)) out) prefers

@@ -12,11 +12,11 @@ use Rattle.plan_settings.specs.declared.config.PlanConfig.{PlanConfig}
 use Rattle.candidate_span.specs.Gaps.{Cut}
 use Rattle.candidate_span.specs.Span.{Span}
 use Rattle.candidates.specs.declared.candidate.Candidate.{Candidate}
-use Rattle.completion.specs.declared.reach.Sought.{Sought}
-use Rattle.completion.specs.declared.reach.Sought.the-variants.{Reach, Nothing}
-use Rattle.completion.specs.Reach.{reachOf}
+use Rattle.completion_reach.specs.declared.reach.Sought.{Sought}
+use Rattle.completion_reach.specs.declared.reach.Sought.the-variants.{Reach, Nothing}
+use Rattle.completion_reach.specs.Reach.{reachOf}
 use Rattle.plan_division.specs.Added.{addedByLength}
-use Rattle.plan_division.specs.Best.{bestOver, bestOverByCount, oversOf}
+use Rattle.plan_division.specs.Best.{bestPathOver, bestPathOverByCount, oversOf}
 use Rattle.plan_lengths.specs.PlanLengths.{maximumIn, lengthsByLength, lengthsByCount}
 use Rattle.plan_pieces.specs.Output.{Output, Handed, handedOf, pick}
 use Rattle.plan_pieces.specs.declared.answer.Answer.the-variants.{ShortParent, NoReach}
@@ -31,7 +31,7 @@ module _ (g : FrameGrid) (settings : PlanConfig) (with : List Cut → List Candi
 
   -- the best path over them, under the maximum
   abbrev pub pathByLength : List ℕ
-  pathByLength = bestOver g (lengthsByLength g settings) completedByLength
+  pathByLength = bestPathOver g (lengthsByLength g settings) completedByLength
 
   -- the plan along it
   unfoldable pub planByLength : Output → Handed
@@ -46,7 +46,7 @@ hasParents asked candidates parents = leb (min asked (candidates - 1) * candidat
 module _ (g : FrameGrid) (settings : PlanConfig) (s : Span) where
   -- document 01's best path by count, of min(N, last index) pieces, under a limit
   abbrev pub pathByCount : ℕ → ℕ → List Candidate → List ℕ
-  pathByCount asked limit cs = bestOverByCount g (lengthsByCount g settings (s .first) (s .last) asked limit) cs asked
+  pathByCount asked limit cs = bestPathOverByCount g (lengthsByCount g settings (s .first) (s .last) asked limit) cs asked
 
   -- it has no fewer than N pieces, and none over the limit
   unfoldable pub suffices : ℕ → ℕ → List Candidate → Bool

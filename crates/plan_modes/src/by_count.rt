@@ -21,7 +21,7 @@ ghost use Rattle.path_pieces.specs.Limits.{maxIndex};
 ghost use Rattle.candidate_span.specs.Span.{spanIn};
 ghost use Rattle.candidate_walk.specs.Held.{silencesHeld, levelsHeld};
 ghost use Rattle.plan_pieces.specs.Output.{outputOf, handedOf};
-ghost use Rattle.completion.specs.Reach.{reachOf};
+ghost use Rattle.completion_reach.specs.Reach.{reachOf};
 ghost use Rattle.plan_lengths.specs.PlanLengths.{maximumIn};
 ghost use Rattle.plan_steps.specs.Held.{frontOf, heldWith, SpanHeld, SpanRoom};
 ghost use Rattle.plan_modes.specs.Lengths.{AskedByCount};

@@ -8,7 +8,7 @@ use Rattle.base_terms.specs.Layout.{side, endU32, endU64, endF64}
 use Rattle.grid.specs.declared.boundary.FrameGrid.{FrameGrid}
 use Rattle.candidates.specs.declared.candidate.Candidate.{Candidate}
 use Rattle.candidates.specs.Entries.{entriesOf, costsOf}
-use Rattle.plan_path.specs.Positions.{entriesIn}
+use Rattle.plan_lists.specs.Positions.{entriesIn}
 use Rattle.plan_path.specs.Search.{costsIn}
 
 -- work memory holds the candidates cs, and has room for their positions and for the search

@@ -12,8 +12,8 @@ use Rattle.path_pieces.specs.Domain.{Candidates, Costs, Preferred, Searchable}
 use Rattle.candidates.specs.declared.candidate.Candidate.{Candidate}
 use Rattle.candidates.specs.Entries.{costsOf}
 use Rattle.candidates.specs.Samples.{leftSample, leftsOf, rightsOf}
-use Rattle.plan_path.specs.Positions.{positionsIn, PositionsRoom}
-use Rattle.plan_path.specs.PositionsLaws.{positions-left, positions-right, positions-long}
+use Rattle.plan_lists.specs.Positions.{positionsIn, PositionsRoom}
+use Rattle.plan_lists.specs.PositionsLaws.{positions-left, positions-right, positions-long}
 use Rattle.plan_path.specs.Asked.{CandidatesHeld}
 use Rattle.plan_path.specs.Search.{leftsIn, rightsIn, SearchRoom}
 

@@ -12,7 +12,7 @@ use Rattle.path_pieces.specs.declared.lengths.Lengths.{Lengths}
 use Rattle.path_rules.specs.declared.solved.Solved.{Solved}
 use Rattle.path_by_count.specs.Table.{bestPathByCount, bestScoreByCount}
 use Rattle.path_by_count.specs.Counted.{SolutionByCount}
-use Rattle.plan_path.specs.Within.{partAt}
+use Rattle.plan_lists.specs.Within.{partAt}
 use Rattle.plan_path.specs.Held.{PathHeld}
 
 -- what the search by count says of a path in a list of its own, where that list is the rest of the work list

@@ -12,14 +12,14 @@ use Rattle.candidate_points.specs.Placed.{placed}
 use Rattle.candidate_points.specs.PlacedLaws.{placed-length, placed-take}
 use Rattle.path_pieces.specs.declared.lengths.Lengths.{Lengths}
 use Rattle.path_rules.specs.declared.solved.Solved.{Solved}
-use Rattle.path_rules.specs.Paths.{lastOf}
+use Rattle.path_rules.specs.Paths.{lastCandidate}
 use Rattle.path_by_length.specs.Table.{wayTo, bestPath, bestScore}
 use Rattle.path_by_length.specs.WayLaws.{way-few}
 use Rattle.path_by_length.specs.Solved.{cutsIn, parentsIn, parentAt, Parents, TableRoom, Settled}
 use Rattle.path_by_length.specs.SolvedLaws.{filled-parents, filled-path}
-use Rattle.plan_path.specs.Within.{partAt}
-use Rattle.plan_path.specs.WithinLaws.{part-back, placed-rest}
-use Rattle.plan_path.specs.Back.{WayRoom}
+use Rattle.plan_lists.specs.Within.{partAt}
+use Rattle.plan_lists.specs.WithinLaws.{part-back, placed-rest}
+use Rattle.plan_lists.specs.Back.{WayRoom}
 use Rattle.plan_path.specs.Held.{PathHeld}
 
 module _ {l : Lengths} {left right : List ℕ} (search at : ℕ) (work₀ : List ℕ) {cost₀ : List Float} {over : List ℕ} {cost : List Float} {answer : Solved}
@@ -42,15 +42,15 @@ module _ {l : Lengths} {left right : List ℕ} (search at : ℕ) (work₀ : List
   parents : partAt (search + behindTable (length left)) (length left) work₁ ≡ parentsIn (length left) over
   parents = part-back search (at - search) work₀ over (behindTable (length left)) (length left) (omega arith) (omega (arith, long, part-long, room .overs))
 
-  path : wayTo (parentAt (partAt (search + behindTable (length left)) (length left) work₁)) (lastOf left) ≡ bestPath l left right (cutsIn (length left) cost₀)
+  path : wayTo (parentAt (partAt (search + behindTable (length left)) (length left) work₁)) (lastCandidate left) ≡ bestPath l left right (cutsIn (length left) cost₀)
   path = rw parents (filled-path room (done .filled))
 
-  leads : Parents (partAt (search + behindTable (length left)) (length left) work₁) (lastOf left)
+  leads : Parents (partAt (search + behindTable (length left)) (length left) work₁) (lastCandidate left)
   leads = rw parents (filled-parents room (done .filled))
 
   few : length (bestPath l left right (cutsIn (length left) cost₀)) ≤ length left
   few =
-      let f = way-few (parentAt (partAt (search + behindTable (length left)) (length left) work₁)) (lastOf left) (leads .falling) in
+      let f = way-few (parentAt (partAt (search + behindTable (length left)) (length left) work₁)) (lastCandidate left) (leads .falling) in
       omega (arith, f, ap length path, room .domain .candidates .some)
 
   -- so the walk back can start
@@ -63,8 +63,8 @@ module _ {l : Lengths} {left right : List ℕ} (search at : ℕ) (work₀ : List
   }
 
   -- and what it writes is the best path, held behind the search's part
-  pub length-held : (work : List ℕ) → work ≡ placed at (wayTo (parentAt (partAt (search + behindTable (length left)) (length left) work₁)) (lastOf left)) work₁
-      → PathHeld search at (bestPath l left right (cutsIn (length left) cost₀)) (bestScore l left right (cutsIn (length left) cost₀) (lastOf left)) work₀ work answer
+  pub length-held : (work : List ℕ) → work ≡ placed at (wayTo (parentAt (partAt (search + behindTable (length left)) (length left) work₁)) (lastCandidate left)) work₁
+      → PathHeld search at (bestPath l left right (cutsIn (length left) cost₀)) (bestScore l left right (cutsIn (length left) cost₀) (lastCandidate left)) work₀ work answer
   length-held work e =
       let best = bestPath l left right (cutsIn (length left) cost₀) in
       let is : work ≡ placed at best work₁ = rw path at e in

@@ -7,7 +7,7 @@ use Rattle.base_terms.specs.Lists.{onto}
 use Rattle.base_code.specs.FrontLaws.{onto-take}
 use Rattle.path_pieces.specs.declared.score.Score.{Score}
 use Rattle.path_rules.specs.declared.solved.Solved.{Solved}
-use Rattle.plan_path.specs.Within.{partAt}
+use Rattle.plan_lists.specs.Within.{partAt}
 use Rattle.plan_path.specs.Held.{PathHeld}
 
 -- as many numbers as the answer says, from the path's place on, are the path

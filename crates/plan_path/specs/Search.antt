@@ -6,7 +6,7 @@ use lib.ListN.{length, take}
 use Rattle.base_terms.specs.Layout.{side, rightsAt, costsAt, endU32, endU64, endF64}
 use Rattle.path_pieces.specs.declared.lengths.Lengths.{Lengths}
 use Rattle.path_pieces.specs.Domain.{Searchable}
-use Rattle.plan_path.specs.Within.{partAt}
+use Rattle.plan_lists.specs.Within.{partAt}
 
 -- n candidates as the search takes them: their left positions
 abbrev pub leftsIn : ℕ → List ℕ → List ℕ

@@ -12,13 +12,13 @@ use Rattle.candidate_points.specs.Placed.{placed}
 use Rattle.candidate_points.specs.PlacedLaws.{placed-length, placed-part, placed-take}
 use Rattle.path_pieces.specs.declared.lengths.Lengths.{Lengths}
 use Rattle.path_rules.specs.declared.solved.Solved.{Solved}
-use Rattle.path_rules.specs.Paths.{lastOf}
+use Rattle.path_rules.specs.Paths.{lastCandidate}
 use Rattle.path_by_length.specs.Table.{bestPath, bestScore}
 use Rattle.path_by_count.specs.Table.{bestPathByCount, bestScoreByCount}
 use Rattle.path_by_length.specs.Solved.{cutsIn, TableRoom}
 use Rattle.path_by_count_rows.specs.Rows.{behind}
 use Rattle.path_by_count.specs.Counted.{TreeRoom}
-use Rattle.plan_path.specs.Within.{partAt}
+use Rattle.plan_lists.specs.Within.{partAt}
 use Rattle.plan_path.specs.Held.{PathHeld}
 use Rattle.plan_path.specs.Search.{leftsIn, rightsIn, costsIn, SearchRoom}
 
@@ -136,9 +136,9 @@ module _ {l : Lengths} (frames n : ℕ) (work positions : List ℕ) (costs : Lis
     -- the search's part is back, and the path is that of the candidates held
     pub length-sought : x ≡ copied (behindTable n) → (part : List Float) (work′ : List ℕ) (answer : Solved)
         → PathHeld (searchAt frames) (pathAt frames) (bestPath l (leftsIn n positions) rights (cutsIn (length (leftsIn n positions)) lent))
-        (bestScore l (leftsIn n positions) rights (cutsIn (length (leftsIn n positions)) lent) (lastOf (leftsIn n positions))) work work′ answer
+        (bestScore l (leftsIn n positions) rights (cutsIn (length (leftsIn n positions)) lent) (lastCandidate (leftsIn n positions))) work work′ answer
         → PathHeld (searchAt frames) (pathAt frames) (bestPath l (leftsIn n positions) (rightsIn frames n positions) (costsIn frames n costs))
-        (bestScore l (leftsIn n positions) (rightsIn frames n positions) (costsIn frames n costs) (lastOf (leftsIn n positions))) work work′ answer
+        (bestScore l (leftsIn n positions) (rightsIn frames n positions) (costsIn frames n costs) (lastCandidate (leftsIn n positions))) work work′ answer
         × (take (scoresAt frames) (putMid (scoresAt frames) (endF64 frames - scoresAt frames) x part) ≡ take (scoresAt frames) costs)
     length-sought e part work′ answer held =
         let cuts : cutsIn (length (leftsIn n positions)) lent ≡ costsIn frames n costs = rw e length-cuts in

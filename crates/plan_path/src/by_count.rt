@@ -7,11 +7,11 @@ use path_pieces::score::Score;
 use path_rules::solved::Solved;
 ghost use Prim.Native.Nat.{_+_, _-_, _*_, _≤_, _<_};
 ghost use lib.ListN.{length};
-ghost use Rattle.path_rules.specs.Paths.{piecesOf};
+ghost use Rattle.path_rules.specs.Paths.{pieceCount};
 ghost use Rattle.path_by_count.specs.Table.{bestPathByCount, bestScoreByCount};
 ghost use Rattle.path_by_count_rows.specs.Rows.{behind};
 ghost use Rattle.path_by_count.specs.Counted.{TreeRoom};
-ghost use Rattle.plan_path.specs.Within.{partAt};
+ghost use Rattle.plan_lists.specs.Within.{partAt};
 ghost use Rattle.plan_path.specs.Held.{PathHeld};
 
 // Searches in the part of `work` from `search` to `at`, and writes the path from `at` on. The costs of the cuts stand
@@ -29,7 +29,7 @@ pub fn path_by_count(
 ) -> Solved
     requires { ⌜ TreeRoom lengths (now left) (now right) (partAt search (at - search) (now work)) (now cost) ⌝ }
     requires { ⌜ (search ≤ at) × (at + length (now left) ≤ length (now work)) ⌝ }
-    requires { ⌜ (0 < count) × (piecesOf (now left) count * length (now left) ≤ length (now parent)) ⌝ }
+    requires { ⌜ (0 < count) × (pieceCount (now left) count * length (now left) ≤ length (now parent)) ⌝ }
     ensures { λ r. ⌜
         PathHeld search at
         (bestPathByCount lengths (now (left .entry)) (now (right .entry))

@@ -1,15 +1,15 @@
 // The best path by length, searched and held in one work list.
-use crate::back;
 use base_code::layout;
 use path_by_length::search::search_by_length;
 use path_pieces::lengths::Lengths;
 use path_rules::solved::Solved;
+use plan_lists::back;
 ghost use Prim.Native.Nat.{_+_, _-_, _≤_};
 ghost use lib.ListN.{length};
-ghost use Rattle.path_rules.specs.Paths.{lastOf};
+ghost use Rattle.path_rules.specs.Paths.{lastCandidate};
 ghost use Rattle.path_by_length.specs.Table.{bestPath, bestScore};
 ghost use Rattle.path_by_length.specs.Solved.{TableRoom, cutsIn};
-ghost use Rattle.plan_path.specs.Within.{partAt};
+ghost use Rattle.plan_lists.specs.Within.{partAt};
 ghost use Rattle.plan_path.specs.Held.{PathHeld};
 
 // Searches in the part of `work` from `search` to `at`, and writes the path from `at` on. The costs of the cuts stand
@@ -31,7 +31,7 @@ pub fn path_by_length(
         (cutsIn (length (now (left .entry))) (now (cost .entry))))
         (bestScore lengths (now (left .entry)) (now (right .entry))
         (cutsIn (length (now (left .entry))) (now (cost .entry)))
-        (lastOf (now (left .entry))))
+        (lastCandidate (now (left .entry))))
         (now (work .entry)) (now (work .exit)) r
         ⌝ }
 {

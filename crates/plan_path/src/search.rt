@@ -1,15 +1,15 @@
 // The search over n candidates that a plan's work memory holds, with the path held there too.
 use crate::by_count;
 use crate::by_length;
-use crate::copy;
 use base_code::layout;
 use path_pieces::lengths::Lengths;
 use path_rules::solved::Solved;
+use plan_lists::copy;
 ghost use mathlib.Core.Path.{_≡_};
 ghost use Prim.Native.Nat.{_*_, _≤_, _<_};
 ghost use lib.ListN.{length, take};
 ghost use Rattle.base_terms.specs.Layout.{searchAt, pathAt, scoresAt};
-ghost use Rattle.path_rules.specs.Paths.{lastOf, piecesOf};
+ghost use Rattle.path_rules.specs.Paths.{lastCandidate, pieceCount};
 ghost use Rattle.path_by_length.specs.Table.{bestPath, bestScore};
 ghost use Rattle.path_by_count.specs.Table.{bestPathByCount, bestScoreByCount};
 ghost use Rattle.plan_path.specs.Held.{PathHeld};
@@ -30,7 +30,7 @@ pub fn search_by_length(
         (bestPath lengths (leftsIn n (now («work_u64» .entry))) (rightsIn frames n (now («work_u64» .entry)))
         (costsIn frames n (now («work_f64» .entry))))
         (bestScore lengths (leftsIn n (now («work_u64» .entry))) (rightsIn frames n (now («work_u64» .entry)))
-        (costsIn frames n (now («work_f64» .entry))) (lastOf (leftsIn n (now («work_u64» .entry)))))
+        (costsIn frames n (now («work_f64» .entry))) (lastCandidate (leftsIn n (now («work_u64» .entry)))))
         (now («work_u32» .entry)) (now («work_u32» .exit)) r
         ⌝ }
     ensures { λ _. ⌜
@@ -67,7 +67,7 @@ pub fn search_by_count(
     parent: &mut [u32],
 ) -> Solved
     requires { ⌜ SearchRoom lengths frames n (now «work_u32») (now «work_u64») (now «work_f64») ⌝ }
-    requires { ⌜ (0 < count) × (piecesOf (leftsIn n (now «work_u64»)) count * n ≤ length (now parent)) ⌝ }
+    requires { ⌜ (0 < count) × (pieceCount (leftsIn n (now «work_u64»)) count * n ≤ length (now parent)) ⌝ }
     ensures { λ r. ⌜
         PathHeld (searchAt frames) (pathAt frames)
         (bestPathByCount lengths (leftsIn n (now («work_u64» .entry))) (rightsIn frames n (now («work_u64» .entry)))

@@ -7,7 +7,7 @@ use lib.Ieee.{Float}
 use lib.ListN.{getD, set}
 use Rattle.path_pieces.specs.Pieces.{pieceLength}
 use Rattle.plan_pieces.specs.Flags.{flagsOf}
-use Rattle.plan_pieces.specs.declared.pieces.Piece.{Piece}
+use Rattle.plan_pieces.specs.declared.pieces.PieceEnds.{PieceEnds}
 
 module _ (left right : List ℕ) where
   -- ---- pieces
@@ -17,7 +17,7 @@ module _ (left right : List ℕ) where
   pieceNumbers least most i j = getD right i 0 ∷ (getD left j 0 ∷ (flagsOf least most (pieceLength left right i j) ∷ []))
 
   -- where piece i of a path lies, as the code holds it
-  abbrev pub pieceAt : List ℕ → ℕ → Piece
+  abbrev pub pieceAt : List ℕ → ℕ → PieceEnds
   pieceAt path i = record { start = getD right (getD path i 0) 0; end = getD left (getD path (suc i) 0) 0 }
 
   -- from candidate i on

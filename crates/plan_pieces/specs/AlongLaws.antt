@@ -14,7 +14,7 @@ use Rattle.path_pieces.specs.Pieces.{pieceLength}
 use Rattle.plan_pieces.specs.Flags.{flagsOf}
 use Rattle.plan_pieces.specs.Along.{pieceAt, pieceNumbers, piecesFrom, piecesAlongNumbers, cutNumbers, reasonsIn, cutsFrom, cutsAlongNumbers, putThree}
 use Rattle.plan_pieces.specs.Drawn.{Drawn}
-use Rattle.plan_pieces.specs.declared.pieces.Piece.{Piece}
+use Rattle.plan_pieces.specs.declared.pieces.PieceEnds.{PieceEnds}
 
 -- ---- steps of a path
 
@@ -45,14 +45,14 @@ module _ (left right : List ℕ) where
 
 -- ---- a piece as the code holds it
 
-module _ (left right path : List ℕ) (d : Drawn left right path) (i : ℕ) (h : suc i < length path) (p : Piece) (lies : p ≡ pieceAt left right path i) where
+module _ (left right path : List ℕ) (d : Drawn left right path) (i : ℕ) (h : suc i < length path) (p : PieceEnds) (lies : p ≡ pieceAt left right path i) where
   -- it ends where it starts or after
   pub piece-rises : p .start ≤ p .end
-  piece-rises = subst (λ (q : Piece). q .start ≤ q .end) (sym lies) (d .rises i h)
+  piece-rises = subst (λ (q : PieceEnds). q .start ≤ q .end) (sym lies) (d .rises i h)
 
   -- its length is within the limit of lengths
   pub piece-small : p .end - p .start ≤ maxLen
-  piece-small = subst (λ (q : Piece). q .end - q .start ≤ maxLen) (sym lies) (omega (arith, d .bounded (suc i) h))
+  piece-small = subst (λ (q : PieceEnds). q .end - q .start ≤ maxLen) (sym lies) (omega (arith, d .bounded (suc i) h))
 
   -- with its flags it is what the path gives next
   pub piece-next : (least : Float) (most flags : ℕ) → flags ≡ flagsOf least most (p .end - p .start)
@@ -62,7 +62,7 @@ module _ (left right path : List ℕ) (d : Drawn left right path) (i : ℕ) (h :
       pieces-step left right least most path i h
       ∙ ap (λ (ns : List ℕ). ns ++ piecesAlongNumbers left right least most (drop (suc i) path))
       (sym (ap (λ (f : ℕ). p .start ∷ (p .end ∷ (f ∷ []))) e
-      ∙ ap (λ (q : Piece). q .start ∷ (q .end ∷ (flagsOf least most (q .end - q .start) ∷ []))) lies))
+      ∙ ap (λ (q : PieceEnds). q .start ∷ (q .end ∷ (flagsOf least most (q .end - q .start) ∷ []))) lies))
 
 -- ---- a cut as the code reads it
 

@@ -6,7 +6,7 @@ use lib.ListN.{length, getD}
 use Rattle.base_terms.specs.Limits.{maxLen}
 use Rattle.path_pieces.specs.Domain.{Candidates}
 use Rattle.path_pieces.specs.DomainLaws.{ends-rise, left-bounded}
-use Rattle.path_rules.specs.Paths.{Onward, Path, lastOf}
+use Rattle.path_rules.specs.Paths.{Onward, Path, lastCandidate}
 use Rattle.plan_pieces.specs.Drawn.{Drawn}
 
 module _ {left right : List ℕ} (ok : Candidates left right) where
@@ -40,11 +40,11 @@ module _ {left right : List ℕ} (ok : Candidates left right) where
       bounded (suc k) e = d .bounded k (omega arith)
 
   -- a path to the last candidate, by any rule under which pieces rise
-  pub path-drawn : (rule : ℕ → ℕ → Type 0) → ((i j : ℕ) → rule i j → i < j) → (path : List ℕ) → Path rule path (lastOf left) → Drawn left right path
+  pub path-drawn : (rule : ℕ → ℕ → Type 0) → ((i j : ℕ) → rule i j → i < j) → (path : List ℕ) → Path rule path (lastCandidate left) → Drawn left right path
   path-drawn rule rising [] p = absurd p
   path-drawn rule rising (i ∷ rest) (e, o) = go i rest o
     where
-      go : (i : ℕ) (rest : List ℕ) → Onward rule i rest (lastOf left) → Drawn left right (i ∷ rest)
+      go : (i : ℕ) (rest : List ℕ) → Onward rule i rest (lastCandidate left) → Drawn left right (i ∷ rest)
       go i [] e = one-drawn i (omega (arith, e, ok .some))
       go i (j ∷ rest) (p, o) = more-drawn i j rest (rising i j p) (go j rest o)
 

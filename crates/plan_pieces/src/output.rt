@@ -39,11 +39,11 @@ pub fn hand_out(
         (now (path .entry)))
         (outputOf (now (pieces .entry)) (now (cuts .entry))) ⌝ }
 {
-    let count = path.len() - 1;
-    if !has_room(count, pieces.len(), cuts.len()) {
+    let piece_count = path.len() - 1;
+    if !has_room(piece_count, pieces.len(), cuts.len()) {
         return Answer::ShortOutput;
     }
     pieces::write_pieces(left, right, path, min, max, pieces);
     pieces::write_cuts(left, right, entries, path, cuts);
-    Answer::Planned(count)
+    Answer::Planned(piece_count)
 }

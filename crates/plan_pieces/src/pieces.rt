@@ -8,20 +8,20 @@ ghost use Rattle.plan_pieces.specs.Along.{pieceAt, piecesAlongNumbers, r
 ghost use Rattle.plan_pieces.specs.Drawn.{Drawn};
 
 // Where a piece lies, in samples.
-pub struct Piece {
+pub struct PieceEnds {
     pub start: u64,
     pub end: u64,
 }
 
 // Piece i of a path: from the right end of one candidate to the left end of the next.
-fn piece_at(left: &[u64], right: &[u64], path: &[u32], i: usize) -> Piece
+fn piece_at(left: &[u64], right: &[u64], path: &[u32], i: usize) -> PieceEnds
     requires { ⌜ Drawn (now left) (now right) (now path) ⌝ }
     requires { ⌜ suc i < length (now path) ⌝ }
     ensures { λ r. ⌜ r ≡ pieceAt (now (left .entry)) (now (right .entry)) (now (path .entry)) i ⌝ }
 {
     let from = path[i] as usize;
     let to = path[i + 1] as usize;
-    Piece {
+    PieceEnds {
         start: right[from],
         end: left[to],
     }

@@ -16,9 +16,9 @@ unfoldable pub recordsOf : {A : Type 0} → (ℕ → ℕ → ℕ → A) → List
 recordsOf make numbers = tabulate (recordAt make numbers) (length numbers / 3)
 
 -- the numbers of records, where `back` gives those of one
-unfoldable pub numbersOf : {A : Type 0} → (A → List ℕ) → List A → List ℕ
-numbersOf back [] = []
-numbersOf back (r ∷ rest) = back r ++ numbersOf back rest
+unfoldable pub recordNumbers : {A : Type 0} → (A → List ℕ) → List A → List ℕ
+recordNumbers back [] = []
+recordNumbers back (r ∷ rest) = back r ++ recordNumbers back rest
 
 -- ---- the call
 

@@ -10,7 +10,7 @@ use borrow.Author.Tests.{le-leb, lt-leb}
 use Rattle.base_terms.specs.Lists.{onto, tabulate}
 use Rattle.base_code.specs.FrontLaws.{onto-length, onto-at, tabulate-length, tabulate-at, onto-tabulate-next}
 use Rattle.plan_pieces.specs.NumbersLaws.{Numbers}
-use Rattle.plan_records.specs.Records.{recordAt, recordsOf, numbersOf, RecordsEnd, recordsEnd, recordsEndOf}
+use Rattle.plan_records.specs.Records.{recordAt, recordsOf, recordNumbers, RecordsEnd, recordsEnd, recordsEndOf}
 
 module _ {A : Type 0} (make : ℕ → ℕ → ℕ → A) (numbers : List ℕ) where
   -- the record of three numbers that are known
@@ -58,10 +58,10 @@ module _ {A : Type 0} (make : ℕ → ℕ → ℕ → A) (numbers : List ℕ) wh
 -- ---- the way back
 
 module _ {A : Type 0} (back : A → List ℕ) where
-  numbers-append : (rs : List A) (r : A) → numbersOf back (rs ++ (r ∷ [])) ≡ numbersOf back rs ++ back r
-  unfolding numbersOf
+  numbers-append : (rs : List A) (r : A) → recordNumbers back (rs ++ (r ∷ [])) ≡ recordNumbers back rs ++ back r
+  unfolding recordNumbers
   numbers-append [] r = append-nil (back r)
-  numbers-append (s ∷ rs) r = ap (λ (ns : List ℕ). back s ++ ns) (numbers-append rs r) ∙ sym (append-assoc (back s) (numbersOf back rs) (back r))
+  numbers-append (s ∷ rs) r = ap (λ (ns : List ℕ). back s ++ ns) (numbers-append rs r) ∙ sym (append-assoc (back s) (recordNumbers back rs) (back r))
 
   module _ (make : ℕ → ℕ → ℕ → A) (numbers : List ℕ)
       (each : (i : ℕ) → i < length numbers / 3
@@ -77,8 +77,8 @@ module _ {A : Type 0} (back : A → List ℕ) where
           ∙ ap (λ (ns : List ℕ). (ns ++ (getD numbers (suc (3 * i)) 0 ∷ [])) ++ (getD numbers (suc (suc (3 * i))) 0 ∷ [])) (take-suc numbers (3 * i) 0 (omega (arith, h)))
           ∙ simp append-assoc)
 
-      numbers-upto : (n : ℕ) → n ≤ length numbers / 3 → numbersOf back (tabulate (recordAt make numbers) n) ≡ take (3 * n) numbers
-      unfolding numbersOf tabulate
+      numbers-upto : (n : ℕ) → n ≤ length numbers / 3 → recordNumbers back (tabulate (recordAt make numbers) n) ≡ take (3 * n) numbers
+      unfolding recordNumbers tabulate
       numbers-upto zero h = refl
       numbers-upto (suc n) h =
           numbers-append (tabulate (recordAt make numbers) n) (recordAt make numbers n)
@@ -86,6 +86,6 @@ module _ {A : Type 0} (back : A → List ℕ) where
           ∙ ap (λ (ns : List ℕ). take (3 * n) numbers ++ ns) (each n h) ∙ sym (take-three n h)
 
       -- where one record is turned back, all are
-      pub numbers-back : 3 * (length numbers / 3) ≡ length numbers → numbersOf back (recordsOf make numbers) ≡ numbers
+      pub numbers-back : 3 * (length numbers / 3) ≡ length numbers → recordNumbers back (recordsOf make numbers) ≡ numbers
       unfolding recordsOf
       numbers-back e = numbers-upto (length numbers / 3) (omega arith) ∙ take-all (3 * (length numbers / 3)) numbers (omega (arith, e))

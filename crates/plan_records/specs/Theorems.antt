@@ -15,7 +15,7 @@ use Rattle.plan_pieces.specs.FlagsLaws.{flags-most}
 use Rattle.plan_pieces.specs.NumbersLaws.{Numbers, piece-numbers, cut-numbers}
 use Rattle.plan_pieces.specs.PlanAlong.{reasonsOf, planPieces, planCuts}
 use Rattle.plan_pieces.specs.PlanAlongLaws.{reasons-few, plan-lengths}
-use Rattle.plan_records.specs.Records.{recordAt, recordsOf, numbersOf, RecordsEnd, recordsEndOf}
+use Rattle.plan_records.specs.Records.{recordAt, recordsOf, recordNumbers, RecordsEnd, recordsEndOf}
 use Rattle.plan_records.specs.RecordsLaws.{record-of, records-written, records-at, numbers-back}
 use Rattle.plan_records.specs.Pieces.{pieceOf, numbersOfPiece, pieceRecord}
 use Rattle.plan_records.specs.PiecesLaws.{piece-flagged, piece-back}
@@ -56,7 +56,7 @@ module _ (g : FrameGrid) (settings : PlanConfig) (cs : List Candidate) (path : L
       )
 
   -- the records have every number of the plan
-  pub pieces-kept : numbersOf numbersOfPiece (recordsOf pieceOf (planPieces g settings cs path)) ≡ planPieces g settings cs path
+  pub pieces-kept : recordNumbers numbersOfPiece (recordsOf pieceOf (planPieces g settings cs path)) ≡ planPieces g settings cs path
   unfolding planPieces
   pieces-kept =
       let l = plan-lengths g settings cs path .0 in
@@ -94,7 +94,7 @@ module _ (g : FrameGrid) (settings : PlanConfig) (cs : List Candidate) (path : L
       )
 
   -- the records have every number of the plan
-  pub cuts-kept : numbersOf numbersOfCut (recordsOf cutOf (planCuts g cs path)) ≡ planCuts g cs path
+  pub cuts-kept : recordNumbers numbersOfCut (recordsOf cutOf (planCuts g cs path)) ≡ planCuts g cs path
   unfolding planCuts
   cuts-kept =
       let l = plan-lengths g settings cs path .1 in

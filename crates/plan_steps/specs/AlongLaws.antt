@@ -9,7 +9,7 @@ use Rattle.base_terms.specs.Layout.{side, entriesAt, searchAt}
 use Rattle.grid.specs.declared.boundary.FrameGrid.{FrameGrid}
 use Rattle.path_pieces.specs.Domain.{Preferred}
 use Rattle.path_pieces.specs.declared.lengths.Lengths.{Lengths}
-use Rattle.path_rules.specs.Paths.{Path, lastOf}
+use Rattle.path_rules.specs.Paths.{Path, lastCandidate}
 use Rattle.path_rules.specs.declared.solved.Solved.{Solved}
 use Rattle.plan_settings.specs.declared.config.PlanConfig.{PlanConfig}
 use Rattle.candidate_span.specs.Gaps.{Cut}
@@ -24,7 +24,7 @@ use Rattle.candidates.specs.Samples.{leftSample, leftsOf, rightsOf}
 use Rattle.candidates.specs.Sources.{Planned}
 use Rattle.candidate_walk.specs.Held.{silencesHeld, runsHeld}
 use Rattle.candidate_finder.specs.FinderLaws.{Stands}
-use Rattle.completion.specs.Cuts.{pointsIn}
+use Rattle.completion_reach.specs.Cuts.{pointsIn}
 use Rattle.plan_lengths.specs.PlanLengths.{minimumIn, maximumIn}
 use Rattle.plan_pieces.specs.Along.{reasonsIn, piecesAlongNumbers, cutsAlongNumbers}
 use Rattle.plan_pieces.specs.DrawnLaws.{path-drawn, path-few}
@@ -32,7 +32,7 @@ use Rattle.plan_pieces.specs.Output.{Output, Handed, handedOutOf}
 use Rattle.plan_pieces.specs.PlanAlong.{reasonsOf, planPieces, planCuts}
 use Rattle.plan_pieces.specs.PlanAlongLaws.{reasons-entries}
 use Rattle.plan_path.specs.Asked.{CandidatesHeld}
-use Rattle.plan_path.specs.Positions.{entriesIn}
+use Rattle.plan_lists.specs.Positions.{entriesIn}
 use Rattle.plan_path.specs.Search.{leftsIn, rightsIn}
 use Rattle.plan_path.specs.SearchLaws.{part-of}
 use Rattle.plan_division.specs.AddedLaws.{planned-completed}
@@ -104,7 +104,7 @@ module _ (x : Context) (g : FrameGrid) (span : HeldSpan) (front : List ℕ) (lev
       -- ---- once a path over them stands there too
 
       module _ (rule : ℕ → ℕ → Type 0) (rising : (i j : ℕ) → rule i j → i < j) (l : Lengths) (p : Preferred l) (path : List ℕ)
-          (allowed : Path rule path (lastOf (leftsOf g cs))) (work′ positions′ : List ℕ) (costs′ : List Float) (answer : Solved)
+          (allowed : Path rule path (lastCandidate (leftsOf g cs))) (work′ positions′ : List ℕ) (costs′ : List Float) (answer : Solved)
           (over : PathOver g cs path work work′ positions′ costs costs′ answer) (same : length work′ ≡ length work) (same64 : length positions′ ≡ length positions)
         where
           lefts : leftsIn k positions′ ≡ leftsOf g cs
@@ -119,7 +119,7 @@ module _ (x : Context) (g : FrameGrid) (span : HeldSpan) (front : List ℕ) (lev
           -- its plan can be handed out
           pub along-room : HandRoom (g .frames) k (answer .len) work′ positions′
           along-room =
-              let f = path-few rule rising (lastOf (leftsOf g cs)) path allowed in
+              let f = path-few rule rising (lastCandidate (leftsOf g cs)) path allowed in
               record {
                 drawn = rw (lefts, rights, over .path-in) (path-drawn (with-searchable l p .candidates) rule rising path allowed);
                 some = rw (over .len) (f .0);

@@ -10,8 +10,8 @@ use Rattle.candidates.specs.declared.candidate.Candidate.{Candidate}
 use Rattle.candidates.specs.declared.context.Context.{Context}
 use Rattle.candidate_walk.specs.Held.{silencesHeld, levelsHeld}
 use Rattle.plan_division.specs.Added.{addedByLength}
-use Rattle.completion.specs.declared.reach.Sought.the-variants.{Reach, Nothing}
-use Rattle.completion.specs.Reach.{reachOf}
+use Rattle.completion_reach.specs.declared.reach.Sought.the-variants.{Reach, Nothing}
+use Rattle.completion_reach.specs.Reach.{reachOf}
 use Rattle.candidate_finder.specs.FinderLaws.{Stands}
 use Rattle.plan_steps.specs.declared.complete.Completed.{Completed}
 use Rattle.plan_steps.specs.declared.complete.Completed.the-variants.{Under, NoReach}

@@ -25,7 +25,7 @@ use Rattle.candidate_walk.specs.CollectLaws.{Collectable}
 use Rattle.candidate_finder.specs.FinderLaws.{Stands}
 use Rattle.completion.specs.Complete.{bridgesOf}
 use Rattle.completion.specs.CompleteLaws.{Completable}
-use Rattle.completion.specs.Cuts.{marking}
+use Rattle.completion_reach.specs.Cuts.{marking}
 use Rattle.plan_division.specs.Along.{endsAt}
 use Rattle.plan_division.specs.Across.{Across}
 use Rattle.plan_division.specs.AcrossLaws.{planned-across}

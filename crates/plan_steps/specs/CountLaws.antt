@@ -17,14 +17,14 @@ use Rattle.division.specs.Reach.{IsReach}
 use Rattle.division.specs.SpanLaws.{span-spread}
 use Rattle.candidates.specs.declared.context.Context.{Context}
 use Rattle.candidate_walk.specs.Held.{silencesHeld, runsHeld, levelsHeld}
-use Rattle.completion.specs.declared.ground.Ground.{Ground}
-use Rattle.completion.specs.declared.reach.Sought.{Sought}
-use Rattle.completion.specs.declared.reach.Sought.the-variants.{Reach}
-use Rattle.completion.specs.GroundLaws.{Founded}
-use Rattle.completion.specs.Cuts.{cutsOf, marking}
+use Rattle.completion_reach.specs.declared.ground.Ground.{Ground}
+use Rattle.completion_reach.specs.declared.reach.Sought.{Sought}
+use Rattle.completion_reach.specs.declared.reach.Sought.the-variants.{Reach}
+use Rattle.completion_reach.specs.GroundLaws.{Founded}
+use Rattle.completion_reach.specs.Cuts.{cutsOf, marking}
 use Rattle.completion.specs.CutsLaws.{MarkRoom}
-use Rattle.completion.specs.Reach.{reachOf}
-use Rattle.completion.specs.ReachLaws.{is-reach}
+use Rattle.completion_reach.specs.Reach.{reachOf}
+use Rattle.completion_reach.specs.ReachLaws.{is-reach}
 use Rattle.plan_division.specs.CompletedLaws.{places-by-count}
 use Rattle.plan_division.specs.HeldLaws.{far-greedy}
 use Rattle.plan_steps.specs.Steps.{cutsAdded}

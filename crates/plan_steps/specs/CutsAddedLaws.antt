@@ -9,9 +9,9 @@ use Rattle.grid.specs.Limits.{maxFrames}
 use Rattle.candidate_span.specs.Span.{Span, spanIn}
 use Rattle.division.specs.Division.{keptIn}
 use Rattle.division.specs.Shares.{sharesOf}
-use Rattle.completion.specs.declared.ground.Ground.{Ground}
-use Rattle.completion.specs.GroundLaws.{Founded, asked-pieces}
-use Rattle.completion.specs.Cuts.{cutsOf, marking}
+use Rattle.completion_reach.specs.declared.ground.Ground.{Ground}
+use Rattle.completion_reach.specs.GroundLaws.{Founded, asked-pieces}
+use Rattle.completion_reach.specs.Cuts.{cutsOf, marking}
 use Rattle.completion.specs.CutsLaws.{MarkRoom}
 use Rattle.completion.specs.MarkingLaws.{marking-length, marking-stays}
 use Rattle.completion.specs.Shares.{Sharable}

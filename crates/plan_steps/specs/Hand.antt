@@ -5,7 +5,7 @@ use lib.ListN.{length}
 use Rattle.base_terms.specs.Layout.{side, pathAt, endU32, endU64}
 use Rattle.grid.specs.Limits.{maxFrames}
 use Rattle.plan_pieces.specs.Drawn.{Drawn}
-use Rattle.plan_path.specs.Within.{partAt}
+use Rattle.plan_lists.specs.Within.{partAt}
 use Rattle.plan_path.specs.Search.{leftsIn, rightsIn}
 
 -- the path, of so many candidates

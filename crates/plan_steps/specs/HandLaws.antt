@@ -10,7 +10,7 @@ use Rattle.base_terms.specs.Layout.{rightsAt, entriesAt, pathAt}
 use Rattle.plan_pieces.specs.Along.{reasonsIn, piecesAlongNumbers, cutsAlongNumbers}
 use Rattle.plan_pieces.specs.Drawn.{Drawn}
 use Rattle.plan_pieces.specs.Output.{Output, Handed, handedOutOf}
-use Rattle.plan_path.specs.Positions.{entriesIn}
+use Rattle.plan_lists.specs.Positions.{entriesIn}
 use Rattle.plan_path.specs.Search.{leftsIn, rightsIn}
 use Rattle.plan_steps.specs.Hand.{pathIn, HandRoom}
 

@@ -14,7 +14,7 @@ use Rattle.candidates.specs.declared.candidate.Candidate.{Candidate}
 use Rattle.candidates.specs.declared.context.Context.{Context}
 use Rattle.candidates.specs.Sources.{Planned}
 use Rattle.candidates.specs.Asked.{Sampled}
-use Rattle.candidates.specs.Costs.{Costed}
+use Rattle.candidates.specs.Costs.{Costable}
 use Rattle.candidate_walk.specs.Held.{silencesHeld, runsHeld, marked}
 use Rattle.plan_division.specs.Added.{completedWith}
 
@@ -36,7 +36,7 @@ heldWith x span front levels added =
 pub record SpanHeld (x : Context) (g : FrameGrid) (span : HeldSpan) (front : List ℕ) (levels : List Float) : Type 0 where
   pub planned : Planned x (silencesHeld (span .silences) front) levels (pointsHeld (x .padding .frames) span front) (span .first) (span .last)
   pub sampled : Sampled x g
-  pub costed : Costed x g (runsHeld (x .padding .frames) front) levels
+  pub costed : Costable x g (runsHeld (x .padding .frames) front) levels
   pub apart : 2 * span .silences ≤ runsAt (x .padding .frames)
   pub long : length front ≡ entriesAt (x .padding .frames)
   pub longf : length levels ≡ side (x .padding .frames)

@@ -17,7 +17,7 @@ use Rattle.candidate_span.specs.Span.{Span, firstOf, lastOf, spanOf, spanIn}
 use Rattle.candidate_span.specs.SpanLaws.{span-frames}
 use Rattle.candidate_span.specs.ListedLaws.{Listed}
 use Rattle.candidate_span.specs.declared.held.HeldSpan.{HeldSpan}
-use Rattle.candidate_cuts.specs.CutsLaws.{Prepared}
+use Rattle.candidate_cuts.specs.CutsLaws.{CutReady}
 use Rattle.candidate_points.specs.Points.{isIn}
 use Rattle.division.specs.Division.{Place}
 use Rattle.division.specs.SpanLaws.{span-spread}
@@ -30,7 +30,7 @@ use Rattle.candidate_walk.specs.Held.{silencesHeld, runsHeld, levelsHeld, marke
 use Rattle.candidate_walk.specs.Collect.{collected}
 use Rattle.candidate_walk.specs.CollectLaws.{Collectable}
 use Rattle.candidate_walk.specs.CollectStep.{marked-in}
-use Rattle.completion.specs.Cuts.{markCut, marking, pointsIn}
+use Rattle.completion_reach.specs.Cuts.{markCut, marking, pointsIn}
 use Rattle.completion.specs.MarkingLaws.{marking-length, marking-stays, marking-is}
 use Rattle.plan_path.specs.SearchLaws.{part-of}
 use Rattle.plan_division.specs.AddedLaws.{planned-completed}
@@ -196,7 +196,7 @@ module _ (x : Context) (g : FrameGrid) (span : HeldSpan) (work : List ℕ) (work
             room = enough;
             roomf = enoughf;
           };
-          prepared = subst (Prepared (x .gap) (x .placement) (x .padding .frames) (levelsHeld (x .padding .frames) workf)) same-silences p;
+          prepared = subst (CutReady (x .gap) (x .placement) (x .padding .frames) (levelsHeld (x .padding .frames) workf)) same-silences p;
           starts = h .planned .starts ∙ ap (firstOf (x .gap) (x .padding)) same-silences;
           stops = h .planned .stops ∙ ap (lastOf (x .gap) (x .padding)) same-silences;
         }

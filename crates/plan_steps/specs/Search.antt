@@ -10,11 +10,11 @@ use Rattle.path_pieces.specs.declared.lengths.Lengths.{Lengths}
 use Rattle.path_rules.specs.declared.solved.Solved.{Solved}
 use Rattle.candidates.specs.declared.candidate.Candidate.{Candidate}
 use Rattle.candidates.specs.Samples.{leftsOf, rightsOf}
-use Rattle.plan_path.specs.Within.{partAt}
+use Rattle.plan_lists.specs.Within.{partAt}
 use Rattle.plan_path.specs.Asked.{CandidatesHeld}
 use Rattle.base_terms.specs.Layout.{searchAt, pathAt, scoresAt}
 use Rattle.plan_path.specs.Search.{leftsIn, rightsIn}
-use Rattle.plan_division.specs.Best.{bestOver, bestOverByCount, oversOf}
+use Rattle.plan_division.specs.Best.{bestPathOver, bestPathOverByCount, oversOf}
 use Rattle.plan_division.specs.Ready.{SearchableOver}
 
 -- k candidates stand in work memory, of the search's domain
@@ -38,11 +38,11 @@ module _ (g : FrameGrid) (k : ℕ) (l : Lengths) (work positions : List ℕ) (co
   -- by length: whatever candidates stand there, the best path over them is left
   pub record FoundByLength : Type 0 where
     pub over : (cs : List Candidate) → k ≡ length cs → CandidatesHeld g cs work positions costs
-        → PathOver g cs (bestOver g l cs) work work′ positions′ costs costs′ answer
+        → PathOver g cs (bestPathOver g l cs) work work′ positions′ costs costs′ answer
 
 module _ (g : FrameGrid) (k : ℕ) (l : Lengths) (asked : ℕ) (work positions : List ℕ) (costs : List Float) (work′ positions′ : List ℕ) (costs′ : List Float) (answer : Solved) where
   -- by count: the same, and the answer says how many of its pieces are over the limit
   pub record FoundByCount : Type 0 where
     pub over : (cs : List Candidate) → k ≡ length cs → CandidatesHeld g cs work positions costs
-        → PathOver g cs (bestOverByCount g l cs asked) work work′ positions′ costs costs′ answer
+        → PathOver g cs (bestPathOverByCount g l cs asked) work work′ positions′ costs costs′ answer
     pub overs : (cs : List Candidate) → k ≡ length cs → CandidatesHeld g cs work positions costs → answer .score .over ≡ oversOf g l cs asked

@@ -8,14 +8,14 @@ use Rattle.grid.specs.declared.boundary.FrameGrid.{FrameGrid}
 use Rattle.path_pieces.specs.Domain.{Costs}
 use Rattle.path_pieces.specs.declared.lengths.Lengths.{Lengths}
 use Rattle.path_pieces.specs.declared.score.Score.{Score}
-use Rattle.path_rules.specs.Paths.{lastOf, piecesOf}
+use Rattle.path_rules.specs.Paths.{lastCandidate, pieceCount}
 use Rattle.path_by_length.specs.Table.{bestPath, bestScore}
 use Rattle.path_by_count.specs.Table.{bestPathByCount, bestScoreByCount}
 use Rattle.path_rules.specs.declared.solved.Solved.{Solved}
 use Rattle.candidates.specs.declared.candidate.Candidate.{Candidate}
 use Rattle.candidates.specs.Entries.{costsOf}
 use Rattle.candidates.specs.Samples.{leftSample, leftsOf, rightsOf}
-use Rattle.plan_path.specs.Positions.{positionsIn, PositionsRoom}
+use Rattle.plan_lists.specs.Positions.{positionsIn, PositionsRoom}
 use Rattle.plan_path.specs.Asked.{CandidatesHeld}
 use Rattle.plan_path.specs.AskedLaws.{held-room, held-left, held-right, held-asked}
 use Rattle.plan_path.specs.Held.{PathHeld}
@@ -66,7 +66,7 @@ module _ (g : FrameGrid) (k : ℕ) (l : Lengths) (work positions : List ℕ) (co
       -- the best path by length over the candidates that stand there
       pub found-by-length : PathHeld (searchAt (g .frames)) (pathAt (g .frames))
           (bestPath l (leftsIn k positions′) (rightsIn (g .frames) k positions′) (costsIn (g .frames) k costs))
-          (bestScore l (leftsIn k positions′) (rightsIn (g .frames) k positions′) (costsIn (g .frames) k costs) (lastOf (leftsIn k positions′))) work work′ answer
+          (bestScore l (leftsIn k positions′) (rightsIn (g .frames) k positions′) (costsIn (g .frames) k costs) (lastCandidate (leftsIn k positions′))) work work′ answer
           → FoundByLength g k l work positions costs work′ positions′ costs′ answer
       found-by-length p = record {
         over = λ cs number held.
@@ -87,7 +87,7 @@ module _ (g : FrameGrid) (k : ℕ) (l : Lengths) (work positions : List ℕ) (co
 
     -- the parent list is long enough for the search
     pub asked-parents : AskedOver g k l work positions costs → (asked parents : ℕ) → min asked (k - 1) * k ≤ parents
-        → piecesOf (leftsIn k positions′) asked * k ≤ parents
+        → pieceCount (leftsIn k positions′) asked * k ≤ parents
     asked-parents a asked parents h =
         let e : length (leftsIn k positions′) ≡ k = ap length (lefts-are (a .cs) (a .number) (a .held)) ∙ length-map (a .cs) (leftSample g) ∙ sym (a .number) in
         rw e h

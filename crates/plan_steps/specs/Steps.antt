@@ -8,7 +8,7 @@ use Rattle.candidate_span.specs.Gaps.{Cut}
 use Rattle.candidate_span.specs.Span.{Span}
 use Rattle.division.specs.Division.{piecesAsked}
 use Rattle.candidates.specs.declared.candidate.Candidate.{Candidate}
-use Rattle.completion.specs.Cuts.{cutsOf}
+use Rattle.completion_reach.specs.Cuts.{cutsOf}
 use Rattle.plan_division.specs.Added.{addedByCount}
 use Rattle.plan_pieces.specs.PlanAlong.{planPieces, planCuts}
 use Rattle.plan_pieces.specs.Output.{Output, Handed, handedOutOf}

@@ -7,7 +7,7 @@ ghost use mathlib.Core.Path.{_≡_};
 ghost use Prim.Native.Nat.{_-_};
 ghost use Rattle.plan_pieces.specs.Along.{reasonsIn, piecesAlongNumbers, cutsAlongNumbers};
 ghost use Rattle.plan_pieces.specs.Output.{outputOf, handedOf, handedOutOf};
-ghost use Rattle.plan_path.specs.Positions.{entriesIn};
+ghost use Rattle.plan_lists.specs.Positions.{entriesIn};
 ghost use Rattle.plan_path.specs.Search.{leftsIn, rightsIn};
 ghost use Rattle.plan_steps.specs.Hand.{pathIn, HandRoom};
 

@@ -2,7 +2,7 @@
 use grid::FrameGrid;
 use path_pieces::lengths::Lengths;
 use path_rules::solved::Solved;
-use plan_path::positions;
+use plan_lists::positions;
 use plan_path::search;
 ghost use Prim.Native.Nat.{_*_, _-_, _≤_, _<_, min};
 ghost use lib.ListN.{length};

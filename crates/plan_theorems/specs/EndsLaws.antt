@@ -17,9 +17,9 @@ use Rattle.candidate_span.specs.Gaps.{Cut}
 use Rattle.candidates.specs.declared.candidate.Candidate.{Candidate}
 use Rattle.candidate_span.specs.Span.{Span}
 use Rattle.plan_tests.specs.declared.refusal.Refusal.{Refusal}
-use Rattle.completion.specs.Reach.{reachOf}
-use Rattle.completion.specs.declared.reach.Sought.{Sought}
-use Rattle.completion.specs.declared.reach.Sought.the-variants.{Reach, Nothing}
+use Rattle.completion_reach.specs.Reach.{reachOf}
+use Rattle.completion_reach.specs.declared.reach.Sought.{Sought}
+use Rattle.completion_reach.specs.declared.reach.Sought.the-variants.{Reach, Nothing}
 use Rattle.plan_lengths.specs.PlanLengths.{maximumIn}
 use Rattle.plan_pieces.specs.PlanAlong.{planPieces, planCuts}
 use Rattle.plan_pieces.specs.Output.{Output, outputOf, Handed, handedOf, pick, hasRoom, handedOutOf}
@@ -129,14 +129,14 @@ module _ (g : FrameGrid) (settings : PlanConfig) (s : Span) (with : List Cut →
   none-at-second h e i out = rw (h, e, i)
 
 -- one of them is reached, whatever the output
-pub record Reached (Kind : PlanEnd → Type 0) (g : FrameGrid) (settings : PlanConfig) (f : Output → Handed) : Type 0 where
+pub record EndReached (Kind : PlanEnd → Type 0) (g : FrameGrid) (settings : PlanConfig) (f : Output → Handed) : Type 0 where
   pub end : PlanEnd
   pub kind : Kind end
   pub is : (out : Output) → f out ≡ handedBy g settings end out
 
 module _ (g : FrameGrid) (settings : PlanConfig) (s : Span) (with : List Cut → List Candidate) (count parents : ℕ) where
   abbrev Ends : (Output → Handed) → Type 0
-  Ends f = Reached (CountEnd g settings s with count parents) g settings f
+  Ends f = EndReached (CountEnd g settings s with count parents) g settings f
 
   second-end : suffices g settings s count (maximumIn g settings) (with []) ≡ false → (t : Sought) → reachOf g s count (maximumIn g settings) ≡ t
       → Ends (λ (out : Output). plannedAfter g settings s with count parents out t)
@@ -172,7 +172,7 @@ pub data ModeEnd (g : FrameGrid) (settings : PlanConfig) (s : Span) (with : List
 
 -- and so by either way
 pub mode-end : (g : FrameGrid) (settings : PlanConfig) (s : Span) (with : List Cut → List Candidate) (parents : ℕ) (m : Mode)
-    → Reached (ModeEnd g settings s with parents m) g settings (λ (out : Output). planBy g settings s with m parents out)
+    → EndReached (ModeEnd g settings s with parents m) g settings (λ (out : Output). planBy g settings s with m parents out)
 unfolding planBy planByLength
 mode-end g settings s with parents ByLength = record { end = along (completedByLength g settings with) (pathByLength g settings with); kind = by-length; is = λ out. refl }
 mode-end g settings s with parents (ByCount count) =
@@ -182,21 +182,21 @@ mode-end g settings s with parents (ByCount count) =
 -- ---- what holds of every end
 
 -- where no plan is made the output is as it was, a plan alone has the number 0, and no test before 14 is named
-pub record Ending (out : Output) (h : Handed) : Type 0 where
+pub record AnswerEnds (out : Output) (h : Handed) : Type 0 where
   pub untouched : ((k : ℕ) → h .answer ≡ Planned k → ⊥) → h .out ≡ out
   pub numbered : Numbered (h .answer)
   pub unrefused : (x : Refusal) → h .answer ≡ Refused x → ⊥
 
-along-ending : (n : ℕ) (pieces cuts : List ℕ) (out : Output) → Ending out (handedOutOf n pieces cuts out)
+along-ending : (n : ℕ) (pieces cuts : List ℕ) (out : Output) → AnswerEnds out (handedOutOf n pieces cuts out)
 unfolding handedOutOf
 along-ending n pieces cuts out = go (hasRoom n (length (out .pieces)) (length (out .cuts)))
   where
-    go : (b : Bool) → Ending out (pick b (handedOf (Planned n) (outputOf (onto pieces (out .pieces)) (onto cuts (out .cuts)))) (handedOf ShortOutput out))
+    go : (b : Bool) → AnswerEnds out (pick b (handedOf (Planned n) (outputOf (onto pieces (out .pieces)) (onto cuts (out .cuts)))) (handedOf ShortOutput out))
     go true = record { untouched = λ never. absurd (never n refl); numbered = tt; unrefused = λ x e. let z : _≡_ {A = ℕ} 0 1 = cc in omega arith }
     go false = record { untouched = λ never. refl; numbered = tt; unrefused = λ x e. let z : _≡_ {A = ℕ} 0 1 = cc in omega arith }
 
 -- this holds of each end
-pub end-ending : (g : FrameGrid) (settings : PlanConfig) (e : PlanEnd) (out : Output) → Ending out (handedBy g settings e out)
+pub end-ending : (g : FrameGrid) (settings : PlanConfig) (e : PlanEnd) (out : Output) → AnswerEnds out (handedBy g settings e out)
 end-ending g settings (along cs path) out = along-ending (length path - 1) (planPieces g settings cs path) (planCuts g cs path) out
 end-ending g settings short-parent out = record { untouched = λ never. refl; numbered = tt; unrefused = λ x e. let z : _≡_ {A = ℕ} 0 1 = cc in omega arith }
 end-ending g settings without-reach out = record { untouched = λ never. refl; numbered = tt; unrefused = λ x e. let z : _≡_ {A = ℕ} 0 1 = cc in omega arith }

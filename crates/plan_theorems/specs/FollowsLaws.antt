@@ -30,7 +30,7 @@ use Rattle.plan_pieces.specs.PlanAlong.{reasonsOf, planPieces, planCuts}
 use Rattle.plan_pieces.specs.PlanAlongLaws.{reasons-few, plan-lengths}
 use Rattle.plan_pieces.specs.Output.{Output}
 use Rattle.plan_theorems.specs.EndsLaws.{HandedAlong}
-use Rattle.plan_theorems.specs.Made.{startAt, endAt, flagsAt, lengthAt, reasonAt, Written, Flagged, Shows, Follows}
+use Rattle.plan_theorems.specs.Made.{pieceStart, pieceEnd, flagsAt, lengthAt, reasonAt, PlanWritten, Flagged, Shows, Follows}
 
 -- ---- a path by its numbers
 
@@ -83,7 +83,7 @@ module _ (g : FrameGrid) (settings : PlanConfig) (cs : List Candidate) (path : L
       ∙ onto-take (planCuts g cs path) (before .cuts)
 
   -- nothing beyond it has changed
-  pub along-written : Written k before after
+  pub along-written : PlanWritten k before after
   along-written = record {
     fits = h .fits;
     pieces = ap (λ (o : Output). o .pieces) (h .is) ∙ ap (λ (p : List ℕ). onto p (before .pieces)) (sym pieces-front);
@@ -121,10 +121,10 @@ module _ (g : FrameGrid) (settings : PlanConfig) (s : Span) (cs : List Candidate
   named : (n : ℕ) → n ≤ k → getD path n 0 < length cs
   named n l = path-named cs path n (omega (arith, across .some)) rising (omega (arith, l, count))
 
-  start-is : (i : ℕ) → i < k → startAt after i ≡ getD (rightsOf g cs) (getD path i 0) 0
+  start-is : (i : ℕ) → i < k → pieceStart after i ≡ getD (rightsOf g cs) (getD path i 0) 0
   start-is i l = piece-at g settings cs path k before after h (3 * i) (omega arith) ∙ numbers i l .one
 
-  end-is : (i : ℕ) → i < k → endAt after i ≡ getD (leftsOf g cs) (getD path (suc i) 0) 0
+  end-is : (i : ℕ) → i < k → pieceEnd after i ≡ getD (leftsOf g cs) (getD path (suc i) 0) 0
   end-is i l = piece-at g settings cs path k before after h (3 * i + 1) (omega arith) ∙ numbers i l .two
 
   -- the piece of the division

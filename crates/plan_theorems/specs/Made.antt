@@ -50,12 +50,12 @@ use Rattle.planner.specs.Operation.{End, endOf, candidatesWith, planOf}
 -- ---- the output by its numbers
 
 -- piece i: its start
-abbrev pub startAt : Output → ℕ → ℕ
-startAt out i = getD (out .pieces) (3 * i) 0
+abbrev pub pieceStart : Output → ℕ → ℕ
+pieceStart out i = getD (out .pieces) (3 * i) 0
 
 -- its end
-abbrev pub endAt : Output → ℕ → ℕ
-endAt out i = getD (out .pieces) (3 * i + 1) 0
+abbrev pub pieceEnd : Output → ℕ → ℕ
+pieceEnd out i = getD (out .pieces) (3 * i + 1) 0
 
 -- its flags: 0 none, 1 short, 2 long
 abbrev pub flagsAt : Output → ℕ → ℕ
@@ -63,7 +63,7 @@ flagsAt out i = getD (out .pieces) (3 * i + 2) 0
 
 -- document 01: "A piece's length is its end less its start"
 abbrev pub lengthAt : Output → ℕ → ℕ
-lengthAt out i = endAt out i - startAt out i
+lengthAt out i = pieceEnd out i - pieceStart out i
 
 -- cut i, between piece i and the next: where piece i ends
 abbrev pub previousEnd : Output → ℕ → ℕ
@@ -87,7 +87,7 @@ abbrev pub HasRoom : ℕ → Output → Type 0
 HasRoom k out = (3 * k ≤ length (out .pieces)) × (3 * (k - 1) ≤ length (out .cuts))
 
 -- k pieces, and the cuts between them, stand at the front of the output, and nothing beyond them has changed
-pub record Written (k : ℕ) (before after : Output) : Type 0 where
+pub record PlanWritten (k : ℕ) (before after : Output) : Type 0 where
   pub fits : HasRoom k before
   pub pieces : after .pieces ≡ onto (take (3 * k) (after .pieces)) (before .pieces)
   pub cuts : after .cuts ≡ onto (take (3 * (k - 1)) (after .cuts)) (before .cuts)
@@ -97,13 +97,13 @@ pub record Written (k : ℕ) (before after : Output) : Type 0 where
 -- k pieces from sample `from` to sample `to`, and the cuts between them
 pub record Fills (from to k : ℕ) (out : Output) : Type 0 where
   pub some : 0 < k
-  pub starts : startAt out 0 ≡ from
-  pub stops : endAt out (k - 1) ≡ to
+  pub starts : pieceStart out 0 ≡ from
+  pub stops : pieceEnd out (k - 1) ≡ to
   -- in order: each start is below its end, each end at or before the next start
-  pub rises : (i : ℕ) → i < k → startAt out i < endAt out i
-  pub order : (i : ℕ) → suc i < k → endAt out i ≤ startAt out (suc i)
+  pub rises : (i : ℕ) → i < k → pieceStart out i < pieceEnd out i
+  pub order : (i : ℕ) → suc i < k → pieceEnd out i ≤ pieceStart out (suc i)
   -- a cut goes from the end of one piece to the start of the next
-  pub cuts : (i : ℕ) → suc i < k → (previousEnd out i ≡ endAt out i) × (nextStart out i ≡ startAt out (suc i))
+  pub cuts : (i : ℕ) → suc i < k → (previousEnd out i ≡ pieceEnd out i) × (nextStart out i ≡ pieceStart out (suc i))
   -- document 01: "Pieces plus what lies between them add up to the span."
   pub adds : sumOf (lengthAt out) k + sumOf (λ (i : ℕ). nextStart out i - previousEnd out i) (k - 1) ≡ to - from
 
@@ -117,8 +117,8 @@ pub record Flagged (minimum : Float) (maximum k : ℕ) (out : Output) : Type 0 w
 -- the pieces and cuts are those of a division of the span, in samples
 pub record Shows (g : FrameGrid) (s : Span) (cuts : List Cut) (k : ℕ) (out : Output) : Type 0 where
   pub number : length (piecesOf s cuts) ≡ k
-  pub piece-start : (i : ℕ) → i < k → startAt out i ≡ boundaryOf g (getD (piecesOf s cuts) i (pieceFrom 0 0) .start)
-  pub piece-end : (i : ℕ) → i < k → endAt out i ≡ boundaryOf g (getD (piecesOf s cuts) i (pieceFrom 0 0) .end)
+  pub piece-start : (i : ℕ) → i < k → pieceStart out i ≡ boundaryOf g (getD (piecesOf s cuts) i (pieceFrom 0 0) .start)
+  pub piece-end : (i : ℕ) → i < k → pieceEnd out i ≡ boundaryOf g (getD (piecesOf s cuts) i (pieceFrom 0 0) .end)
   pub cut-start : (i : ℕ) → suc i < k → previousEnd out i ≡ boundaryOf g (getD cuts i (cutAt 0) .left)
   pub cut-end : (i : ℕ) → suc i < k → nextStart out i ≡ boundaryOf g (getD cuts i (cutAt 0) .right)
 
@@ -235,7 +235,7 @@ module _ (r : Recording) (segment : SegmentConfig) (settings : PlanConfig) (valu
 
   -- a plan of k pieces was made: `before` is what the output held, `after` what it holds
   pub record Made (k : ℕ) (before after : Output) : Type 0 where
-    pub written : Written k before after
+    pub written : PlanWritten k before after
     -- document 01: "the span is empty, and so is the plan"
     pub empty : emptyIn r segment settings values flags ≡ true → (k ≡ 0) × (after ≡ before)
     pub full : emptyIn r segment settings values flags ≡ false → Fitting values levels → MadeOfSpan k after

@@ -48,14 +48,14 @@ use Rattle.candidates.specs.declared.candidate.Candidate.{Candidate}
 use Rattle.candidates.specs.declared.context.Context.{Context}
 use Rattle.plan_tests.specs.Fitting.{Fitting}
 use Rattle.plan_tests.specs.PlanReady.{PlanReady}
-use Rattle.candidate_finder.specs.CandidatesIn.{runsIn, levelsIn, contextOf, gridPointsIn, candidatesIn}
+use Rattle.candidate_finder.specs.CandidatesIn.{runsIn, boundaryLevelsIn, contextOf, gridPointsIn, candidatesIn}
 use Rattle.candidate_finder.specs.SpanIn.{emptyIn, firstIn, lastIn, paddingIn}
 use Rattle.candidate_finder.specs.Theorems as finder
-use Rattle.completion.specs.Cuts.{cutsOf, pointsIn}
-use Rattle.completion.specs.Reach.{reachOf}
-use Rattle.completion.specs.ReachLaws.{is-reach, reach-of, no-reach}
-use Rattle.completion.specs.declared.reach.Sought.{Sought}
-use Rattle.completion.specs.declared.reach.Sought.the-variants.{Reach, Nothing}
+use Rattle.completion_reach.specs.Cuts.{cutsOf, pointsIn}
+use Rattle.completion_reach.specs.Reach.{reachOf}
+use Rattle.completion_reach.specs.ReachLaws.{is-reach, reach-of, no-reach}
+use Rattle.completion_reach.specs.declared.reach.Sought.{Sought}
+use Rattle.completion_reach.specs.declared.reach.Sought.the-variants.{Reach, Nothing}
 use Rattle.plan_division.specs.Along.{cutsAlong, Rising}
 use Rattle.plan_division.specs.Across.{Across}
 use Rattle.plan_division.specs.AcrossLaws.{planned-across}
@@ -66,7 +66,7 @@ use Rattle.plan_division.specs.CompletedLaws.{places-by-count, places-by-length
 use Rattle.plan_division.specs.CountLaws.{count-rises, length-rises}
 use Rattle.plan_division.specs.LengthLaws.{neighbours-short}
 use Rattle.plan_division.specs.HeldLaws.{far-greedy}
-use Rattle.plan_division.specs.Best.{bestOver, bestOverByCount, oversOf}
+use Rattle.plan_division.specs.Best.{bestPathOver, bestPathOverByCount, oversOf}
 use Rattle.plan_division.specs.Ready.{Ready, SearchableOver}
 use Rattle.plan_division.specs.PlanTheorems.{plan-searchable, first-plan, second-plan, length-plan}
 use Rattle.plan_lengths.specs.PlanLengths.{minimumIn, maximumIn, lengthsWith, lengthsByLength, lengthsByCount}
@@ -103,7 +103,7 @@ module _ (r : Recording) (segment : SegmentConfig) (settings : PlanConfig) (valu
     runs = runsIn r segment values flags
 
     abbrev boundary-levels : List Float
-    boundary-levels = levelsIn r segment values flags levels
+    boundary-levels = boundaryLevelsIn r segment values flags levels
 
     abbrev ks : List ℕ
     ks = gridPointsIn r segment settings values flags levels
@@ -235,14 +235,14 @@ module _ (r : Recording) (segment : SegmentConfig) (settings : PlanConfig) (valu
           subst (λ (cs : List Candidate). CompletedByLength g s maximum cs (with (addedByLength g maximum cs))) (sym are)
           (completed-by-length x ss runs boundary-levels ks first last planned g maximum)
 
-      length-met : DemandByLength g s maximum (cutsAlong (with bridges) (bestOver g byLength (with bridges)))
+      length-met : DemandByLength g s maximum (cutsAlong (with bridges) (bestPathOver g byLength (with bridges)))
       unfolding lengthsWith
       length-met =
-          subst (λ (cs : List Candidate). DemandByLength g s maximum (cutsAlong (with (addedByLength g maximum cs)) (bestOver g byLength (with (addedByLength g maximum cs))))) (sym are)
+          subst (λ (cs : List Candidate). DemandByLength g s maximum (cutsAlong (with (addedByLength g maximum cs)) (bestPathOver g byLength (with (addedByLength g maximum cs))))) (sym are)
           (length-plan x ss runs boundary-levels ks first last planned g byLength (ready byLength (by-length-preferred p)))
 
-      length-rising : Rising (with bridges) (bestOver g byLength (with bridges))
-      length-rising = length-rises g (with bridges) (byLength .limit) (bestOver g byLength (with bridges)) (best-path-all length-searchable .allowed)
+      length-rising : Rising (with bridges) (bestPathOver g byLength (with bridges))
+      length-rising = length-rises g (with bridges) (byLength .limit) (bestPathOver g byLength (with bridges)) (best-path-all length-searchable .allowed)
 
       -- what is claimed of a plan by length
       pub record MadeByLength (k : ℕ) (after : Output) : Type 0 where
@@ -253,8 +253,8 @@ module _ (r : Recording) (segment : SegmentConfig) (settings : PlanConfig) (valu
       -- a plan by length meets both demands
       pub made-by-length : (k : ℕ) (before after : Output) → HandedAlong g settings (completedByLength g settings with) (pathByLength g settings with) k before after → MadeByLength k after
       made-by-length k before after e =
-          let path = bestOver g byLength (with bridges) in
-          let h = subst (λ (cs : List Candidate). HandedAlong g settings (with (addedByLength g maximum cs)) (bestOver g byLength (with (addedByLength g maximum cs))) k before after) none-added e in
+          let path = bestPathOver g byLength (with bridges) in
+          let h = subst (λ (cs : List Candidate). HandedAlong g settings (with (addedByLength g maximum cs)) (bestPathOver g byLength (with (addedByLength g maximum cs))) k before after) none-added e in
           let across = added-across bridges bridge-places in
           record {
             best = record {
@@ -283,7 +283,7 @@ module _ (r : Recording) (segment : SegmentConfig) (settings : PlanConfig) (valu
 
         -- the first path
         abbrev firstPath : List ℕ
-        firstPath = bestOverByCount g (under maximum) ds count
+        firstPath = bestPathOverByCount g (under maximum) ds count
 
         first-searchable-under : SearchableOver g (under maximum) ds
         first-searchable-under = first-searchable (under maximum) (count-preferred maximum)
@@ -324,8 +324,8 @@ module _ (r : Recording) (segment : SegmentConfig) (settings : PlanConfig) (valu
         first-met : Suffices r segment settings values flags levels count ds firstPath → DemandByCount g s count maximum (cutsAlong ds firstPath)
         unfolding lengthsWith
         first-met (n, none) =
-            subst (λ (cs : List Candidate). length (bestOverByCount g (under maximum) cs count) ≡ suc count → oversOf g (under maximum) cs count ≡ 0
-            → DemandByCount g s count maximum (cutsAlong cs (bestOverByCount g (under maximum) cs count))) (sym are)
+            subst (λ (cs : List Candidate). length (bestPathOverByCount g (under maximum) cs count) ≡ suc count → oversOf g (under maximum) cs count ≡ 0
+            → DemandByCount g s count maximum (cutsAlong cs (bestPathOverByCount g (under maximum) cs count))) (sym are)
             (first-plan x ss runs boundary-levels ks first last planned g (under maximum) (ready (under maximum) (count-preferred maximum)) count some) n (first-overs ∙ none)
 
         -- ---- with the reach
@@ -348,7 +348,7 @@ module _ (r : Recording) (segment : SegmentConfig) (settings : PlanConfig) (valu
           count-searchable = added-searchable shares share-places (under limit) (count-preferred limit)
 
           abbrev secondPath : List ℕ
-          secondPath = bestOverByCount g (under limit) (with shares) count
+          secondPath = bestPathOverByCount g (under limit) (with shares) count
 
           second-met : DemandByCount g s count maximum (cutsAlong (with shares) secondPath)
           unfolding lengthsWith
@@ -412,7 +412,7 @@ module _ (r : Recording) (segment : SegmentConfig) (settings : PlanConfig) (valu
             → HandedAlong g settings cs path k before after → MadeByCount k after
         made-by-count parents cs path k before after (at-first e) h =
             made-first k before after (sym (ap (suffices g settings s count maximum) none-added) ∙ e)
-            (subst (λ (cs : List Candidate). HandedAlong g settings cs (bestOverByCount g (under maximum) cs count) k before after) none-added h)
+            (subst (λ (cs : List Candidate). HandedAlong g settings cs (bestPathOverByCount g (under maximum) cs count) k before after) none-added h)
         made-by-count parents cs path k before after (with-reach e limit i) h =
             made-second k before after (sym (ap (suffices g settings s count maximum) none-added) ∙ e) limit (is-reach g (p .accepted) s spread count maximum limit i) h
 

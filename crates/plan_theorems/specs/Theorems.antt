@@ -46,13 +46,13 @@ use Rattle.plan_pieces.specs.declared.answer.Answer.{Answer}
 use Rattle.plan_pieces.specs.declared.answer.Answer.the-variants.{Planned, Refused, ShortParent, NoReach, ShortOutput}
 use Rattle.plan_modes.specs.Plan.{planBy}
 use Rattle.planner.specs.Operation.{End, endAfter, candidatesWith, plannedOf, planOf}
-use Rattle.plan_theorems.specs.Made.{HasRoom, Written, MadeOfSpan, Made, FewParents, ReachMissing, Ended}
-use Rattle.plan_theorems.specs.EndsLaws.{HandedAlong, along-refused, PlanEnd, along, short-parent, without-reach, handedBy, Reached, ModeEnd, by-length, by-count, mode-end, Ending, end-ending, AlongSome, made-end, parent-end, reach-end, room-end}
+use Rattle.plan_theorems.specs.Made.{HasRoom, PlanWritten, MadeOfSpan, Made, FewParents, ReachMissing, Ended}
+use Rattle.plan_theorems.specs.EndsLaws.{HandedAlong, along-refused, PlanEnd, along, short-parent, without-reach, handedBy, EndReached, ModeEnd, by-length, by-count, mode-end, AnswerEnds, end-ending, AlongSome, made-end, parent-end, reach-end, room-end}
 use Rattle.plan_theorems.specs.FollowsLaws.{along-written}
 use Rattle.plan_theorems.specs.MadeLaws.{divided-few, few-made, missing-made, short-given, none-given, parents-sure, Laid, MadeByLength, made-by-length, MadeByCount, made-by-count}
 
 -- nothing is written for no piece
-none-written : (out : Output) → Written 0 out out
+none-written : (out : Output) → PlanWritten 0 out out
 none-written out = record { fits = (omega arith, omega arith); pieces = sym (onto-nil (out .pieces)); cuts = sym (onto-nil (out .cuts)) }
 
 -- the count of a mode
@@ -103,7 +103,7 @@ module _ (r : Recording) (segment : SegmentConfig) (settings : PlanConfig) (valu
   abbrev sought : Output → Handed
   sought o = planBy g settings s with (settings .mode) (length parent) o
 
-  reached : Reached (ModeEnd g settings s with (length parent) (settings .mode)) g settings sought
+  reached : EndReached (ModeEnd g settings s with (length parent) (settings .mode)) g settings sought
   reached = mode-end g settings s with (length parent) (settings .mode)
 
   abbrev handed : Output → Handed
@@ -118,12 +118,12 @@ module _ (r : Recording) (segment : SegmentConfig) (settings : PlanConfig) (valu
 
   -- ---- every end
 
-  planned-ending : (b : Bool) (o : Output) → Ending o (plannedBy b o)
+  planned-ending : (b : Bool) (o : Output) → AnswerEnds o (plannedBy b o)
   planned-ending true o = record { untouched = λ never. refl; numbered = tt; unrefused = λ v e. let z : _≡_ {A = ℕ} 0 1 = cc in omega arith }
   planned-ending false o = end-ending g settings (reached .end) o
 
-  ending : (o : Output) → Ending o (planned o)
-  ending o = subst (Ending o) (sym (is-planned isEmpty refl o)) (planned-ending isEmpty o)
+  ending : (o : Output) → AnswerEnds o (planned o)
+  ending o = subst (AnswerEnds o) (sym (is-planned isEmpty refl o)) (planned-ending isEmpty o)
 
   numbered : (v : Verdict) → verdict ≡ v → (o : Output) → Numbered (callBy v o .answer)
   numbered Fine e o = ending o .numbered
@@ -298,7 +298,7 @@ module _ (r : Recording) (segment : SegmentConfig) (settings : PlanConfig) (valu
           reasoned = laid (settings .mode) refl .reasoned;
         }
 
-    written : (b : Bool) → isEmpty ≡ b → Written k out (call out .out)
+    written : (b : Bool) → isEmpty ≡ b → PlanWritten k out (call out .out)
     written true e = rw (empty-made e .0, empty-made e .1) (none-written out)
     written false e = along-written g settings (cs e) (path e) k out (call out .out) (along-handed e)
 

@@ -55,14 +55,14 @@ use Rattle.candidate_costs.specs.Window.{clipped, windowOf, widthOf, sumFrom, s
 use Rattle.plan_tests.specs.Refusal.{pieceLengthsOk, allDurationsOk, firstRefusalOf}
 use Rattle.candidates.specs.Candidates.{pausesBy, inPause, reasonAt, pointAt, ownAt, ownFrom, allListed, withLeft, cheaper, cheapestOf, cheapest, survivors, candidatesOf}
 use Rattle.candidates.specs.Entries.{costsOf}
-use Rattle.candidate_finder.specs.CandidatesIn.{runsIn, levelsIn}
+use Rattle.candidate_finder.specs.CandidatesIn.{runsIn, boundaryLevelsIn}
 use Rattle.completion.specs.Bridge.{bridgeFrom}
-use Rattle.completion.specs.Cuts.{pointsIn}
-use Rattle.completion.specs.Cuts as completion
-use Rattle.completion.specs.Next.{nextAt}
-use Rattle.completion.specs.Place.{placeAt}
-use Rattle.completion.specs.Reach.{leastFrom, reachOf}
-use Rattle.completion.specs.Reachable.{reachableIn}
+use Rattle.completion_reach.specs.Cuts.{pointsIn}
+use Rattle.completion_reach.specs.Cuts as completion
+use Rattle.completion_reach.specs.Next.{nextAt}
+use Rattle.completion_reach.specs.Place.{placeAt}
+use Rattle.completion_reach.specs.Reach.{leastFrom, reachOf}
+use Rattle.completion_reach.specs.Reachable.{reachableIn}
 use Rattle.plan_lengths.specs.PlanLengths.{targetByCount, lengthsWith}
 use Rattle.plan_pieces.specs.Along.{piecesFrom, piecesAlongNumbers, cutsAlongNumbers}
 use Rattle.plan_pieces.specs.Along as along
@@ -188,7 +188,7 @@ module _ (a b c d : ℕ) (x : Float) where
 
   -- each by computation
   pub plan-trials : PlanTrials
-  unfolding minOf maxOf clampOf square offOf short lengthCost filled onto tabulate allOf workOk startOf boundaryOf covers framesIn framesCeil framesFloor samplesFloor samplesIn secondsOf frameSecs grid.isWithin frameStepOk framesOk listsOk valuesOk lengthOk validityOf isScore isFinite isUnflagged withSignal levelsOver levelsOf autoOf resolveOf thresholdOk filledAs fillShort reached soundAt soundsAfter hysteresis belowAt belowOff quietRuns joined runs rewritten rewrittenAll eachRun silentRuns silencesOf isSilent anySound fillSilence soundsOf durationsOk soundsIn silencesIn lowestLeast predecessorOf pieces.isWithin pieceLength lengthCostOf overOf mayStart withPiece withCut withCutAt nextScore tableOf bestScore parentOf wayBack bestPath bestWith parentWith wayWith bestPathByCount bestScoreByCount isCount countOk ratioOk isWeight isCutCost isReference weightsOk lowOf highOf isInner isGap innerGaps gapsOf dropped keptFrames boundaries blockOf paddingOf edgeLimit spacingOf isLeading isTrailing allSilent emptySpan firstOf lastOf divisionsOf keeps anyOf isFeasible getsGrid touches opens blocksAt blockedBy isBlocked openTo blockEnd pointsFrom gridPoints splitPoint cuts.leastFrom leastLevel openCut silenceCut shareOf chosenBy pauseOf cutCost smoothedAt frameLevel levelAt boundaryLevels rangeOf normalizeOf quieter quietestIn quietestOf mostOf stretchAt secsOf clipped windowOf widthOf sumFrom sumOf meanOf pieceLengthsOk allDurationsOk firstRefusalOf pausesBy inPause reasonAt pointAt ownAt ownFrom allListed withLeft cheaper cheapestOf cheapest survivors candidatesOf costsOf runsIn levelsIn bridgeFrom completion.cutsFrom pointsIn nextAt placeAt leastFrom reachOf reachableIn targetByCount lengthsWith along.cutsFrom piecesFrom piecesAlongNumbers cutsAlongNumbers shortFlag longFlag flagsOf hasRoom handedOutOf planPieces planCuts plannedOf planOf planByLength hasParents suffices plannedUnder planByCount planBy span climb size odd units round sum add neg sub mul div lt eq le isNan ofInt ofBits
+  unfolding minOf maxOf clampOf square offOf short lengthCost filled onto tabulate allOf workOk startOf boundaryOf covers framesIn framesCeil framesFloor samplesFloor samplesIn secondsOf frameSecs grid.isWithin frameStepOk framesOk listsOk valuesOk lengthOk validityOf isScore isFinite isUnflagged withSignal levelsOver levelsOf autoOf resolveOf thresholdOk filledAs fillShort reached soundAt soundsAfter hysteresis belowAt belowOff quietRuns joined runs rewritten rewrittenAll eachRun silentRuns silencesOf isSilent anySound fillSilence soundsOf durationsOk soundsIn silencesIn lowestLeast predecessorOf pieces.isWithin pieceLength lengthCostOf overOf mayStart withPiece withCut withCutAt nextScore tableOf bestScore parentOf wayBack bestPath bestWith parentWith wayWith bestPathByCount bestScoreByCount isCount countOk ratioOk isWeight isCutCost isReference weightsOk lowOf highOf isInner isGap innerGaps gapsOf dropped keptFrames boundaries blockOf paddingOf edgeLimit spacingOf isLeading isTrailing allSilent emptySpan firstOf lastOf divisionsOf keeps anyOf isFeasible getsGrid touches opens blocksAt blockedBy isBlocked openTo blockEnd pointsFrom gridPoints splitPoint cuts.leastFrom leastLevel openCut silenceCut shareOf chosenBy pauseOf cutCost smoothedAt frameLevel levelAt boundaryLevels rangeOf normalizeOf quieter quietestIn quietestOf mostOf stretchAt secsOf clipped windowOf widthOf sumFrom sumOf meanOf pieceLengthsOk allDurationsOk firstRefusalOf pausesBy inPause reasonAt pointAt ownAt ownFrom allListed withLeft cheaper cheapestOf cheapest survivors candidatesOf costsOf runsIn boundaryLevelsIn bridgeFrom completion.cutsFrom pointsIn nextAt placeAt leastFrom reachOf reachableIn targetByCount lengthsWith along.cutsFrom piecesFrom piecesAlongNumbers cutsAlongNumbers shortFlag longFlag flagsOf hasRoom handedOutOf planPieces planCuts plannedOf planOf planByLength hasParents suffices plannedUnder planByCount planBy span climb size odd units round sum add neg sub mul div lt eq le isNan ofInt ofBits
   plan-trials = record {
     printed = refl;
     count-two = refl;

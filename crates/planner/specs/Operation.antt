@@ -16,7 +16,7 @@ use Rattle.candidates.specs.declared.candidate.Candidate.{Candidate}
 use Rattle.plan_tests.specs.Refusal as tests
 use Rattle.plan_tests.specs.declared.refusal.Verdict.{Verdict}
 use Rattle.plan_tests.specs.declared.refusal.Verdict.the-variants.{Fine, Fails}
-use Rattle.candidate_finder.specs.CandidatesIn.{runsIn, levelsIn, contextOf, gridPointsIn}
+use Rattle.candidate_finder.specs.CandidatesIn.{runsIn, boundaryLevelsIn, contextOf, gridPointsIn}
 use Rattle.candidate_finder.specs.SpanIn.{paddingIn, emptyIn, firstIn, lastIn}
 use Rattle.plan_division.specs.Added.{completedWith}
 use Rattle.plan_pieces.specs.Output.{Output, Handed, handedOf, pick}
@@ -45,7 +45,7 @@ module _ (r : Recording) (segment : SegmentConfig) (settings : PlanConfig) (valu
   abbrev pub candidatesWith : List Cut → List Candidate
   candidatesWith added =
       completedWith (contextOf r segment settings (length values)) (silencesIn r segment values flags) (runsIn r segment values flags)
-      (levelsIn r segment values flags levels) (gridPointsIn r segment settings values flags levels) added
+      (boundaryLevelsIn r segment values flags levels) (gridPointsIn r segment settings values flags levels) added
       (firstIn r segment settings values flags) (lastIn r segment settings values flags)
 
   -- document 01: "the span is empty, and so is the plan; no reach is sought then"; else the plan of document 01's span, with `parents` the length of the parent list

@@ -1,6 +1,6 @@
 -- What the tests leave is what preparing and planning need, and one law for each end of the operation.
 use mathlib.Core.Path.{_≡_, sym, ap, _∙_}
-use mathlib.Core.Bool.{Bool, true, false, not, _||_}
+use mathlib.Core.Bool.{Bool, true, not, _||_}
 use mathlib.Core.List.{List, _++_}
 use Prim.Native.Nat.{ℕ, suc, _+_, _-_, _*_, _≤_, _<_}
 use native.Mathlib.Nat.{le-of-lt}
@@ -12,12 +12,10 @@ use lib.Seq.{take-take, getD-take, length-take-le}
 use Rattle.base_terms.specs.Layout.{side, runsAt, marksAt, entriesAt}
 use Rattle.base_terms.specs.Lists.{filled}
 use Rattle.base_terms.specs.Work.{Work, cleared}
-use Rattle.grid.specs.Validate.{gridOf}
 use Rattle.grid.specs.declared.boundary.FrameGrid.{FrameGrid}
 use Rattle.grid.specs.declared.validate.Recording.{Recording}
 use Rattle.silence_list.specs.Silences.{silencesIn}
 use Rattle.silence_list.specs.declared.config.SegmentConfig.{SegmentConfig}
-use Rattle.path_pieces.specs.declared.mode.Mode.the-variants.{ByCount}
 use Rattle.plan_settings.specs.declared.config.PlanConfig.{PlanConfig}
 use Rattle.candidate_span.specs.Gaps.{Cut}
 use Rattle.candidate_span.specs.Span.{Span, spanOf, spanIn}
@@ -30,12 +28,12 @@ use Rattle.candidates.specs.Order.{span-ends}
 use Rattle.candidates.specs.Same.{candidates-same}
 use Rattle.candidate_walk.specs.Held.{silencesHeld, runsHeld, levelsHeld, marked}
 use Rattle.candidate_walk.specs.CollectStep.{marked-in}
-use Rattle.candidate_finder.specs.CandidatesIn.{runsIn, levelsIn, contextOf, gridPointsIn}
+use Rattle.candidate_finder.specs.CandidatesIn.{runsIn, boundaryLevelsIn, contextOf, gridPointsIn}
 use Rattle.candidate_finder.specs.SpanIn.{paddingIn, emptyIn, firstIn, lastIn}
 use Rattle.candidate_finder.specs.Holds.{silences-before}
 use Rattle.candidate_finder.specs.Prepare.{SpanReady}
 use Rattle.candidate_finder.specs.Theorems as finder
-use Rattle.completion.specs.Cuts.{pointsIn}
+use Rattle.completion_reach.specs.Cuts.{pointsIn}
 use Rattle.plan_lengths.specs.PlanLengthsLaws.{ready-timed, ready-in-pieces, by-length-preferred, by-count-preferred}
 use Rattle.plan_tests.specs.Fitting.{Fitting}
 use Rattle.plan_tests.specs.PlanReady.{PlanReady}
@@ -71,7 +69,7 @@ module _ (r : Recording) (segment : SegmentConfig) (settings : PlanConfig) (valu
       inside : (span .first < span .last) × (span .last ≤ n)
       inside =
           rw (q .starts, q .stops)
-          (span-ends (contextOf r segment settings n) (silencesIn r segment values flags) (runsIn r segment values flags) (levelsIn r segment values flags levels)
+          (span-ends (contextOf r segment settings n) (silencesIn r segment values flags) (runsIn r segment values flags) (boundaryLevelsIn r segment values flags levels)
           (gridPointsIn r segment settings values flags levels) (firstIn r segment settings values flags) (lastIn r segment settings values flags)
           (finder.planned r segment settings values flags levels n32 n64 nf p (q .some)))
 
@@ -144,7 +142,7 @@ module _ (r : Recording) (segment : SegmentConfig) (settings : PlanConfig) (valu
       -- candidates of the recording with points at boundaries ks, between two of its boundaries
       abbrev among : List ℕ → ℕ → ℕ → List Candidate
       among ks from to =
-          candidatesOf (contextOf r segment settings n) (silencesIn r segment values flags) (runsIn r segment values flags) (levelsIn r segment values flags levels) ks from to
+          candidatesOf (contextOf r segment settings n) (silencesIn r segment values flags) (runsIn r segment values flags) (boundaryLevelsIn r segment values flags levels) ks from to
 
       held-are : (added : List Cut) → heldWith x span (frontOf (x .padding .frames) work) (levelsHeld (x .padding .frames) workf) added
           ≡ among (pointsHeld n span front ++ pointsIn added) (span .first) (span .last)
@@ -156,7 +154,7 @@ module _ (r : Recording) (segment : SegmentConfig) (settings : PlanConfig) (valu
           each : (added : List Cut) → heldWith x span (frontOf (x .padding .frames) work) (levelsHeld (x .padding .frames) workf) added ≡ candidatesWith r segment settings values flags levels added
           each added =
               held-are added
-              ∙ candidates-same (contextOf r segment settings n) (silencesIn r segment values flags) (runsIn r segment values flags) (levelsIn r segment values flags levels)
+              ∙ candidates-same (contextOf r segment settings n) (silencesIn r segment values flags) (runsIn r segment values flags) (boundaryLevelsIn r segment values flags levels)
               (pointsHeld n span front ++ pointsIn added) (gridPointsIn r segment settings values flags levels ++ pointsIn added) (span .first) (span .last)
               (λ k a b. in-append (pointsHeld n span front) (pointsIn added) k ∙ ap (λ (t : Bool). t || isIn (pointsIn added) k) (points-are k a b)
               ∙ sym (in-append (gridPointsIn r segment settings values flags levels) (pointsIn added) k))

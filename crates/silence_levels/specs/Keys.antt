@@ -44,10 +44,10 @@ unfoldable pub anySignal : List ℕ → Bool
 anySignal flags = not (allOf isLost flags)
 
 -- the list with the keys of the values with signal in front
-unfoldable pub collected : List Float → List ℕ → List ℕ → List ℕ
-collected values flags keys = map keyOf (withSignal values flags) ++ drop (length (withSignal values flags)) keys
+unfoldable pub keysCollected : List Float → List ℕ → List ℕ → List ℕ
+keysCollected values flags keys = map keyOf (withSignal values flags) ++ drop (length (withSignal values flags)) keys
 
 -- what collecting leaves: how many values have signal, and the list
 pub record Collected (values : List Float) (flags keys₀ keys : List ℕ) (n : ℕ) : Type 0 where
   pub count : n ≡ length (withSignal values flags)
-  pub list : keys ≡ collected values flags keys₀
+  pub list : keys ≡ keysCollected values flags keys₀

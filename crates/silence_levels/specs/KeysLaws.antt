@@ -18,7 +18,7 @@ use Rattle.base_terms.specs.Lists.{allOf}
 use Rattle.base_code.specs.Elements.{all-parts}
 use Rattle.grid.specs.Values.{isFinite}
 use Rattle.grid.specs.ValuesLaws.{value-number}
-use Rattle.silence_levels.specs.Keys.{placeOf, patternOf, keyOf, valueOf, isKey, withSignal, isLost, anySignal, collected, Collected}
+use Rattle.silence_levels.specs.Keys.{placeOf, patternOf, keyOf, valueOf, isKey, withSignal, isLost, anySignal, keysCollected, Collected}
 
 -- ---- keys
 
@@ -145,7 +145,7 @@ module _ (values : List Float) (flags keys₀ : List ℕ) (end : ℕ) where
 
   -- every frame is seen
   pub collecting-done : (keys : List ℕ) (n i : ℕ) → end ≤ i → Collecting values flags keys₀ end keys n i → Collected values flags keys₀ keys n
-  unfolding collected
+  unfolding keysCollected
   collecting-done keys n i l (a, b, c, d, e, g, h) =
       let v : take i values ≡ values = take-all i values (omega arith) in
       let w : take i flags ≡ flags = take-all i flags (omega arith) in
@@ -217,8 +217,8 @@ with-signal-same (v ∷ vs) (w ∷ ws) (f ∷ fs) e = elim (tested (eqb f 0)) [
 -- ---- the list that collecting leaves
 
 -- it is as long as it was
-pub collected-length : (values : List Float) (flags keys : List ℕ) → length values ≤ length keys → length (collected values flags keys) ≡ length keys
-unfolding collected
+pub collected-length : (values : List Float) (flags keys : List ℕ) → length values ≤ length keys → length (keysCollected values flags keys) ≡ length keys
+unfolding keysCollected
 collected-length values flags keys l =
     let k = with-signal-length values flags in
     simp (length-append, length-map, length-drop) (omega arith)
@@ -233,7 +233,7 @@ module _ {values : List Float} {flags keys₀ keys : List ℕ} {n : ℕ} (c : Co
       omega arith
 
   collected-front : take n keys ≡ map keyOf (withSignal values flags)
-  unfolding collected
+  unfolding keysCollected
   collected-front =
       rw (c .list)
       (take-at (map keyOf (withSignal values flags)) (drop (length (withSignal values flags)) keys₀) n (length-map (withSignal values flags) keyOf ∙ sym (c .count)))

@@ -18,7 +18,7 @@ ghost use Prim.Native.Nat.{_≤_};
 ghost use Rattle.base_terms.specs.Lists.{allOf};
 ghost use Rattle.grid.specs.Limits.{maxFrames};
 ghost use Rattle.grid.specs.Values.{isFinite};
-ghost use Rattle.silence_levels.specs.Keys.{valueOf, isKey, collected};
+ghost use Rattle.silence_levels.specs.Keys.{valueOf, isKey, keysCollected};
 ghost use Rattle.silence_levels.specs.Threshold.{isFixed};
 ghost use Rattle.silence_levels.specs.Levels.{levelsOver, levelsOf, thresholdsOf};
 
@@ -53,11 +53,11 @@ pub fn levels(
     ensures result { λ r. ⌜ r ≡ levelsOf domain threshold (now (values .entry)) (now (flags .entry)) ⌝ }
     ensures list { λ _. ⌜
         now (keys .exit)
-        ≡ collected (now (values .entry)) (now (flags .entry)) (now (keys .entry))
+        ≡ keysCollected (now (values .entry)) (now (flags .entry)) (now (keys .entry))
         ⌝ }
 {
-    let count = keys::collect(values, flags, keys);
-    over_keys(domain, threshold, &keys[..count])
+    let with_signal = keys::collect(values, flags, keys);
+    over_keys(domain, threshold, &keys[..with_signal])
 }
 
 // Thresholds that are the same for all values, if any frame has signal.

@@ -39,8 +39,8 @@ startsAfter before [] = 0
 startsAfter before (x ∷ xs) = startsAt before x + startsAfter x xs
 
 -- how many silences there are: as many as start
-unfoldable pub silenceCount : List ℕ → ℕ
-silenceCount xs = startsAfter 1 xs
+unfoldable pub silentRunCount : List ℕ → ℕ
+silentRunCount xs = startsAfter 1 xs
 
 -- ---- both are the same
 
@@ -135,8 +135,8 @@ edges-count (x ∷ xs) k p = let n = edges-count xs (suc k) x in elim (tested (e
 ]
 
 -- two numbers for each silence
-pub silences-length : (xs : List ℕ) → length (silencesOf xs) ≡ 2 * silenceCount xs
-unfolding silenceCount bit
+pub silences-length : (xs : List ℕ) → length (silencesOf xs) ≡ 2 * silentRunCount xs
+unfolding silentRunCount bit
 silences-length xs = rw (silences-edges xs) (omega (arith, edges-count xs 0 1))
 
 edges-few : (xs : List ℕ) (k p : ℕ) → length (edges k p xs) ≤ length xs + 1
@@ -149,7 +149,7 @@ pub silences-room : (xs : List ℕ) → length (silencesOf xs) ≤ length xs + 1
 silences-room xs = rw (silences-edges xs) (edges-few xs 0 1)
 
 -- there are at most (frames + 1) / 2 silences
-pub silences-few : (xs : List ℕ) → silenceCount xs ≤ (length xs + 1) / 2
+pub silences-few : (xs : List ℕ) → silentRunCount xs ≤ (length xs + 1) / 2
 silences-few xs = omega (arith, silences-room xs, silences-length xs)
 
 -- ---- membership

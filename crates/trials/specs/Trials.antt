@@ -38,7 +38,7 @@ use Rattle.path_pieces.specs.declared.mode.Mode.{Mode}
 use Rattle.path_pieces.specs.declared.mode.Mode.the-variants as mode
 use Rattle.path_pieces.specs.Pieces.{lengthWeights, pieceLength, overOf, lengthCostOf, withPiece, withCut, isWithin, withCutAt, mayStart}
 use Rattle.path_pieces.specs.Least.{lowestLeast, predecessorOf}
-use Rattle.path_rules.specs.Paths.{lastOf}
+use Rattle.path_rules.specs.Paths.{lastCandidate}
 use Rattle.path_by_length.specs.Table.{nextScore, tableOf, bestScore, parentOf, wayBack, bestPath}
 use Rattle.path_by_count.specs.Table.{bestWith, parentWith, wayWith, bestPathByCount, bestScoreByCount}
 use Rattle.path_tests.specs.Ends.{listsOk, endOk, endsFrom, endsOk}
@@ -69,7 +69,7 @@ ends = 0 ∷ 100 ∷ 200 ∷ 300 ∷ []
 -- the best path and its score, the number of pieces over the limit and the cost, of candidates whose left end is the right end too
 abbrev ByLength : ℕ → List ℕ → List Float → List ℕ → ℕ → Float → Type 0
 ByLength limit at cut path over cost =
-    (bestPath (within limit) at at cut ≡ path) × (bestScore (within limit) at at cut (lastOf at) ≡ record { over = over; cost = cost })
+    (bestPath (within limit) at at cut ≡ path) × (bestScore (within limit) at at cut (lastCandidate at) ≡ record { over = over; cost = cost })
 
 abbrev ByCount : ℕ → ℕ → List ℕ → List Float → List ℕ → ℕ → Float → Type 0
 ByCount count limit at cut path over cost =

@@ -13,14 +13,14 @@ Inv-loop gap g s silences base work₀ end i₀ work i = Marking gap g s silence
 abbrev μ-loop : tie.MeasureT-loop
 μ-loop gap g s silences base work₀ end i₀ work i = silences - i
 
+side-requires : tie.Need-side-requires Inv-loop μ-loop
+side-requires c κs = search needs
+
 add-end : tie.Need-add-end Inv-loop μ-loop
 add-end c = search needs
 
-add-end-2 : tie.Need-add-end-2 Inv-loop μ-loop
-add-end-2 c = search needs
-
 loop-holds : tie.Need-loop-holds Inv-loop μ-loop
-loop-holds c = marking-start _ _ _ _ _ _ _ (omega arith) (c .before .before .pre .0) (c .before .before .pre .1)
+loop-holds c = marking-start _ _ _ _ _ _ _ (omega (arith, c .side .ensures)) (c .before .before .pre .0) (c .before .before .pre .1)
 
 start-at-requires : tie.Need-start-at-requires Inv-loop μ-loop
 start-at-requires c κs = search needs
@@ -67,8 +67,8 @@ mark-silences-spec =
     (tie.spec
     Inv-loop
     μ-loop
+    side-requires
     add-end
-    add-end-2
     loop-holds
     start-at-requires
     end-at-requires

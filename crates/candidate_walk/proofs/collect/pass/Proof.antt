@@ -8,8 +8,7 @@ use Rattle.candidate_points.specs.Placed.{placed}
 use Rattle.candidates.specs.declared.candidate.Candidate.{Candidate}
 use Rattle.candidates.specs.Entries.{entriesOf, costsOf}
 use Rattle.base_terms.specs.Layout.{entriesAt, costsAt}
-use Rattle.candidate_walk.specs.HeldLaws.{placed-none}
-use Rattle.candidate_walk.specs.CollectLaws.{own-parts, own-puttable, own-here, own-walk, point-puttable, point-here, point-walk, none-here, none-walk}
+use Rattle.candidate_walk.specs.CollectLaws.{own-parts, own-puttable, own-here, own-walk, point-puttable, point-here, point-walk, none-entries, none-costs, none-walk}
 use Rattle.candidate_walk.proofs.collect.pass.Statement.{statement}
 use Rattle.candidate_walk.proofs.collect.pass.Tie as tie
 
@@ -92,16 +91,13 @@ returns-2 c =
     (point-walk (a .x) (a .silences) (a .stop) (a .k) (a .marked) (a .w) work workf o (c .before .before .before .before .before .before .before .before .before .before .before .if2 .taken) (v .result) (v .ensures), (c .before .before .before .before .before .put2 .ensures .0 ∙ ap (λ (cs : List Candidate). placed (entriesAt n + 3 * a .w .written) (entriesOf cs) work) h, c .before .before .before .before .before .put2 .ensures .1 ∙ ap (λ (cs : List Candidate). placed (costsAt n + a .w .written) (costsOf cs) workf) h))
 
 returns-3 : tie.Need-returns-3
-unfolding entriesOf costsOf
 returns-3 c =
     let s = c .before .before .before .before .before .before in
     let a = s .args in
-    let n = a .x .padding .frames in
     let work = a .work-u32 .now in
     let workf = a .work-f64 .now in
     let o = sym (c .before .before .own-here .ensures) ∙ c .before .if1 .left in
-    let h = none-here (a .x) (a .silences) (a .stop) (a .k) (a .marked) (a .w) work workf o (c .if2 .left) in
-    (none-walk (a .x) (a .silences) (a .stop) (a .k) (a .marked) (a .w) work workf o (c .if2 .left), (sym (placed-none (entriesAt n + 3 * a .w .written) work) ∙ ap (λ (cs : List Candidate). placed (entriesAt n + 3 * a .w .written) (entriesOf cs) work) h, sym (placed-none (costsAt n + a .w .written) workf) ∙ ap (λ (cs : List Candidate). placed (costsAt n + a .w .written) (costsOf cs) workf) h))
+    (none-walk (a .x) (a .silences) (a .stop) (a .k) (a .marked) (a .w) work workf o (c .if2 .left), (none-entries (a .x) (a .silences) (a .stop) (a .k) (a .marked) (a .w) work workf o (c .if2 .left), none-costs (a .x) (a .silences) (a .stop) (a .k) (a .marked) (a .w) work workf o (c .if2 .left)))
 
 pub pass-spec : {M : Type 1} → statement M
 pass-spec =

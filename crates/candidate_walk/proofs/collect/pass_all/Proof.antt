@@ -1,13 +1,14 @@
 -- `collect::pass_all`: the walk of CollectStep, step by step.
 use borrow.Author.Needs.{needs}
 use native.Mathlib.Omega.{arith}
-use mathlib.Core.Path.{refl, ap}
-use mathlib.Core.Bool.{not}
+use mathlib.Core.Path.{refl, sym, ap, _∙_}
+use mathlib.Core.Bool.{Bool, not, _||_}
+use mathlib.Core.Logic.{⊎-elim}
 use Prim.Native.Nat.{ℕ, _+_, _-_}
 use lib.Dec.{eqb}
 use lib.ListN.{getD}
 use Rattle.candidate_walk.specs.CollectStep.{WalkHolds, last-in, first-below, walk-lengths, walk-passing}
-use Rattle.candidate_walk.specs.CollectNext.{walk-next, walk-start, walk-done}
+use Rattle.candidate_walk.specs.CollectNext.{walk-next, walk-none, walk-start, walk-done}
 use Rattle.candidate_walk.proofs.collect.pass_all.Statement.{statement}
 use Rattle.candidate_walk.proofs.collect.pass_all.Tie as tie
 
@@ -45,23 +46,30 @@ slice-read-marked c =
     let s = c .before .before .before .before .before .before .before in
     omega (arith, c .before .before .before .before .marks-at .ensures, c .before .loop-test .taken, last-in (s .pre .0) (s .pre .1 .0), s .pre .0 .holding .room, walk-lengths (s .pre .0) (s .pre .1 .0) (c .before .before .loop .inv) .0)
 
+own-here-requires : tie.Need-own-here-requires Inv-loop μ-loop
+own-here-requires c κs = search needs
+
 pass-requires : tie.Need-pass-requires Inv-loop μ-loop
 pass-requires c κs =
-    let s = c .before .before .before .before .before .before .before .before .before in
-    walk-passing (s .pre .0) (s .pre .1 .0) (c .before .before .before .before .loop .inv) (c .before .before .before .loop-test .taken)
+    let s = c .before .before .before .before .before .before .before .before .before .before .before in
+    walk-passing (s .pre .0) (s .pre .1 .0) (c .before .before .before .before .before .before .loop .inv) (c .before .before .before .before .before .loop-test .taken)
 
 add-k-2 : tie.Need-add-k-2 Inv-loop μ-loop
 add-k-2 c = search needs
 
 loop-less : tie.Need-loop-less Inv-loop μ-loop
-loop-less c = omega (arith, c .before .before .before .before .before .before .before .before .loop-test .taken)
+loop-less c = omega (arith, c .before .before .before .loop-test .taken)
 
 loop-again : tie.Need-loop-again Inv-loop μ-loop
 loop-again c =
-    let s = c .before .before .before .before .before .before .before .before .before .before .before .before .before .before in
-    let l = c .before .before .before .before .before .before .before .before .before .loop in
-    let e = c .before .before .before .before .pass .ensures in
-    walk-next (s .pre .0) (s .pre .1 .0) (l .inv) (c .before .before .before .before .before .before .before .before .loop-test .taken) (ap (λ (at : ℕ). not (eqb (getD (l .work-u32) (at + l .k) 0) 0)) (c .before .before .before .before .before .before .before .before .before .before .before .marks-at .ensures)) (e .0) (e .1 .0) (e .1 .1)
+    let s = c .before .before .before .before .before .before .before .before .before in
+    let l = c .before .before .before .before .loop in
+    let t = c .before .before .before .loop-test .taken in
+    let read = ap (λ (at : ℕ). not (eqb (getD (l .work-u32) (at + l .k) 0) 0)) (c .before .before .before .before .before .before .marks-at .ensures) in
+    ⊎-elim
+    (λ w. walk-next (s .pre .0) (s .pre .1 .0) (l .inv) t read (w .10 ∙ w .3 .ensures .0) (w .8 ∙ w .3 .ensures .1 .0) (w .9 ∙ w .3 .ensures .1 .1))
+    (λ w. rw (w .1, w .2, w .3) (walk-none (s .pre .0) (s .pre .1 .0) (l .inv) t read (ap (λ (b : Bool). not (eqb (getD (l .work-u32) (c .before .before .before .before .before .before .marks-at .result + l .k) 0) 0) || b) (sym (c .before .own-here .ensures)) ∙ w .0 .left)))
+    (c .if1 .came)
 
 same-length : tie.Need-same-length Inv-loop μ-loop
 same-length c = let s = c .before .before .before .before .before .before in walk-lengths (s .pre .0) (s .pre .1 .0) (c .before .loop .inv) .0
@@ -87,6 +95,7 @@ pass-all-spec =
     add-marked
     mul-marked
     slice-read-marked
+    own-here-requires
     pass-requires
     add-k-2
     loop-less

@@ -1,7 +1,8 @@
 -- `pause::in_pause`: only the silence that was found can hold the boundary.
 use borrow.Author.Needs.{needs}
 use mathlib.Core.Path.{sym}
-use Rattle.candidates.specs.PauseLaws.{listed-rise, pause-none, pause-before, pause-from}
+use Rattle.candidate_span.specs.EndingLaws.{listed-rise}
+use Rattle.candidates.specs.PauseLaws.{pause-none, pause-before, pause-from}
 use Rattle.candidates.proofs.pause.in_pause.Statement.{statement}
 use Rattle.candidates.proofs.pause.in_pause.Tie as tie
 

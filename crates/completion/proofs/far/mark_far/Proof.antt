@@ -4,7 +4,7 @@ use native.Mathlib.Omega.{arith}
 use mathlib.Core.Path.{sym, subst}
 use Prim.Native.Nat.{_*_}
 use lib.Seq.{length-take-le}
-use Rattle.completion.specs.GroundLaws.{Founded}
+use Rattle.completion_reach.specs.GroundLaws.{Founded}
 use Rattle.completion.specs.CutsLaws.{MarkedUpTo, walking-start, walking-none, walking-whole, walking-stuck, walking-room, walking-to}
 use Rattle.completion.proofs.far.mark_far.Statement.{statement}
 use Rattle.completion.proofs.far.mark_far.Tie as tie

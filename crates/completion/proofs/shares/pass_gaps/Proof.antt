@@ -3,7 +3,7 @@ use borrow.Author.Needs.{needs}
 use native.Mathlib.Omega.{arith}
 use Prim.Native.Nat.{_-_}
 use Rattle.plan_settings.specs.declared.config.Gap.the-variants.{Drop}
-use Rattle.candidate_span.specs.Listed.{count}
+use Rattle.candidate_span.specs.Listed.{silenceCount}
 use Rattle.completion.specs.Counted.{Counting}
 use Rattle.completion.specs.CountedLaws.{counting-next, counting-width, counted-all, counted-here}
 use Rattle.completion.proofs.shares.pass_gaps.Statement.{statement}
@@ -13,7 +13,7 @@ abbrev Inv-loop : tie.InvT-loop
 Inv-loop p silences at i₀ removed₀ i removed = Counting Drop p silences at (record { silences = i; removed = removed })
 
 abbrev μ-loop : tie.MeasureT-loop
-μ-loop p silences at i₀ removed₀ i removed = count silences - i
+μ-loop p silences at i₀ removed₀ i removed = silenceCount silences - i
 
 loop-holds : tie.Need-loop-holds Inv-loop μ-loop
 loop-holds c = c .before .pre .0

@@ -1,5 +1,5 @@
 -- `scan::scan_least` keeps the lowest least of the candidates passed; one more replaces it only where its score is better.
-use Rattle.path_by_count_search.specs.Least.{IsLeast}
+use Rattle.path_by_count_tree.specs.Least.{IsLeast}
 use Rattle.path_by_count_search.specs.Starts.{arrivalAt}
 use Rattle.path_by_count_search.specs.StartsLaws.{start-at, scan-first, scan-next, scan-done}
 use borrow.Author.Needs.{needs}

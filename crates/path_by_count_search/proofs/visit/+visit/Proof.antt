@@ -2,7 +2,7 @@
 -- the other, the one that promises more first. A half is left out only where its outlook is not ahead of the best so far. The range's length falls.
 use denote.Ref.{now}
 use Rattle.path_by_count_search.specs.StartsLaws.{arrival-nonneg}
-use Rattle.path_by_count_search.specs.TreeLaws.{not-empty}
+use Rattle.path_by_count_tree.specs.TreeLaws.{not-empty}
 use Rattle.path_by_count_search.specs.Visit.{through}
 use Rattle.path_by_count_search.specs.VisitLaws.{first-nonneg, halved, halves-parts, left-out, join-parts}
 use borrow.Author.Needs.{needs}
@@ -14,7 +14,7 @@ use borrow.Fn.PlainCycle.{Measures, is, falls, and}
 use Rattle.path_by_count_search.proofs.visit.visit.Reads as visit
 use Rattle.path_by_count_search.proofs.visit.visit.Kinds as visit-kinds
 use Rattle.path_by_count_search.proofs.visit.+visit.Lts-visit as visit-lts
-use Rattle.path_by_count_search.proofs.best.ahead.Reads as ahead-reads
+use Rattle.path_by_count_tree.proofs.best.ahead.Reads as ahead-reads
 use Rattle.path_by_count_search.proofs.halves.halves.Reads as halves-reads
 use Rattle.path_by_count_search.proofs.visit.at_leaves.Reads as at-leaves-reads
 use Rattle.path_by_count_search.proofs.visit.+visit.{statement}

@@ -1,6 +1,6 @@
 -- `search::by_length` tests the room once the table says how many candidates the path has, and writes nothing where there is none.
 use denote.Ref.{now}
-use Rattle.path_rules.specs.Paths.{lastOf}
+use Rattle.path_rules.specs.Paths.{lastCandidate}
 use Rattle.path_by_length.specs.Table.{bestPath, bestScore}
 use Rattle.path_by_length.specs.Solved.{cutsIn}
 use Rattle.path_by_length.specs.SolvedLaws.{part-behind, filled-parents, filled-path}
@@ -28,7 +28,7 @@ returns c =
     let left = now (start .args .left) in
     let right = now (start .args .right) in
     let cut = cutsIn (length left) (now (start .args .cost)) in
-    handed-short (bestPath (start .args .lengths) left right cut) (bestScore (start .args .lengths) left right cut (lastOf left)) (now (start .args .path))
+    handed-short (bestPath (start .args .lengths) left right cut) (bestScore (start .args .lengths) left right cut (lastCandidate left)) (now (start .args .path))
     (omega (arith, solved .count, c .if1 .taken))
 
 behind-table-requires : tie.Need-behind-table-requires
@@ -75,7 +75,7 @@ returns-2 c =
     let left = now (start .args .left) in
     let right = now (start .args .right) in
     let cut = cutsIn (length left) (now (start .args .cost)) in
-    handed-found (bestPath (start .args .lengths) left right cut) (bestScore (start .args .lengths) left right cut (lastOf left)) (now (start .args .path)) _ _
+    handed-found (bestPath (start .args .lengths) left right cut) (bestScore (start .args .lengths) left right cut (lastCandidate left)) (now (start .args .path)) _ _
     (omega (arith, solved .count, c .before .before .before .before .before .before .before .before .if1 .left)) (solved .score) (solved .count)
     (rw (part-behind (length left) (c .before .before .before .before .before .before .before .behind-table .ensures) (c .before .before .before .before .before .before .end-by-length .ensures), filled-path (start .pre) (solved .filled)) at (c .before .before .backtrack .ensures))
 

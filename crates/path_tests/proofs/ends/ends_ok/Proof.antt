@@ -2,12 +2,12 @@
 use borrow.Author.Needs.{needs}
 use Prim.Native.Nat.{_-_}
 use Rattle.base_laws.specs.Tests.{test-failed, test-passed}
-use Rattle.path_tests.specs.EndsLaws.{Ending, ending-start, ending-limit, ending-next, ending-fails, ending-done}
+use Rattle.path_tests.specs.EndsLaws.{EndsPassed, ending-start, ending-limit, ending-next, ending-fails, ending-done}
 use Rattle.path_tests.proofs.ends.ends_ok.Statement.{statement}
 use Rattle.path_tests.proofs.ends.ends_ok.Tie as tie
 
 abbrev Inv-loop : tie.InvT-loop
-Inv-loop left right limit last₀ i₀ i-end last i = Ending left right limit i-end last i
+Inv-loop left right limit last₀ i₀ i-end last i = EndsPassed left right limit i-end last i
 
 abbrev μ-loop : tie.MeasureT-loop
 μ-loop left right limit last₀ i₀ i-end last i = i-end - i

@@ -10,8 +10,8 @@ use Rattle.plan_pieces.specs.OutputLaws.{room-parts, out-short, out-plan
 use Rattle.plan_pieces.proofs.output.hand_out.Statement.{statement}
 use Rattle.plan_pieces.proofs.output.hand_out.Tie as tie
 
-sub-count : tie.Need-sub-count
-sub-count c = search needs
+sub-piece-count : tie.Need-sub-piece-count
+sub-piece-count c = search needs
 
 has-room-requires : tie.Need-has-room-requires
 has-room-requires c κs = search needs
@@ -48,7 +48,7 @@ pub hand-out-spec : {M : Type 1} → statement M
 hand-out-spec =
     tie.close
     (tie.spec
-    sub-count
+    sub-piece-count
     has-room-requires
     returns
     write-pieces-requires

@@ -1,0 +1,68 @@
+// The reach: the least limit, at or above the maximum, that leaves few enough pieces.
+use crate::fits;
+use crate::ground::Ground;
+use base_code::sizes;
+use candidate_span::kept;
+ghost use Rattle.candidate_span.specs.Span.{spanIn};
+ghost use Rattle.completion_reach.specs.GroundLaws.{Founded};
+ghost use Rattle.completion_reach.specs.Reach.{reachOf};
+ghost use Rattle.completion_reach.specs.ReachLaws.{Bracket};
+ghost use Rattle.division.specs.Division.{piecesAsked};
+ghost use Rattle.division.specs.Reach.{IsReach};
+ghost use mathlib.Core.Path.{_≡_};
+
+// The reach, or that there is none.
+pub enum Sought {
+    Reach(u64),
+    Nothing,
+}
+
+// The reach from `maximum` to a limit that is known to be feasible.
+fn bisect(
+    x: Ground,
+    silences: &[u32],
+    asked: usize,
+    pieces: usize,
+    maximum: u64,
+    enough: u64,
+) -> u64
+    requires { ⌜ Founded x (now silences) ⌝ }
+    requires { ⌜ pieces ≡ piecesAsked (spanIn (x .gap) (x .padding) (x .span) (now silences)) asked ⌝ }
+    requires { ⌜ Bracket (x .grid) (spanIn (x .gap) (x .padding) (x .span) (now silences))
+        asked maximum maximum enough ⌝ }
+    ensures { λ r. ⌜ IsReach (x .grid) (spanIn (x .gap) (x .padding) (x .span) (now (silences .entry)))
+        asked maximum r ⌝ }
+{
+    let mut low = maximum;
+    let mut high = enough;
+    while low < high {
+        let middle = low + (high - low) / 2;
+        if fits::fits(x, silences, pieces, middle) {
+            high = middle;
+        } else {
+            low = middle + 1;
+        }
+    }
+    low
+}
+
+// The reach for so many pieces as are asked for.
+pub fn reach(x: Ground, silences: &[u32], asked: usize, maximum: u64) -> Sought
+    requires { ⌜ Founded x (now silences) ⌝ }
+    ensures { λ r. ⌜ r
+        ≡ reachOf (x .grid) (spanIn (x .gap) (x .padding) (x .span) (now (silences .entry))) asked maximum ⌝ }
+{
+    let g = x.grid;
+    let gap = x.gap;
+    let frames = kept::kept_frames(gap, x.padding, x.span.first, x.span.last, silences);
+    let pieces = sizes::lesser(asked, frames);
+    if fits::fits(x, silences, pieces, maximum) {
+        return Sought::Reach(maximum);
+    }
+    // one piece at most is as long as the span
+    let whole = g.position(x.span.last) - g.position(x.span.first);
+    if fits::fits(x, silences, pieces, whole) {
+        return Sought::Reach(bisect(x, silences, asked, pieces, maximum, whole));
+    }
+    Sought::Nothing
+}

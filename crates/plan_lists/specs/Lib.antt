@@ -1,0 +1,10 @@
+-- What is written within one of a plan's work lists from what else stands in it.
+pub mod Within
+pub mod WithinLaws
+pub mod CopyLaws
+pub mod Back
+pub mod BackLaws
+pub mod Positions
+pub mod EndsLaws
+pub mod PositionsLaws
+pub mod WrittenLaws
