@@ -17,6 +17,12 @@ mod plan;
 mod silences;
 mod validate;
 
+use std::collections::BTreeMap;
+use std::iter;
+use std::sync::atomic::{AtomicUsize, Ordering};
+use std::sync::mpsc;
+use std::thread;
+
 use crate::rng::Rng;
 use crate::tally::Tally;
 
@@ -47,12 +53,22 @@ struct Subject {
     ask: Box<Ask>,
 }
 
-type Ask = dyn Fn(Amount, &mut Rng, &mut Tally);
+type Ask = dyn Fn(Amount, &mut Rng, &mut Tally) + Sync;
 
 impl Subject {
-    fn new(name: &'static str, ask: impl Fn(Amount, &mut Rng, &mut Tally) + 'static) -> Self {
+    fn new(
+        name: &'static str,
+        ask: impl Fn(Amount, &mut Rng, &mut Tally) + Sync + 'static,
+    ) -> Self {
         let ask = Box::new(ask);
         Self { name, ask }
+    }
+
+    /// Every subject starts from the seed, so that one more changes no other's inputs.
+    fn asked(&self, amount: Amount, seed: u64) -> Tally {
+        let mut tally = Tally::new(self.name);
+        (self.ask)(amount, &mut Rng::new(seed), &mut tally);
+        tally
     }
 }
 
@@ -65,16 +81,45 @@ pub fn run(amount: Amount, seed: u64, names: &[String]) -> Result<bool, String> 
         }
     }
     println!("seed {seed}");
-    let mut equal = true;
-    for subject in &subjects {
-        if names.is_empty() || names.iter().any(|n| n == subject.name) {
-            let mut tally = Tally::new(subject.name);
-            // Every subject starts from the seed, so that one more changes no other's inputs.
-            (subject.ask)(amount, &mut Rng::new(seed), &mut tally);
+    let named = |s: &&Subject| names.is_empty() || names.iter().any(|n| n == s.name);
+    let chosen: Vec<&Subject> = subjects.iter().filter(named).collect();
+    Ok(compare_all(&chosen, amount, seed))
+}
+
+/// Compares each subject, as many at a time as there are cores, and reports them in their order;
+/// true where nothing differs. A subject that panics fails the run, once the others have ended.
+fn compare_all(subjects: &[&Subject], amount: Amount, seed: u64) -> bool {
+    let cores = thread::available_parallelism().map_or(1, usize::from);
+    let next = AtomicUsize::new(0);
+    let (ended, reports) = mpsc::channel();
+    thread::scope(|scope| {
+        for _ in 0..cores {
+            let (next, ended) = (&next, ended.clone());
+            scope.spawn(move || {
+                let numbers = iter::from_fn(|| Some(next.fetch_add(1, Ordering::Relaxed)));
+                for number in numbers.take_while(|n| *n < subjects.len()) {
+                    let tally = subjects[number].asked(amount, seed);
+                    let report = ended.send((number, tally));
+                    report.expect("reports are taken until all have ended");
+                }
+            });
+        }
+        drop(ended);
+        report_in_order(reports)
+    })
+}
+
+/// Reports each subject once those before it are reported; true where nothing differs.
+fn report_in_order(reports: mpsc::Receiver<(usize, Tally)>) -> bool {
+    let (mut equal, mut next, mut early) = (true, 0, BTreeMap::new());
+    for (number, tally) in reports {
+        early.insert(number, tally);
+        while let Some(tally) = early.remove(&next) {
             equal &= tally.report();
+            next += 1;
         }
     }
-    Ok(equal)
+    equal
 }
 
 fn subjects() -> Vec<Subject> {

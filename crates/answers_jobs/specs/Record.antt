@@ -22,24 +22,24 @@ unfoldable pub sameBytes : List ℕ → List ℕ → Bool
 sameBytes xs ys = eqb (length xs) (length ys) && allBelow (sameByte xs ys) (length xs)
 
 -- the bytes from place a up to place b
-abbrev pub between : ℕ → ℕ → List ℕ → List ℕ
-between a b s = take (b - a) (drop a s)
+abbrev pub bytesBetween : ℕ → ℕ → List ℕ → List ℕ
+bytesBetween a b s = take (b - a) (drop a s)
 
 -- a whole record at the front of a sample, its job of j bytes and its listing of l: whether the port's listing is the stored one
 abbrev pub whole : List ℕ → ℕ → ℕ → Replayed
 whole s j l = record {
   size = j + 4 + l;
-  same = sameBytes (cutplanOf (between 2 (j + 2) s)) (between (j + 4) (j + 4 + l) s);
+  same = sameBytes (cutplanOf (bytesBetween 2 (j + 2) s)) (bytesBetween (j + 4) (j + 4 + l) s);
 }
 
 -- what is left, where it is no whole record, agrees with nothing
-abbrev pub rest : List ℕ → Replayed
-rest s = record { size = length s; same = false }
+abbrev pub brokenOff : List ℕ → Replayed
+brokenOff s = record { size = length s; same = false }
 
 -- the record at the front of a sample, where its job has j bytes
 abbrev pub replayedWith : List ℕ → ℕ → Replayed
-replayedWith s j = cond (ltb (length s - j - 4) (u16At s (j + 2))) (rest s) (whole s j (u16At s (j + 2)))
+replayedWith s j = cond (ltb (length s - j - 4) (u16At s (j + 2))) (brokenOff s) (whole s j (u16At s (j + 2)))
 
 -- the record at the front of a sample
 unfoldable pub replayedOf : List ℕ → Replayed
-replayedOf s = cond (ltb (length s) (u16At s 0 + 4)) (rest s) (replayedWith s (u16At s 0))
+replayedOf s = cond (ltb (length s) (u16At s 0 + 4)) (brokenOff s) (replayedWith s (u16At s 0))

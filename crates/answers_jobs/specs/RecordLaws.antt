@@ -9,7 +9,7 @@ use lib.ListN.{length}
 use borrow.Author.Tests.{eq-eqb, ne-eqb, lt-ltb, le-ltb}
 use Rattle.numbers_in.specs.Numbers.{u16At}
 use Rattle.cutplan.specs.Cutplan.{cutplanOf}
-use Rattle.answers_jobs.specs.Record.{allBelow, sameByte, sameBytes, between, rest, replayedOf}
+use Rattle.answers_jobs.specs.Record.{allBelow, sameByte, sameBytes, bytesBetween, brokenOff, replayedOf}
 use Rattle.answers_jobs.specs.declared.record.Replayed.{Replayed}
 
 -- of no number, every one passes
@@ -37,19 +37,19 @@ same-bytes-done xs ys i ok e h k o =
 -- ---- the record at the front of a sample
 
 -- no room for its job and both numbers
-pub no-job : (s : List ℕ) (j : ℕ) (r : Replayed) → j ≡ u16At s 0 → length s < j + 4 → r ≡ rest s → r ≡ replayedOf s
+pub no-job : (s : List ℕ) (j : ℕ) (r : Replayed) → j ≡ u16At s 0 → length s < j + 4 → r ≡ brokenOff s → r ≡ replayedOf s
 unfolding replayedOf
 no-job s j r e h f = rw (← e, lt-ltb (length s) (j + 4) h) f
 
 -- no room for its listing
 pub no-listing : (s : List ℕ) (j l : ℕ) (r : Replayed) → j ≡ u16At s 0 → l ≡ u16At s (j + 2) → j + 4 ≤ length s
-    → length s - j - 4 < l → r ≡ rest s → r ≡ replayedOf s
+    → length s - j - 4 < l → r ≡ brokenOff s → r ≡ replayedOf s
 unfolding replayedOf
 no-listing s j l r e g h k f = rw (← e, ← g, le-ltb (length s) (j + 4) h, lt-ltb (length s - j - 4) l k) f
 
 -- a whole record
 pub whole-record : (s : List ℕ) (j l : ℕ) (same : Bool) → j ≡ u16At s 0 → l ≡ u16At s (j + 2) → j + 4 ≤ length s
-    → l ≤ length s - j - 4 → same ≡ sameBytes (cutplanOf (between 2 (j + 2) s)) (between (j + 4) (j + 4 + l) s)
+    → l ≤ length s - j - 4 → same ≡ sameBytes (cutplanOf (bytesBetween 2 (j + 2) s)) (bytesBetween (j + 4) (j + 4 + l) s)
     → record { size = j + 4 + l; same = same } ≡ replayedOf s
 unfolding replayedOf
 whole-record s j l same e g h k f = rw (← e, ← g, le-ltb (length s) (j + 4) h, le-ltb (length s - j - 4) l k, f)

@@ -6,7 +6,7 @@ use numbers_in::number;
 ghost use mathlib.Core.Path.{_≡_};
 ghost use Prim.Native.Nat.{_≤_, _<_};
 ghost use lib.ListN.{length};
-ghost use Rattle.answers_jobs.specs.Record.{sameBytes, rest, replayedOf};
+ghost use Rattle.answers_jobs.specs.Record.{sameBytes, brokenOff, replayedOf};
 ghost use Rattle.cutplan.specs.Cutplan.{cutplanOf};
 
 // What came of a record: the number of bytes that were read, and whether the port's answer is the stored one.
@@ -20,7 +20,7 @@ fn broken(s: &[u8]) -> Replayed
     requires { ⌜ 0 < length (now s) ⌝ }
     ensures { λ r. ⌜ 0 < r .size ⌝ }
     ensures { λ r. ⌜ r .size ≤ length (now (s .entry)) ⌝ }
-    ensures { λ r. ⌜ r ≡ rest (now (s .entry)) ⌝ }
+    ensures { λ r. ⌜ r ≡ brokenOff (now (s .entry)) ⌝ }
 {
     Replayed {
         size: s.len(),

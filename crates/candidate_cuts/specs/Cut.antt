@@ -26,13 +26,13 @@ unfoldable pub splitPoint : ℕ → ℕ → ℕ → ℕ → ℕ
 splitPoint next prev start end = min (max ((next + prev) / 2) start) end
 
 -- the least of a level and those of m boundaries from k on
-unfoldable pub leastFrom : List Float → Float → ℕ → ℕ → Float
-leastFrom levels least k zero = least
-leastFrom levels least k (suc m) = leastFrom levels (minOf least (getD levels k nan)) (suc k) m
+unfoldable pub leastLevelFrom : List Float → Float → ℕ → ℕ → Float
+leastLevelFrom levels least k zero = least
+leastLevelFrom levels least k (suc m) = leastLevelFrom levels (minOf least (getD levels k nan)) (suc k) m
 
 -- the least level of the boundaries from start to end, both inclusive
 unfoldable pub leastLevel : List Float → ℕ → ℕ → Float
-leastLevel levels start end = leastFrom levels (inf false) start (end + 1 - start)
+leastLevel levels start end = leastLevelFrom levels (inf false) start (end + 1 - start)
 
 -- a cut at one boundary
 abbrev pub pointCut : List Float → ℕ → SilenceCut
@@ -51,8 +51,8 @@ silenceCut gap placement p levels start end =
     cond (ltb hi lo) (pointCut levels (splitPoint hi lo start end)) (openCut gap placement levels start end lo hi)
 
 -- the candidate of silence i of a list
-abbrev pub cutAt : Gap → Placement → Padding → List Float → List ℕ → ℕ → SilenceCut
-cutAt gap placement p levels ss i = silenceCut gap placement p levels (startAt ss i) (endAt ss i)
+abbrev pub silenceCutAt : Gap → Placement → Padding → List Float → List ℕ → ℕ → SilenceCut
+silenceCutAt gap placement p levels ss i = silenceCut gap placement p levels (startAt ss i) (endAt ss i)
 
 -- ---- what it asks
 

@@ -26,7 +26,7 @@ use Rattle.candidate_span.specs.Gaps.{Cut, silenceGap, gapsOf}
 use Rattle.candidate_span.specs.GapsLaws.{gap-parts}
 use Rattle.candidate_span.specs.GapsFrom.{GapAt, gap-from, gap-in}
 use Rattle.plan_settings.specs.Tests.{ratioOk}
-use Rattle.candidate_cuts.specs.Cut.{cutAt, Inner}
+use Rattle.candidate_cuts.specs.Cut.{silenceCutAt, Inner}
 use Rattle.candidate_cuts.specs.CutLaws.{cut-within, hasGap, has-gap, edgesOf, cut-gap, cut-gap-is}
 
 -- what a plan has when its silences are cut: a span, a level for each frame boundary, and a ratio that refusal 9 passes
@@ -51,7 +51,7 @@ module _ (gap : Gap) (placement : Placement) (p : Padding) (levels : List Float)
 
   -- its cut lies strictly inside the span
   pub cut-inside : (i : ℕ) → InnerAt (p .frames) ss i
-      → (firstOf gap p ss < cutAt gap placement p levels ss i .left) × (cutAt gap placement p levels ss i .right < lastOf gap p ss)
+      → (firstOf gap p ss < silenceCutAt gap placement p levels ss i .left) × (silenceCutAt gap placement p levels ss i .right < lastOf gap p ss)
   cut-inside i a =
       let q = inner-parts (p .frames) (startAt ss i) (endAt ss i) (a .inner) in
       let w = cut-within placement p levels (startAt ss i) (endAt ss i) (inner-cut i a) gap in
@@ -59,7 +59,7 @@ module _ (gap : Gap) (placement : Placement) (p : Padding) (levels : List Float)
 
   -- and before that of a later one
   pub cuts-apart : (i j : ℕ) → i < j → InnerAt (p .frames) ss i → InnerAt (p .frames) ss j
-      → cutAt gap placement p levels ss i .right < cutAt gap placement p levels ss j .left
+      → silenceCutAt gap placement p levels ss i .right < silenceCutAt gap placement p levels ss j .left
   cuts-apart i j h a b =
       let v = cut-within placement p levels (startAt ss i) (endAt ss i) (inner-cut i a) gap in
       let w = cut-within placement p levels (startAt ss j) (endAt ss j) (inner-cut j b) gap in
@@ -71,7 +71,7 @@ module _ (gap : Gap) (placement : Placement) (p : Padding) (levels : List Float)
   pub record CutWith (g : Cut) : Type 0 where
     pub number : ℕ
     pub at : InnerAt (p .frames) ss number
-    pub is : g ≡ edgesOf (cutAt gap placement p levels ss number)
+    pub is : g ≡ edgesOf (silenceCutAt gap placement p levels ss number)
 
   gap-listed : (drop : Gap) (i : ℕ) → i < silenceCount ss → hasGap drop p (startAt ss i) (endAt ss i) ≡ true
       → List·Memᴰ (silenceGap p (startAt ss i) (endAt ss i)) (gapsOf drop p ss)
@@ -80,10 +80,10 @@ module _ (gap : Gap) (placement : Placement) (p : Padding) (levels : List Float)
   gap-listed Drop i h t = gap-in p ss i h t
 
   -- a cut whose left end is below its right end is a dropped gap
-  pub cut-dropped : (i : ℕ) → InnerAt (p .frames) ss i → cutAt gap placement p levels ss i .left < cutAt gap placement p levels ss i .right
-      → List·Memᴰ (edgesOf (cutAt gap placement p levels ss i)) (gapsOf gap p ss)
+  pub cut-dropped : (i : ℕ) → InnerAt (p .frames) ss i → silenceCutAt gap placement p levels ss i .left < silenceCutAt gap placement p levels ss i .right
+      → List·Memᴰ (edgesOf (silenceCutAt gap placement p levels ss i)) (gapsOf gap p ss)
   cut-dropped i a h =
-      let c = cutAt gap placement p levels ss i in
+      let c = silenceCutAt gap placement p levels ss i in
       let q = inner-cut i a in
       let t : hasGap gap p (startAt ss i) (endAt ss i) ≡ true =
       sym (cut-gap placement p levels (startAt ss i) (endAt ss i) q gap) ∙ lt-ltb (c .left) (c .right) h in

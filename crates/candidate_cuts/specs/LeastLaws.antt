@@ -17,27 +17,27 @@ use Rattle.base_laws.specs.Nonneg.{nonneg-number}
 use Rattle.base_laws.specs.Clamp.{min-one, min-below}
 use Rattle.candidate_costs.specs.Normalize.{unit}
 use Rattle.candidate_costs.specs.NormalizeLaws.{OnScale}
-use Rattle.candidate_cuts.specs.Cut.{leastFrom, leastLevel}
+use Rattle.candidate_cuts.specs.Cut.{leastLevelFrom, leastLevel}
 
 -- ---- while it is sought
 
 -- a loop has come to boundary k with the level a
 abbrev pub Lowering : List Float → ℕ → ℕ → Float → ℕ → Type 0
-Lowering levels start end a k = (start ≤ k) × (k ≤ end + 1) × (leastFrom levels a k (end + 1 - k) ≡ leastLevel levels start end)
+Lowering levels start end a k = (start ≤ k) × (k ≤ end + 1) × (leastLevelFrom levels a k (end + 1 - k) ≡ leastLevel levels start end)
 
 module _ (levels : List Float) (start end : ℕ) (a : Float) (k : ℕ) where
   -- one boundary more
   pub lowering-next : k < end + 1 → Lowering levels start end a k → Lowering levels start end (minOf a (getD levels k nan)) (k + 1)
-  unfolding leastFrom
+  unfolding leastLevelFrom
   lowering-next h (l, m, e) =
       let d : end + 1 - k ≡ suc (end + 1 - (k + 1)) = omega arith in
-      let one = ap (λ (j : ℕ). leastFrom levels (minOf a (getD levels k nan)) j (end + 1 - (k + 1))) (sym (add-one k)) in
-      (omega arith, omega arith, sym (ap (leastFrom levels a k) d ∙ one) ∙ e)
+      let one = ap (λ (j : ℕ). leastLevelFrom levels (minOf a (getD levels k nan)) j (end + 1 - (k + 1))) (sym (add-one k)) in
+      (omega arith, omega arith, sym (ap (leastLevelFrom levels a k) d ∙ one) ∙ e)
 
   -- no boundary is left
   pub lowering-done : end + 1 ≤ k → Lowering levels start end a k → a ≡ leastLevel levels start end
-  unfolding leastFrom
-  lowering-done h (l, m, e) = let d : end + 1 - k ≡ 0 = omega arith in sym (ap (leastFrom levels a k) d) ∙ e
+  unfolding leastLevelFrom
+  lowering-done h (l, m, e) = let d : end + 1 - k ≡ 0 = omega arith in sym (ap (leastLevelFrom levels a k) d) ∙ e
 
 -- ---- what it is
 
@@ -58,8 +58,8 @@ module _ (levels : List Float) (start end : ℕ) (order : start ≤ end) (scale 
         ],
       )
 
-  least-from : (m k : ℕ) (a : Float) → k + m ≡ end + 1 → Least a k → Least (leastFrom levels a k m) (end + 1)
-  unfolding leastFrom
+  least-from : (m k : ℕ) (a : Float) → k + m ≡ end + 1 → Least a k → Least (leastLevelFrom levels a k m) (end + 1)
+  unfolding leastLevelFrom
   least-from zero k a e p = let s : k ≡ end + 1 = omega arith in subst (Least a) s p
   least-from (suc m) k a e p = least-from m (suc k) (minOf a (getD levels k nan)) (omega arith) (least-next a k (omega arith) p)
 

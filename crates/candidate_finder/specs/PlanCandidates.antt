@@ -30,7 +30,7 @@ use Rattle.candidate_finder.specs.CandidatesIn.{runsIn, boundaryLevelsIn
 use Rattle.candidate_finder.specs.SpanIn.{spacingIn, firstIn, lastIn, gapsIn, blockedIn}
 
 -- a candidate with left end k, by its number
-pub record StartsAt (cs : List Candidate) (k : ℕ) : Type 0 where
+pub record HasLeftEnd (cs : List Candidate) (k : ℕ) : Type 0 where
   pub number : ℕ
   pub counted : number < length cs
   pub at : candidateAt cs number .left ≡ k
@@ -74,7 +74,7 @@ module _ (r : Recording) (segment : SegmentConfig) (settings : PlanConfig) (valu
     -- nothing is listed outside the span: the Rust's `retain` removes nothing
     pub inside : (c : Candidate) → List·Memᴰ c (listedIn r segment settings values flags levels) → (first < c .left) × (c .right < last)
     -- "One candidate survives for each left end"
-    pub survivor : (c : Candidate) → List·Memᴰ c (listedIn r segment settings values flags levels) → StartsAt cs (c .left)
+    pub survivor : (c : Candidate) → List·Memᴰ c (listedIn r segment settings values flags levels) → HasLeftEnd cs (c .left)
     -- "A dropped gap is a candidate whose left end is below its right end": those candidates and no others
     pub gap-dropped : (i : ℕ) → i < length cs → candidateAt cs i .left < candidateAt cs i .right → List·Memᴰ (candidateCut (candidateAt cs i)) (gapsIn r segment settings values flags)
     pub gap-found : (gap : Cut) → List·Memᴰ gap (gapsIn r segment settings values flags) → Ends cs gap

@@ -43,7 +43,7 @@ use Rattle.candidates.specs.declared.candidate.Candidate.{Candidate}
 use Rattle.candidates.specs.declared.context.Context.{Context}
 use Rattle.candidate_finder.specs.CandidatesIn.{recordingLevels, runsIn, boundaryLevelsIn, contextOf, gridPointsIn, listedIn, candidatesIn}
 use Rattle.candidate_finder.specs.SpanIn.{spacingIn, emptyIn, firstIn, lastIn, blockedIn}
-use Rattle.candidate_finder.specs.PlanCandidates.{StartsAt, QuietestOfBlock, PlanCandidates, PlanCosts}
+use Rattle.candidate_finder.specs.PlanCandidates.{HasLeftEnd, QuietestOfBlock, PlanCandidates, PlanCosts}
 use Rattle.candidate_finder.specs.Holds.{silences-are}
 use Rattle.candidate_finder.specs.Stretches.{stretches-most}
 
@@ -123,7 +123,7 @@ module _ (r : Recording) (segment : SegmentConfig) (settings : PlanConfig) (valu
     in-order c (point k t e) = rw (e, point-ends x ss runs boundary-levels ks k .0, point-ends x ss runs boundary-levels ks k .1) (le-of-eq refl)
 
     -- one survives for each left end that is listed
-    survives : (c : Candidate) → List·Memᴰ c (listedIn r segment settings values flags levels) → StartsAt (candidatesOf x ss runs boundary-levels ks first last) (c .left)
+    survives : (c : Candidate) → List·Memᴰ c (listedIn r segment settings values flags levels) → HasLeftEnd (candidatesOf x ss runs boundary-levels ks first last) (c .left)
     survives c m =
         let i = listed-inside x ss runs boundary-levels ks first last planned inside c m in
         let from = listed-source x ss runs boundary-levels ks c m in

@@ -92,7 +92,7 @@ module _ (r : Recording) (segment : SegmentConfig) (settings : PlanConfig) (valu
   -- ---- the statements
 
   -- where k candidates were found: the output's front is document 01's list, and all that the papers say of one holds of it
-  pub record Handed (k : ℕ) : Type 0 where
+  pub record CandidatesHanded (k : ℕ) : Type 0 where
     -- no test before 12 fails
     pub accepted : verdict ≡ Fine
     -- three numbers and a cost for each candidate, in front of what stood in the output before
@@ -116,7 +116,7 @@ module _ (r : Recording) (segment : SegmentConfig) (settings : PlanConfig) (valu
     ready = fine-ready r segment settings values flags levels (length (work .u32s)) (length (work .u64s)) (length (work .f64s)) (found-of k found .fine)
 
     -- the theorem: with no hypothesis but the answer
-    pub found-handed : Handed k
+    pub found-handed : CandidatesHanded k
     found-handed =
         let f = found-of k found in
         record {

@@ -17,7 +17,8 @@ ghost use Rattle.base_terms.specs.Layout.{entriesAt, costsAt};
 ghost use Rattle.base_terms.specs.Lists.{onto};
 ghost use Rattle.base_terms.specs.Work.{workOf};
 ghost use Rattle.plan_tests.specs.Fitting.{Fitting};
-ghost use Rattle.candidate_list.specs.CandidateList.{outputOf, endOf, hasRoom, handedOutOf, candidateListOf, numberOf};
+ghost use Rattle.candidate_list.specs.CandidateList.{outputOf, endOf, hasRoom, handedOutOf};
+ghost use Rattle.candidate_list.specs.CandidateList.{candidateListOf, numberOf};
 ghost use Rattle.candidate_list.specs.CandidateListLaws.{Copyable};
 
 // What the operation answers: how many candidates it wrote, or why it wrote none.

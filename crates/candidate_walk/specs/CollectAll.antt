@@ -22,7 +22,7 @@ use Rattle.candidates.specs.Candidates.{node, candidatesOf}
 use Rattle.candidates.specs.Row.{survivors-few}
 use Rattle.candidate_walk.specs.Collect.{innerFrom, innerTo, listedHeld, insideHeld, collected}
 use Rattle.candidate_walk.specs.CollectLaws.{AtSilence, Collectable}
-use Rattle.candidate_walk.specs.CollectStep.{Ranged, last-in, first-below}
+use Rattle.candidate_walk.specs.CollectStep.{InnerRange, last-in, first-below}
 use Rattle.candidate_walk.specs.CollectDone.{held-ranged}
 
 -- what is placed right before what was placed
@@ -81,7 +81,7 @@ module _ {x : Context} {span : HeldSpan} {from stop : ℕ} {work : List ℕ} {wo
   frames = x .padding .frames
 
   -- the walk looks at the silences with sound on both sides
-  pub all-ranged : Ranged x (silencesHeld (span .silences) work) from stop
+  pub all-ranged : InnerRange x (silencesHeld (span .silences) work) from stop
   all-ranged = rw (begins, ends) (held-ranged x (span .silences) work workf (c .holding))
 
   -- the first silence of the range can be cut

@@ -18,7 +18,7 @@ use Rattle.candidates.specs.declared.context.Context.{Context}
 use Rattle.candidate_walk.specs.Held.{silencesHeld}
 use Rattle.candidate_walk.specs.Collect.{innerFrom, innerTo}
 use Rattle.candidate_walk.specs.CollectLaws.{Holding}
-use Rattle.candidate_walk.specs.CollectStep.{Ranged}
+use Rattle.candidate_walk.specs.CollectStep.{InnerRange}
 
 -- ---- the silences with sound on both sides
 
@@ -108,7 +108,7 @@ module _ (x : Context) (silences : ℕ) (work : List ℕ) (workf : List Float) (
       ]
 
   -- the range that the walk looks at
-  pub held-ranged : Ranged x ss (innerFrom silences work) (innerTo n silences work)
+  pub held-ranged : InnerRange x ss (innerFrom silences work) (innerTo n silences work)
   held-ranged = record {
     stops = omega (arith, held-count, to-most);
     inner = λ (j : ℕ) (a : innerFrom silences work ≤ j) (b : j < innerTo n silences work).

@@ -25,7 +25,7 @@ use Rattle.candidates.specs.EntriesLaws.{entries-length, costs-length, entries-
 use Rattle.candidate_walk.specs.HeldLaws.{placed-more, placed-none}
 use Rattle.candidate_walk.specs.Collect.{ownHere, nextOwn, hereOf, walkOf, listedHeld, insideHeld}
 use Rattle.candidate_walk.specs.CollectLaws.{Collectable, own-parts, none-entries, none-costs, none-walk}
-use Rattle.candidate_walk.specs.CollectStep.{Ranged, WalkHolds, last-in, first-below, own-after, here-is, own-same, own-starts, later, next-inner, none-own}
+use Rattle.candidate_walk.specs.CollectStep.{InnerRange, WalkHolds, last-in, first-below, own-after, here-is, own-same, own-starts, later, next-inner, none-own}
 
 -- ---- what a step changes
 
@@ -56,7 +56,7 @@ module _ (x : Context) (silences stop k : ℕ) (mark : Bool) (w : Walk) (work : 
 -- ---- the next boundary
 
 module _ {x : Context} {span : HeldSpan} {stop from : ℕ} {work₀ : List ℕ} {workf₀ : List Float} (c : Collectable x span work₀ workf₀)
-    (r : Ranged x (silencesHeld (span .silences) work₀) from stop) {k : ℕ} {w : Walk} {work : List ℕ} {workf : List Float}
+    (r : InnerRange x (silencesHeld (span .silences) work₀) from stop) {k : ℕ} {w : Walk} {work : List ℕ} {workf : List Float}
     (g : WalkHolds x span stop from work₀ workf₀ k w work workf) (more : k < span .last)
     {mark : Bool} (read : mark ≡ marked (x .padding .frames) work k) where
   abbrev n : ℕ
@@ -187,7 +187,7 @@ module _ {x : Context} {span : HeldSpan} {stop from : ℕ} {work₀ : List ℕ} 
 -- ---- start and end
 
 module _ {x : Context} {span : HeldSpan} {stop from : ℕ} {work₀ : List ℕ} {workf₀ : List Float} (c : Collectable x span work₀ workf₀)
-    (r : Ranged x (silencesHeld (span .silences) work₀) from stop) where
+    (r : InnerRange x (silencesHeld (span .silences) work₀) from stop) where
   abbrev all-listed : List Candidate
   all-listed = listedHeld x span work₀ workf₀
 

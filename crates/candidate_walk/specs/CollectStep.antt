@@ -64,7 +64,7 @@ module _ (p : ℕ → Bool) where
   ]
 
 -- the silences with sound on both sides are those from `from` up to `stop`
-pub record Ranged (x : Context) (ss : List ℕ) (from stop : ℕ) : Type 0 where
+pub record InnerRange (x : Context) (ss : List ℕ) (from stop : ℕ) : Type 0 where
   pub stops : stop ≤ silenceCount ss
   pub inner : (j : ℕ) → from ≤ j → j < stop → InnerAt (x .padding .frames) ss j
   pub only : (j : ℕ) → InnerAt (x .padding .frames) ss j → (from ≤ j) × (j < stop)
@@ -94,7 +94,7 @@ pub record WalkHolds (x : Context) (span : HeldSpan) (stop from : ℕ) (work₀ 
   pub own : w .own ≡ nextOwn x (span .silences) stop work₀ workf₀ (w .silence)
 
 module _ {x : Context} {span : HeldSpan} {stop from : ℕ} {work₀ : List ℕ} {workf₀ : List Float} (c : Collectable x span work₀ workf₀)
-    (r : Ranged x (silencesHeld (span .silences) work₀) from stop) where
+    (r : InnerRange x (silencesHeld (span .silences) work₀) from stop) where
   abbrev n : ℕ
   n = x .padding .frames
 

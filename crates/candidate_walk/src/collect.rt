@@ -17,7 +17,7 @@ ghost use Rattle.candidate_walk.specs.Held.{silencesHeld};
 ghost use Rattle.candidate_walk.specs.Collect.{ownHere, nextOwn, entriesHere, costsHere, walkOf};
 ghost use Rattle.candidate_walk.specs.Collect.{innerFrom, innerTo, insideHeld, collected, entriesAll, costsAll};
 ghost use Rattle.candidate_walk.specs.CollectLaws.{Passing, Collectable};
-ghost use Rattle.candidate_walk.specs.CollectStep.{Ranged};
+ghost use Rattle.candidate_walk.specs.CollectStep.{InnerRange};
 
 // What the walk over the boundaries holds.
 pub struct Walk {
@@ -94,7 +94,7 @@ fn pass_all(
     work_f64: &mut [f64],
 ) -> usize
     requires { ⌜ Collectable x span (now «work_u32») (now «work_f64») ⌝ }
-    requires { ⌜ Ranged x (silencesHeld (span .silences) (now «work_u32»)) from stop ⌝ }
+    requires { ⌜ InnerRange x (silencesHeld (span .silences) (now «work_u32»)) from stop ⌝ }
     requires { ⌜ own ≡ nextOwn x (span .silences) stop (now «work_u32») (now «work_f64») from ⌝ }
     ensures { λ r. ⌜ r ≡ length (insideHeld x span (now («work_u32» .entry)) (now («work_f64» .entry))) + 1 ⌝ }
     ensures { λ _. ⌜ now («work_u32» .exit)

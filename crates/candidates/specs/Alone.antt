@@ -17,7 +17,7 @@ use Rattle.candidates.specs.Candidates.{ownAt, candidatesOf}
 use Rattle.candidates.specs.Members.{candidateAt, at-member}
 use Rattle.candidates.specs.Sources.{droppedOf, Planned, Source, own, point, point-ends, own-inside, own-dropped, own-only}
 use Rattle.candidates.specs.Order.{candidates-apart}
-use Rattle.candidates.specs.Found.{every, listed-found}
+use Rattle.candidates.specs.Found.{candidate-every, listed-found}
 
 -- both ends of a candidate
 abbrev pub candidateCut : Candidate → Cut
@@ -32,7 +32,7 @@ module _ (x : Context) (ss runs : List ℕ) (levels : List Float) (ks : List ℕ
     -- a candidate whose left end is below its right end is a dropped gap
     pub gap-dropped : (i : ℕ) → i < length cs → candidateAt cs i .left < candidateAt cs i .right → List·Memᴰ (candidateCut (candidateAt cs i)) (droppedOf x ss)
     gap-dropped i h =
-        every x ss runs levels ks first last (λ (c : Candidate). c .left < c .right → List·Memᴰ (candidateCut c) (droppedOf x ss)) (λ (l : first < first). absurd (omega arith)) (λ (l : last < last). absurd (omega arith))
+        candidate-every x ss runs levels ks first last (λ (c : Candidate). c .left < c .right → List·Memᴰ (candidateCut c) (droppedOf x ss)) (λ (l : first < first). absurd (omega arith)) (λ (l : last < last). absurd (omega arith))
         (λ (c : Candidate) (s : Source x ss runs levels ks c) (f : first < c .left) (l : c .left < last). go c s)
         (candidateAt cs i) (at-member cs i h)
       where
@@ -51,7 +51,7 @@ module _ (x : Context) (ss runs : List ℕ) (levels : List Float) (ks : List ℕ
         → (c : Candidate) → List·Memᴰ c cs → c .left ≡ ownAt x ss levels j .left → c ≡ ownAt x ss levels j
     own-alone j a h =
         let w = own-inside x ss runs levels ks first last p j a in
-        every x ss runs levels ks first last (λ (c : Candidate). c .left ≡ ownAt x ss levels j .left → c ≡ ownAt x ss levels j)
+        candidate-every x ss runs levels ks first last (λ (c : Candidate). c .left ≡ ownAt x ss levels j .left → c ≡ ownAt x ss levels j)
         (λ (e : first ≡ ownAt x ss levels j .left). absurd (omega (arith, w .0))) (λ (e : last ≡ ownAt x ss levels j .left). absurd (omega (arith, w .1, w .2)))
         (λ (c : Candidate) (s : Source x ss runs levels ks c) (f : first < c .left) (l : c .left < last). own-only x ss runs levels ks first last p j c a h s)
 

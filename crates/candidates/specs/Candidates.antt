@@ -14,7 +14,7 @@ use Rattle.candidate_span.specs.Listed.{silenceCount, startAt, endAt}
 use Rattle.candidate_points.specs.Blocked.{touches}
 use Rattle.candidate_costs.specs.Cost.{cutCost}
 use Rattle.candidate_costs.specs.Stretch.{stretchAt, secsOf}
-use Rattle.candidate_cuts.specs.Cut.{cutAt}
+use Rattle.candidate_cuts.specs.Cut.{silenceCutAt}
 use Rattle.candidates.specs.declared.candidate.Reason.{Reason}
 use Rattle.candidates.specs.declared.candidate.Reason.the-variants.{Silence, Quiet, Forced}
 use Rattle.candidates.specs.declared.candidate.Candidate.{Candidate}
@@ -46,8 +46,8 @@ unfoldable pub inPause : Context → List ℕ → ℕ → Bool
 inPause x ss k = pausesBy x ss (silenceCount ss) k
 
 -- why a point at boundary k is cut there: it lies in silence beyond the padding; its level is in the quietest quarter of the scale; or neither, which is forced
-unfoldable pub reasonAt : Context → List ℕ → List Float → ℕ → Reason
-reasonAt x ss levels k = cond (inPause x ss k) Silence (cond (le (getD levels k nan) quietLevel) Quiet Forced)
+unfoldable pub pointReason : Context → List ℕ → List Float → ℕ → Reason
+pointReason x ss levels k = cond (inPause x ss k) Silence (cond (le (getD levels k nan) quietLevel) Quiet Forced)
 
 -- the point at boundary k, any boundary: what a block gives at its quietest, and what completion adds
 unfoldable pub pointAt : Context → List ℕ → List ℕ → List Float → ℕ → Candidate
@@ -55,13 +55,13 @@ pointAt x ss runs levels k = record {
   left = k;
   right = k;
   cost = cutCost (x .weights) (getD levels k nan) (secsOf (x .«frame_secs») (stretchAt runs k));
-  reason = reasonAt x ss levels k;
+  reason = pointReason x ss levels k;
 }
 
 -- the own candidate of silence i
 unfoldable pub ownAt : Context → List ℕ → List Float → ℕ → Candidate
 ownAt x ss levels i =
-    let c = cutAt (x .gap) (x .placement) (x .padding) levels ss i in
+    let c = silenceCutAt (x .gap) (x .placement) (x .padding) levels ss i in
     record { left = c .left; right = c .right; cost = cutCost (x .weights) (c .level) (secsOf (x .«frame_secs») (endAt ss i - startAt ss i)); reason = Silence }
 
 -- ---- the list of all

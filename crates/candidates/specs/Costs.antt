@@ -19,7 +19,7 @@ use Rattle.plan_settings.specs.Tests.{weightsOk}
 use Rattle.candidate_span.specs.Kept.{boundaries}
 use Rattle.candidate_span.specs.Listed.{startAt, endAt}
 use Rattle.candidate_span.specs.ListedLaws.{listed-within}
-use Rattle.candidate_cuts.specs.Cut.{cutAt}
+use Rattle.candidate_cuts.specs.Cut.{silenceCutAt}
 use Rattle.candidate_cuts.specs.CutLaws.{cut-level}
 use Rattle.candidate_cuts.specs.CutsLaws.{InnerAt, inner-cut}
 use Rattle.candidate_costs.specs.Cost.{cutCost}
@@ -33,7 +33,7 @@ use Rattle.candidates.specs.Candidates.{pointAt, ownAt, allListed, candi
 use Rattle.candidates.specs.Members.{candidateAt, at-member, survivor-of}
 use Rattle.candidates.specs.Sources.{Planned, Source, own, point, point-ends}
 use Rattle.candidates.specs.Order.{span-ends}
-use Rattle.candidates.specs.Found.{every, inside-span, inner-survives, candidate-source}
+use Rattle.candidates.specs.Found.{candidate-every, inside-span, inner-survives, candidate-source}
 
 -- what costs are made with: weights that refusal 10 passes, levels from 0 to 1, the grid's frame, and a stretch for each frame
 pub record Costable (x : Context) (g : FrameGrid) (runs : List ℕ) (levels : List Float) : Type 0 where
@@ -70,7 +70,7 @@ module _ (x : Context) (g : FrameGrid) (runs : List ℕ) (levels : List Float) (
       own-has : (i : ℕ) → InnerAt (x .padding .frames) ss i → P (ownAt x ss levels i .cost)
       unfolding ownAt
       own-has i a =
-          let c = cutAt (x .gap) (x .placement) (x .padding) levels ss i in
+          let c = silenceCutAt (x .gap) (x .placement) (x .padding) levels ss i in
           let w = cut-level (x .placement) (x .padding) levels (startAt ss i) (endAt ss i)
           (inner-cut (x .gap) (x .placement) (x .padding) levels ss (p .prepared) i a) (q .scale) (x .gap) in
           f (c .level) (secsOf (x .«frame_secs») (endAt ss i - startAt ss i)) w
@@ -97,7 +97,7 @@ module _ (x : Context) (g : FrameGrid) (runs : List ℕ) (levels : List Float) (
     -- so is every cost
     pub candidate-cost : (i : ℕ) → i < length cs → T (nonneg (candidateAt cs i .cost))
     candidate-cost i h =
-        every x ss runs levels ks first last (λ (c : Candidate). T (nonneg (c .cost))) nought-nonneg nought-nonneg
+        candidate-every x ss runs levels ks first last (λ (c : Candidate). T (nonneg (c .cost))) nought-nonneg nought-nonneg
         (λ (c : Candidate) (s : Source x ss runs levels ks c) (f : first < c .left) (l : c .left < last). source-cost c s l)
         (candidateAt cs i) (at-member cs i h)
 

@@ -26,10 +26,10 @@ module _ (x : Context) (ss runs : List ℕ) (levels : List Float) (ks : List ℕ
   inside-span k m = let i = of-boundaries first (last - suc first) k m in (i .0, omega (arith, i .0, i .1))
 
   -- what holds of both ends, and of what is listed strictly inside the span, holds of every candidate
-  pub every : (P : Candidate → Type 0) → P (node first) → P (node last) → ((c : Candidate) → Source x ss runs levels ks c → first < c .left → c .left < last → P c)
+  pub candidate-every : (P : Candidate → Type 0) → P (node first) → P (node last) → ((c : Candidate) → Source x ss runs levels ks c → first < c .left → c .left < last → P c)
       → (c : Candidate) → List·Memᴰ c cs → P c
   unfolding candidatesOf
-  every P a z f c m = elim (List·Memᴰ·cases-cons m) [ inl e ↦ subst P (sym e) a | inr i ↦ rest (List·Memᴰ·append-cases (candidatesInside x ss runs levels ks first last) i) ]
+  candidate-every P a z f c m = elim (List·Memᴰ·cases-cons m) [ inl e ↦ subst P (sym e) a | inr i ↦ rest (List·Memᴰ·append-cases (candidatesInside x ss runs levels ks first last) i) ]
     where
       inner : List·Memᴰ c (candidatesInside x ss runs levels ks first last) → P c
       inner i =

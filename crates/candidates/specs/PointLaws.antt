@@ -13,7 +13,7 @@ use Rattle.candidate_cuts.specs.Cut.{silenceCut, Inner}
 use Rattle.candidates.specs.declared.candidate.Reason.{Reason}
 use Rattle.candidates.specs.declared.candidate.Reason.the-variants.{Silence}
 use Rattle.candidates.specs.declared.context.Context.{Context}
-use Rattle.candidates.specs.Candidates.{reasonAt, pointAt, ownAt}
+use Rattle.candidates.specs.Candidates.{pointReason, pointAt, ownAt}
 
 -- silences, and a level at boundary k
 pub record Heard (x : Context) (ss : List ℕ) (levels : List Float) (k : ℕ) : Type 0 where
@@ -42,6 +42,6 @@ module _ (x : Context) (ss : List ℕ) (levels : List Float) where
 
   -- the parts that `point` reckons make the point
   pub point-is : (runs : List ℕ) (k stretch : ℕ) (secs cost : Float) (reason : Reason) → stretch ≡ stretchAt runs k → secs ≡ secsOf (x .«frame_secs») stretch
-      → cost ≡ cutCost (x .weights) (getD levels k nan) secs → reason ≡ reasonAt x ss levels k → record { left = k; right = k; cost = cost; reason = reason } ≡ pointAt x ss runs levels k
+      → cost ≡ cutCost (x .weights) (getD levels k nan) secs → reason ≡ pointReason x ss levels k → record { left = k; right = k; cost = cost; reason = reason } ≡ pointAt x ss runs levels k
   unfolding pointAt
   point-is runs k stretch secs cost reason a b c d = rw (d, c, b, a)

@@ -6,16 +6,16 @@ use crate::pause;
 use candidate_costs::cost;
 use candidate_costs::stretch;
 ghost use mathlib.Core.Path.{_≡_};
-ghost use Rattle.candidates.specs.Candidates.{reasonAt, pointAt};
+ghost use Rattle.candidates.specs.Candidates.{pointReason, pointAt};
 ghost use Rattle.candidates.specs.PointLaws.{Heard, Stretched};
 
 // At or below this level a point is quiet.
 const QUIET_LEVEL: f64 = 0.25;
 
 // Why a point at boundary k is cut there.
-fn reason_at(x: Context, silences: &[u32], levels: &[f64], k: usize) -> Reason
+fn point_reason(x: Context, silences: &[u32], levels: &[f64], k: usize) -> Reason
     requires { ⌜ Heard x (now silences) (now levels) k ⌝ }
-    ensures { λ r. ⌜ r ≡ reasonAt x (now (silences .entry)) (now (levels .entry)) k ⌝ }
+    ensures { λ r. ⌜ r ≡ pointReason x (now (silences .entry)) (now (levels .entry)) k ⌝ }
 {
     if pause::in_pause(x, silences, k) {
         return Reason::Silence;
@@ -40,6 +40,6 @@ pub fn point(x: Context, silences: &[u32], runs: &[u32], levels: &[f64], k: usiz
         left: k,
         right: k,
         cost: cost::cut_cost(weights, levels[k], secs),
-        reason: reason_at(x, silences, levels, k),
+        reason: point_reason(x, silences, levels, k),
     }
 }

@@ -8,7 +8,7 @@ use Rattle.grid.specs.declared.validate.Recording.{Recording}
 use Rattle.silence_list.specs.declared.config.SegmentConfig.{SegmentConfig}
 use Rattle.plan_settings.specs.declared.config.PlanConfig.{PlanConfig}
 use Rattle.candidate_list.specs.CandidateList.{Output, candidateListOf}
-use Rattle.candidate_list.specs.Theorems.{IsFound, Handed, found-handed, number-zero}
+use Rattle.candidate_list.specs.Theorems.{IsFound, CandidatesHanded, found-handed, number-zero}
 use Rattle.candidate_list.specs.declared.list.Answer.{Answer}
 use Rattle.handed_back.specs.Candidates.{foundAfter}
 use Rattle.capi.specs.Candidates.{ListCalled, listCalledOf}
@@ -25,8 +25,8 @@ module _ (r : Recording) (segment : SegmentConfig) (settings : PlanConfig) (valu
   called-zero = number-zero r segment settings values flags levels out work
 
   -- then `found` holds how many there are, and the output's front is the list of the theorems
-  pub called-handed : called .number ≡ 0 → Handed r segment settings values flags levels out work (called .found)
+  pub called-handed : called .number ≡ 0 → CandidatesHanded r segment settings values flags levels out work (called .found)
   unfolding listCalledOf
   called-handed e =
       let f = called-zero .0 e in
-      subst (Handed r segment settings values flags levels out work) (sym (ap (λ (a : Answer). foundAfter a before) (f .is))) (found-handed r segment settings values flags levels out work (f .count) (f .is))
+      subst (CandidatesHanded r segment settings values flags levels out work) (sym (ap (λ (a : Answer). foundAfter a before) (f .is))) (found-handed r segment settings values flags levels out work (f .count) (f .is))

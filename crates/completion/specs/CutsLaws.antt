@@ -12,14 +12,14 @@ use Rattle.candidate_span.specs.GapsLaws.{spread-ends}
 use Rattle.candidate_span.specs.Span.{Span, spanIn}
 use Rattle.division.specs.Division.{Place}
 use Rattle.division.specs.PlacesLaws.{place-inside}
-use Rattle.division.specs.GreedyLaws.{Start, start-first, start-right}
+use Rattle.division.specs.GreedyLaws.{MayBegin, start-first, start-right}
 use Rattle.completion_reach.specs.declared.ground.Ground.{Ground}
 use Rattle.completion_reach.specs.declared.next.Next.{Next}
 use Rattle.completion_reach.specs.declared.next.Next.the-variants.{Whole, Stuck, To}
 use Rattle.completion_reach.specs.GroundLaws.{Founded}
-use Rattle.completion_reach.specs.Next.{nextOf}
+use Rattle.completion_reach.specs.Next.{nextCutOf}
 use Rattle.completion_reach.specs.NextLaws.{Stepped, next-stepped}
-use Rattle.completion_reach.specs.Cuts.{cutting, cutsFrom, cutsOf, markCut, marking}
+use Rattle.completion_reach.specs.Cuts.{cutting, greedyCutsFrom, cutsOf, markCut, marking}
 
 -- silences in front, marks behind them, and room for one at each boundary of the span
 pub record MarkRoom (x : Ground) (base : ℕ) (work : List ℕ) : Type 0 where
@@ -52,14 +52,14 @@ mark-stays base n k work h = go (eqb (k .left) (k .right))
 pub record MayStart (s : Span) (a : ℕ) : Type 0 where
   pub from : s .first ≤ a
   pub to : a < s .last
-  pub start : Start s a
+  pub start : MayBegin s a
 
 -- from boundary a, with n pieces left, the walk still marks what the whole does
 pub record MarkedUpTo (x : Ground) (base pieces limit : ℕ) (work₀ : List ℕ) (a n : ℕ) (work : List ℕ) : Type 0 where
   pub stands : MayStart (spanIn (x .gap) (x .padding) (x .span) (take (2 * x .span .silences) work₀)) a
   pub same : take (2 * x .span .silences) work ≡ take (2 * x .span .silences) work₀
   pub size : length work ≡ length work₀
-  pub ahead : marking base (cutsFrom (x .grid) (spanIn (x .gap) (x .padding) (x .span) (take (2 * x .span .silences) work₀)) limit n a) work
+  pub ahead : marking base (greedyCutsFrom (x .grid) (spanIn (x .gap) (x .padding) (x .span) (take (2 * x .span .silences) work₀)) limit n a) work
       ≡ marking base (cutsOf (x .grid) (spanIn (x .gap) (x .padding) (x .span) (take (2 * x .span .silences) work₀)) limit pieces) work₀
 
 module _ (x : Ground) (base pieces limit : ℕ) (work₀ : List ℕ) (room : MarkRoom x base work₀) where
@@ -83,30 +83,30 @@ module _ (x : Ground) (base pieces limit : ℕ) (work₀ : List ℕ) (room : Mar
   module _ (a n : ℕ) (work : List ℕ) (w : MarkedUpTo x base pieces limit work₀ a n work) where
     -- no piece is left
     pub walking-none : n ≤ 0 → work ≡ marking base (cutsOf (x .grid) span limit pieces) work₀
-    unfolding cutsFrom marking
+    unfolding greedyCutsFrom marking
     walking-none h =
         let e : n ≡ 0 = omega arith in
-        ap (λ (m : ℕ). marking base (cutsFrom (x .grid) span limit m a) work) (sym e) ∙ w .ahead
+        ap (λ (m : ℕ). marking base (greedyCutsFrom (x .grid) span limit m a) work) (sym e) ∙ w .ahead
 
-    module _ (some : 0 < n) (next : Next) (is : next ≡ nextOf (x .grid) (spanIn (x .gap) (x .padding) (x .span) (take (2 * x .span .silences) work)) limit a) where
-      step : next ≡ nextOf (x .grid) span limit a
-      step = is ∙ ap (λ (ss : List ℕ). nextOf (x .grid) (spanIn (x .gap) (x .padding) (x .span) ss) limit a) (w .same)
+    module _ (some : 0 < n) (next : Next) (is : next ≡ nextCutOf (x .grid) (spanIn (x .gap) (x .padding) (x .span) (take (2 * x .span .silences) work)) limit a) where
+      step : next ≡ nextCutOf (x .grid) span limit a
+      step = is ∙ ap (λ (ss : List ℕ). nextCutOf (x .grid) (spanIn (x .gap) (x .padding) (x .span) ss) limit a) (w .same)
 
-      more : cutsFrom (x .grid) span limit n a ≡ cutting next (cutsFrom (x .grid) span limit (n - 1))
-      unfolding cutsFrom
+      more : greedyCutsFrom (x .grid) span limit n a ≡ cutting next (greedyCutsFrom (x .grid) span limit (n - 1))
+      unfolding greedyCutsFrom
       more =
           let e : n ≡ suc (n - 1) = omega arith in
-          ap (λ (m : ℕ). cutsFrom (x .grid) span limit m a) e ∙ ap (λ (t : Next). cutting t (cutsFrom (x .grid) span limit (n - 1))) (sym step)
+          ap (λ (m : ℕ). greedyCutsFrom (x .grid) span limit m a) e ∙ ap (λ (t : Next). cutting t (greedyCutsFrom (x .grid) span limit (n - 1))) (sym step)
 
       -- the rest is one piece
       pub walking-whole : next ≡ Whole → work ≡ marking base (cutsOf (x .grid) span limit pieces) work₀
       unfolding marking
-      walking-whole e = ap (λ (ks : List Cut). marking base ks work) (sym (more ∙ ap (λ (t : Next). cutting t (cutsFrom (x .grid) span limit (n - 1))) e)) ∙ w .ahead
+      walking-whole e = ap (λ (ks : List Cut). marking base ks work) (sym (more ∙ ap (λ (t : Next). cutting t (greedyCutsFrom (x .grid) span limit (n - 1))) e)) ∙ w .ahead
 
       -- no place is within the limit
       pub walking-stuck : next ≡ Stuck → work ≡ marking base (cutsOf (x .grid) span limit pieces) work₀
       unfolding marking
-      walking-stuck e = ap (λ (ks : List Cut). marking base ks work) (sym (more ∙ ap (λ (t : Next). cutting t (cutsFrom (x .grid) span limit (n - 1))) e)) ∙ w .ahead
+      walking-stuck e = ap (λ (ks : List Cut). marking base ks work) (sym (more ∙ ap (λ (t : Next). cutting t (greedyCutsFrom (x .grid) span limit (n - 1))) e)) ∙ w .ahead
 
       module _ (l r : ℕ) (e : next ≡ To l r) where
         place : Place span (record { left = l; right = r })
@@ -134,6 +134,6 @@ module _ (x : Ground) (base pieces limit : ℕ) (work₀ : List ℕ) (room : Mar
               same = ap (take (2 * x .span .silences)) q ∙ mark-stays base (2 * x .span .silences) (record { left = l; right = r }) work (room .apart) ∙ w .same;
               size = ap length q ∙ mark-length base (record { left = l; right = r }) work ∙ w .size;
               ahead =
-                  ap (marking base (cutsFrom (x .grid) span limit (n - 1) r)) q
-                  ∙ ap (λ (ks : List Cut). marking base ks work) (sym (more ∙ ap (λ (t : Next). cutting t (cutsFrom (x .grid) span limit (n - 1))) e)) ∙ w .ahead;
+                  ap (marking base (greedyCutsFrom (x .grid) span limit (n - 1) r)) q
+                  ∙ ap (λ (ks : List Cut). marking base ks work) (sym (more ∙ ap (λ (t : Next). cutting t (greedyCutsFrom (x .grid) span limit (n - 1))) e)) ∙ w .ahead;
             }

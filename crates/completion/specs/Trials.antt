@@ -14,8 +14,8 @@ use Rattle.completion_reach.specs.Reachable.{reachableIn}
 use Rattle.completion_reach.specs.Place.{placeAt}
 use Rattle.completion_reach.specs.Next.{nextAt}
 use Rattle.completion_reach.specs.Fits.{fitsFrom, fitsOf}
-use Rattle.completion_reach.specs.Reach.{leastFrom, reachOf}
-use Rattle.completion_reach.specs.Cuts.{cutsFrom, cutsOf}
+use Rattle.completion_reach.specs.Reach.{leastLimitFrom, reachOf}
+use Rattle.completion_reach.specs.Cuts.{greedyCutsFrom, cutsOf}
 use Rattle.completion.specs.Bridge.{bridgeFrom, bridgeOf}
 
 grid : FrameGrid
@@ -36,22 +36,22 @@ just-enough = refl
 
 -- where the first piece goes as far as it can
 far-cut : cutsOf grid whole 400 2 ≡ cutAt 4 ∷ []
-unfolding grid boundaryOf startOf reachableIn placeAt nextAt cutsFrom
+unfolding grid boundaryOf startOf reachableIn placeAt nextAt greedyCutsFrom
 far-cut = refl
 
 -- the least limit over all divisions
 reach-two : reachOf grid whole 2 300 ≡ Reach 400
-unfolding grid boundaryOf startOf keptFrames dropped divisionsOf keeps anyOf isFeasible leastFrom reachOf
+unfolding grid boundaryOf startOf keptFrames dropped divisionsOf keeps anyOf isFeasible leastLimitFrom reachOf
 reach-two = refl
 
 -- it is never below the maximum
 reach-at-maximum : reachOf grid whole 2 500 ≡ Reach 500
-unfolding grid boundaryOf startOf keptFrames dropped divisionsOf keeps anyOf isFeasible leastFrom reachOf
+unfolding grid boundaryOf startOf keptFrames dropped divisionsOf keeps anyOf isFeasible leastLimitFrom reachOf
 reach-at-maximum = refl
 
 -- for no pieces there is none
 reach-none : reachOf grid whole 0 699 ≡ Nothing
-unfolding grid boundaryOf startOf keptFrames dropped divisionsOf keeps anyOf isFeasible leastFrom reachOf
+unfolding grid boundaryOf startOf keptFrames dropped divisionsOf keeps anyOf isFeasible leastLimitFrom reachOf
 reach-none = refl
 
 -- by length 300 samples are bridged by two points

@@ -9,7 +9,7 @@ use Rattle.candidate_span.specs.Gaps.{Cut}
 use Rattle.candidate_span.specs.Span.{Span}
 use Rattle.completion_reach.specs.declared.next.Next.{Next}
 use Rattle.completion_reach.specs.declared.next.Next.the-variants.{Whole, Stuck, To}
-use Rattle.completion_reach.specs.Next.{nextOf}
+use Rattle.completion_reach.specs.Next.{nextCutOf}
 
 -- the cut that a step makes, and those that follow from the boundary that it leads to
 abbrev pub cutting : Next → (ℕ → List Cut) → List Cut
@@ -18,13 +18,13 @@ cutting Stuck f = []
 cutting (To l r) f = record { left = l; right = r } ∷ f r
 
 -- the cuts from boundary a on, of n pieces at most
-unfoldable pub cutsFrom : FrameGrid → Span → ℕ → ℕ → ℕ → List Cut
-cutsFrom g s limit zero a = []
-cutsFrom g s limit (suc n) a = cutting (nextOf g s limit a) (cutsFrom g s limit n)
+unfoldable pub greedyCutsFrom : FrameGrid → Span → ℕ → ℕ → ℕ → List Cut
+greedyCutsFrom g s limit zero a = []
+greedyCutsFrom g s limit (suc n) a = cutting (nextCutOf g s limit a) (greedyCutsFrom g s limit n)
 
 -- document 01's "cuts of the division that goes as far as it can at each step", of n pieces at most
 abbrev pub cutsOf : FrameGrid → Span → ℕ → ℕ → List Cut
-cutsOf g s limit n = cutsFrom g s limit n (s .first)
+cutsOf g s limit n = greedyCutsFrom g s limit n (s .first)
 
 -- a mark for a cut at a boundary; a gap has none, since it is a candidate already
 abbrev pub markCut : ℕ → Cut → List ℕ → List ℕ

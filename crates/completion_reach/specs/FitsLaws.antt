@@ -17,20 +17,20 @@ use Rattle.division.specs.Pieces.{piecesOf, longest}
 use Rattle.division.specs.PiecesLaws.{pieces-count}
 use Rattle.division.specs.PlacesLaws.{place-inside}
 use Rattle.division.specs.Greedy.{GreedyFrom, Greedy}
-use Rattle.division.specs.GreedyLaws.{Start, start-first, start-right, farthest-one, greedy-divides, greedy-within}
+use Rattle.division.specs.GreedyLaws.{MayBegin, start-first, start-right, farthest-one, greedy-divides, greedy-within}
 use Rattle.division.specs.GreedyFound.{greedy-found}
 use Rattle.division.specs.Reach.{Feasible}
 use Rattle.division.specs.ReachLaws.{feasible-greedy}
 use Rattle.completion_reach.specs.declared.next.Next.{Next}
 use Rattle.completion_reach.specs.declared.next.Next.the-variants.{Whole, Stuck, To}
-use Rattle.completion_reach.specs.Next.{nextOf}
+use Rattle.completion_reach.specs.Next.{nextCutOf}
 use Rattle.completion_reach.specs.NextLaws.{Stepped, next-stepped}
-use Rattle.completion_reach.specs.Cuts.{cutting, cutsFrom, cutsOf}
+use Rattle.completion_reach.specs.Cuts.{cutting, greedyCutsFrom, cutsOf}
 use Rattle.completion_reach.specs.Fits.{onward, fitsFrom, fitsOf}
 
 -- ---- one step of the loop, from boundary a with n pieces left
 
-module _ (g : FrameGrid) (s : Span) (limit n a : ℕ) (some : 0 < n) (next : Next) (is : next ≡ nextOf g s limit a) where
+module _ (g : FrameGrid) (s : Span) (limit n a : ℕ) (some : 0 < n) (next : Next) (is : next ≡ nextCutOf g s limit a) where
   more : fitsFrom g s limit n a ≡ onward next (fitsFrom g s limit (n - 1))
   unfolding fitsFrom
   more =
@@ -55,15 +55,15 @@ fits-none g s limit (suc n) a h = absurd (omega arith)
 
 module _ (g : FrameGrid) (ok : Accepted g) (s : Span) (spread : Spread (s .first) (s .gaps) (s .last)) (limit : ℕ) where
   -- from boundary a on the steps make the cuts of the greedy division, which has at most n pieces
-  gone-from : (n a : ℕ) → s .first ≤ a → a < s .last → Start s a → fitsFrom g s limit n a ≡ true → GreedyFrom g s limit a (cutsFrom g s limit n a) × (length (cutsFrom g s limit n a) < n)
-  unfolding fitsFrom cutsFrom
+  gone-from : (n a : ℕ) → s .first ≤ a → a < s .last → MayBegin s a → fitsFrom g s limit n a ≡ true → GreedyFrom g s limit a (greedyCutsFrom g s limit n a) × (length (greedyCutsFrom g s limit n a) < n)
+  unfolding fitsFrom greedyCutsFrom
   gone-from zero a from to start e = unmet e
   gone-from (suc n) a from to start e =
-      go (nextOf g s limit a) (next-stepped g ok s spread limit a from to start) e (λ r i j k h. gone-from n r i j k h)
+      go (nextCutOf g s limit a) (next-stepped g ok s spread limit a from to start) e (λ r i j k h. gone-from n r i j k h)
     where
       go : (t : Next) → Stepped g s limit a t → onward t (fitsFrom g s limit n) ≡ true
-          → ((r : ℕ) → s .first ≤ r → r < s .last → Start s r → fitsFrom g s limit n r ≡ true → GreedyFrom g s limit r (cutsFrom g s limit n r) × (length (cutsFrom g s limit n r) < n))
-          → GreedyFrom g s limit a (cutting t (cutsFrom g s limit n)) × (length (cutting t (cutsFrom g s limit n)) < suc n)
+          → ((r : ℕ) → s .first ≤ r → r < s .last → MayBegin s r → fitsFrom g s limit n r ≡ true → GreedyFrom g s limit r (greedyCutsFrom g s limit n r) × (length (greedyCutsFrom g s limit n r) < n))
+          → GreedyFrom g s limit a (cutting t (greedyCutsFrom g s limit n)) × (length (cutting t (greedyCutsFrom g s limit n)) < suc n)
       go Whole p h rest = (p, omega arith)
       go Stuck p h rest = unmet h
       go (To l r) p h rest =
@@ -71,17 +71,17 @@ module _ (g : FrameGrid) (ok : Accepted g) (s : Span) (spread : Spread (s .first
           let t = rest r (omega (arith, i .0, i .1)) (i .2) (start-right g ok s spread (record { left = l; right = r }) (p .1 .place)) h in
           ((p .0, p .1, t .0), omega (arith, t .1))
 
-  fits-from : (n a : ℕ) (ks : List Cut) → s .first ≤ a → a < s .last → Start s a → GreedyFrom g s limit a ks → length ks < n → fitsFrom g s limit n a ≡ true
+  fits-from : (n a : ℕ) (ks : List Cut) → s .first ≤ a → a < s .last → MayBegin s a → GreedyFrom g s limit a ks → length ks < n → fitsFrom g s limit n a ≡ true
   unfolding fitsFrom
   fits-from zero a ks from to start far h = absurd (omega arith)
-  fits-from (suc n) a [] from to start far h = go (nextOf g s limit a) (next-stepped g ok s spread limit a from to start)
+  fits-from (suc n) a [] from to start far h = go (nextCutOf g s limit a) (next-stepped g ok s spread limit a from to start)
     where
       go : (t : Next) → Stepped g s limit a t → onward t (fitsFrom g s limit n) ≡ true
       go Whole p = refl
       go Stuck p = absurd (omega (arith, far, p .0))
       go (To l r) p = absurd (omega (arith, far, p .0))
   fits-from (suc n) a (k ∷ ks) from to start far h =
-      go (nextOf g s limit a) (next-stepped g ok s spread limit a from to start)
+      go (nextCutOf g s limit a) (next-stepped g ok s spread limit a from to start)
       (fits-from n (k .right) ks (omega (arith, inside .0, inside .1)) (inside .2) (start-right g ok s spread k (far .1 .place)) (far .2) (omega arith))
     where
       inside : (s .first < k .left) × (k .left ≤ k .right) × (k .right < s .last)
@@ -103,34 +103,34 @@ module _ (g : FrameGrid) (ok : Accepted g) (s : Span) (spread : Spread (s .first
       (t .0, omega (arith, pieces-count (s .first) (cutsOf g s limit n) (s .last), t .1))
 
   -- what fits is feasible
-  pub fits-feasible : (asked : ℕ) → fitsOf g s limit (piecesAsked s asked) ≡ true → Feasible g s asked limit
-  fits-feasible asked e =
-      let ks = cutsOf g s limit (piecesAsked s asked) in
-      let t = fits-greedy (piecesAsked s asked) e in
+  pub fits-feasible : (count : ℕ) → fitsOf g s limit (piecesAsked s count) ≡ true → Feasible g s count limit
+  fits-feasible count e =
+      let ks = cutsOf g s limit (piecesAsked s count) in
+      let t = fits-greedy (piecesAsked s count) e in
       record { cuts = ks; divides = greedy-divides g ok s spread limit ks (t .0); few = t .1; within = greedy-within g ok s spread limit ks (t .0) }
 
   -- and what is feasible fits
-  pub feasible-fits : (asked : ℕ) → Feasible g s asked limit → fitsOf g s limit (piecesAsked s asked) ≡ true
-  feasible-fits asked f = go (greedy-found g ok s spread limit)
+  pub feasible-fits : (count : ℕ) → Feasible g s count limit → fitsOf g s limit (piecesAsked s count) ≡ true
+  feasible-fits count f = go (greedy-found g ok s spread limit)
     where
-      go : ((ks : List Cut) × Greedy g s limit ks) ⊎ ((ks : List Cut) → Division s ks → limit < longest g (piecesOf s ks)) → fitsOf g s limit (piecesAsked s asked) ≡ true
+      go : ((ks : List Cut) × Greedy g s limit ks) ⊎ ((ks : List Cut) → Division s ks → limit < longest g (piecesOf s ks)) → fitsOf g s limit (piecesAsked s count) ≡ true
       go (inl t) =
-          fits-from (piecesAsked s asked) (s .first) (t .0) (omega arith) whole (start-first g ok s spread) (t .1)
-          (omega (arith, pieces-count (s .first) (t .0) (s .last), feasible-greedy g ok s spread asked limit (t .0) (t .1) f))
+          fits-from (piecesAsked s count) (s .first) (t .0) (omega arith) whole (start-first g ok s spread) (t .1)
+          (omega (arith, pieces-count (s .first) (t .0) (s .last), feasible-greedy g ok s spread count limit (t .0) (t .1) f))
       go (inr n) = absurd (omega (arith, n (f .cuts) (f .divides), f .within))
 
   -- so what does not fit is not feasible
-  pub unfit-infeasible : (asked : ℕ) → fitsOf g s limit (piecesAsked s asked) ≡ false → Feasible g s asked limit → ⊥
-  unfit-infeasible asked e f = unmet (sym e ∙ feasible-fits asked f)
+  pub unfit-infeasible : (count : ℕ) → fitsOf g s limit (piecesAsked s count) ≡ false → Feasible g s count limit → ⊥
+  unfit-infeasible count e f = unmet (sym e ∙ feasible-fits count f)
 
   -- ---- as code tells it, with the pieces that are asked for
 
-  module _ (asked pieces : ℕ) (number : pieces ≡ piecesAsked s asked) (r : Bool) (is : r ≡ fitsOf g s limit pieces) where
-    same : fitsOf g s limit (piecesAsked s asked) ≡ r
+  module _ (count pieces : ℕ) (number : pieces ≡ piecesAsked s count) (r : Bool) (is : r ≡ fitsOf g s limit pieces) where
+    same : fitsOf g s limit (piecesAsked s count) ≡ r
     same = sym (is ∙ ap (fitsOf g s limit) number)
 
-    pub told-feasible : r ≡ true → Feasible g s asked limit
-    told-feasible e = fits-feasible asked (same ∙ e)
+    pub told-feasible : r ≡ true → Feasible g s count limit
+    told-feasible e = fits-feasible count (same ∙ e)
 
-    pub told-infeasible : r ≡ false → Feasible g s asked limit → ⊥
-    told-infeasible e = unfit-infeasible asked (same ∙ e)
+    pub told-infeasible : r ≡ false → Feasible g s count limit → ⊥
+    told-infeasible e = unfit-infeasible count (same ∙ e)

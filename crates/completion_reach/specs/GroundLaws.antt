@@ -16,5 +16,5 @@ pub record Founded (x : Ground) (ss : List ℕ) : Type 0 where
   pub spread : Spread (x .span .first) (gapsOf (x .gap) (x .padding) ss) (x .span .last)
 
 -- how many pieces are asked for, from how many frames are kept
-pub asked-pieces : (s : Span) (asked frames pieces : ℕ) → frames ≡ keptIn s → pieces ≡ min asked frames → pieces ≡ piecesAsked s asked
-asked-pieces s asked frames pieces e h = h ∙ ap (min asked) e
+pub asked-pieces : (s : Span) (count frames pieces : ℕ) → frames ≡ keptIn s → pieces ≡ min count frames → pieces ≡ piecesAsked s count
+asked-pieces s count frames pieces e h = h ∙ ap (min count) e

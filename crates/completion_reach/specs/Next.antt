@@ -19,5 +19,5 @@ unfoldable pub nextAt : Span → ℕ → ℕ → Next
 nextAt s a k = cond (eqb k (s .last)) Whole (cond (eqb k a) Stuck (toCut (placeAt (s .gaps) k)))
 
 -- the step from boundary a
-abbrev pub nextOf : FrameGrid → Span → ℕ → ℕ → Next
-nextOf g s limit a = nextAt s a (reachableOf g limit a (s .last))
+abbrev pub nextCutOf : FrameGrid → Span → ℕ → ℕ → Next
+nextCutOf g s limit a = nextAt s a (reachableOf g limit a (s .last))

@@ -16,7 +16,7 @@ use Rattle.division.specs.Division.{Place, boundary, gap}
 use Rattle.division.specs.Pieces.{pieceFrom, lengthOf}
 use Rattle.division.specs.PlacesLaws.{place-inside}
 use Rattle.division.specs.Greedy.{Farthest, NoneWithin}
-use Rattle.division.specs.GreedyLaws.{Start, ends-order}
+use Rattle.division.specs.GreedyLaws.{MayBegin, ends-order}
 use Rattle.completion_reach.specs.declared.next.Next.{Next}
 use Rattle.completion_reach.specs.declared.next.Next.the-variants.{Whole, Stuck, To}
 use Rattle.completion_reach.specs.Reachable.{reachableOf}
@@ -24,20 +24,20 @@ use Rattle.completion_reach.specs.ReachableLaws.{Reached, reached}
 use Rattle.completion_reach.specs.declared.place.HeldCut.{HeldCut}
 use Rattle.completion_reach.specs.Place.{placeAt, heldCut}
 use Rattle.completion_reach.specs.PlaceLaws.{Standing, held, free, standing}
-use Rattle.completion_reach.specs.Next.{toCut, nextAt, nextOf}
+use Rattle.completion_reach.specs.Next.{toCut, nextAt, nextCutOf}
 
 -- ---- one law for each end of the function, where a piece from boundary a reaches boundary k
 
 module _ (g : FrameGrid) (s : Span) (limit a k : ℕ) (is : k ≡ reachableOf g limit a (s .last)) where
-  pub next-whole : k ≡ s .last → Whole ≡ nextOf g s limit a
+  pub next-whole : k ≡ s .last → Whole ≡ nextCutOf g s limit a
   unfolding nextAt
   next-whole e = rw (← is, eq-eqb k (s .last) e)
 
-  pub next-stuck : (k ≡ s .last → ⊥) → k ≡ a → Stuck ≡ nextOf g s limit a
+  pub next-stuck : (k ≡ s .last → ⊥) → k ≡ a → Stuck ≡ nextCutOf g s limit a
   unfolding nextAt
   next-stuck d e = rw (← is, ne-eqb k (s .last) d, eq-eqb k a e)
 
-  pub next-to : (k ≡ s .last → ⊥) → (k ≡ a → ⊥) → (c : HeldCut) → c ≡ heldCut (placeAt (s .gaps) k) → To (c .left) (c .right) ≡ nextOf g s limit a
+  pub next-to : (k ≡ s .last → ⊥) → (k ≡ a → ⊥) → (c : HeldCut) → c ≡ heldCut (placeAt (s .gaps) k) → To (c .left) (c .right) ≡ nextCutOf g s limit a
   unfolding nextAt
   next-to d d′ c e = rw (← is, ne-eqb k (s .last) d, ne-eqb k a d′) (ap (λ (t : HeldCut). To (t .left) (t .right)) e)
 
@@ -50,7 +50,7 @@ Stepped g s limit a Stuck = (limit < lengthOf g (pieceFrom a (s .last))) × None
 Stepped g s limit a (To l r) = (limit < lengthOf g (pieceFrom a (s .last))) × Farthest g s limit a (record { left = l; right = r })
 
 module _ (g : FrameGrid) (ok : Accepted g) (s : Span) (spread : Spread (s .first) (s .gaps) (s .last)) (limit a k : ℕ)
-    (from : s .first ≤ a) (to : a < s .last) (start : Start s a) (r : Reached g limit a (s .last - a) k) where
+    (from : s .first ≤ a) (to : a < s .last) (start : MayBegin s a) (r : Reached g limit a (s .last - a) k) where
   -- no place within the limit is farther on than boundary k
   not-beyond : (j : Cut) → Place s j → lengthOf g (pieceFrom a (j .left)) ≤ limit → j .left ≤ k
   not-beyond j p w = elim (lt-or-le k (j .left)) [
@@ -99,7 +99,7 @@ module _ (g : FrameGrid) (ok : Accepted g) (s : Span) (spread : Spread (s .first
       go false false f f′ e e′ = (over (f′ refl), farthest (moved (e′ refl)) (short (f′ refl)) (standing (s .gaps) k))
 
 -- the step leads to the farthest place or to the end, or no place is within the limit
-pub next-stepped : (g : FrameGrid) → Accepted g → (s : Span) → Spread (s .first) (s .gaps) (s .last) → (limit a : ℕ) → s .first ≤ a → a < s .last → Start s a
-    → Stepped g s limit a (nextOf g s limit a)
+pub next-stepped : (g : FrameGrid) → Accepted g → (s : Span) → Spread (s .first) (s .gaps) (s .last) → (limit a : ℕ) → s .first ≤ a → a < s .last → MayBegin s a
+    → Stepped g s limit a (nextCutOf g s limit a)
 next-stepped g ok s spread limit a from to start =
     stepped g ok s spread limit a (reachableOf g limit a (s .last)) from to start (reached g limit a (s .last - a))

@@ -10,13 +10,13 @@ use Rattle.division.specs.Places.{cutAt}
 use Rattle.completion_reach.specs.declared.place.HeldCut.{HeldCut}
 
 -- a gap holds boundary k, its edges included
-abbrev pub holds : Cut → ℕ → Bool
-holds g k = leb (g .left) k && leb k (g .right)
+abbrev pub holdsBoundary : Cut → ℕ → Bool
+holdsBoundary g k = leb (g .left) k && leb k (g .right)
 
 -- the gap that holds boundary k, or the cut at k
 unfoldable pub placeAt : List Cut → ℕ → Cut
 placeAt [] k = cutAt k
-placeAt (g ∷ gs) k = cond (holds g k) g (placeAt gs k)
+placeAt (g ∷ gs) k = cond (holdsBoundary g k) g (placeAt gs k)
 
 -- a silence has a gap that holds boundary k
 unfoldable pub isHeld : Padding → ℕ → ℕ → ℕ → Bool

@@ -22,14 +22,14 @@ use Rattle.candidate_span.specs.Ending.{FirstEnding}
 use Rattle.division.specs.Places.{cutAt}
 use Rattle.division.specs.PlacesLaws.{same-ends}
 use Rattle.completion_reach.specs.declared.place.HeldCut.{HeldCut}
-use Rattle.completion_reach.specs.Place.{holds, placeAt, isHeld, heldCut}
+use Rattle.completion_reach.specs.Place.{holdsBoundary, placeAt, isHeld, heldCut}
 
 -- ---- by cases
 
-holds-parts : (g : Cut) (k : ℕ) → holds g k ≡ true → (g .left ≤ k) × (k ≤ g .right)
+holds-parts : (g : Cut) (k : ℕ) → holdsBoundary g k ≡ true → (g .left ≤ k) × (k ≤ g .right)
 holds-parts g k h = let p = both (leb (g .left) k) (leb k (g .right)) h in (leb-true (g .left) k (p .0), leb-true k (g .right) (p .1))
 
-fails-parts : (g : Cut) (k : ℕ) → holds g k ≡ false → (k < g .left) ⊎ (g .right < k)
+fails-parts : (g : Cut) (k : ℕ) → holdsBoundary g k ≡ false → (k < g .left) ⊎ (g .right < k)
 fails-parts g k = go (leb (g .left) k) (leb k (g .right)) (leb-false (g .left) k) (leb-false k (g .right))
   where
     go : (a b : Bool) → (a ≡ false → k < g .left) → (b ≡ false → g .right < k) → (a && b) ≡ false → (k < g .left) ⊎ (g .right < k)
@@ -45,9 +45,9 @@ pub data Standing (gs : List Cut) (k : ℕ) : Type 0 where
 pub standing : (gs : List Cut) (k : ℕ) → Standing gs k
 unfolding placeAt
 standing [] k = free (λ g m. absurd (List·Memᴰ·not-nil m)) refl
-standing (g ∷ gs) k = go (holds g k) refl (standing gs k)
+standing (g ∷ gs) k = go (holdsBoundary g k) refl (standing gs k)
   where
-    go : (b : Bool) → holds g k ≡ b → Standing gs k → Standing (g ∷ gs) k
+    go : (b : Bool) → holdsBoundary g k ≡ b → Standing gs k → Standing (g ∷ gs) k
     go true e r = let p = holds-parts g k e in held g (List·Memᴰ·head refl) (p .0) (p .1) (rw e)
     go false e (held h m a b q) = held h (List·Memᴰ·tail m) a b (rw e q)
     go false e (free o q) = free out (rw e q)
@@ -153,8 +153,8 @@ module _ (p : Padding) (ss : List ℕ) (k i : ℕ) (l : Listed (p .frames) ss) (
       gap : Cut
       gap = record { left = lowOf p (startAt ss i); right = highOf p (endAt ss i) }
 
-      parts : (isGap p (startAt ss i) (endAt ss i) ≡ true) × (holds gap k ≡ true)
-      parts = both (isGap p (startAt ss i) (endAt ss i)) (holds gap k) t
+      parts : (isGap p (startAt ss i) (endAt ss i) ≡ true) × (holdsBoundary gap k ≡ true)
+      parts = both (isGap p (startAt ss i) (endAt ss i)) (holdsBoundary gap k) t
 
       go : Standing (innerGaps p ss) k → placeAt (innerGaps p ss) k ≡ gap
       go (held g m a b q) = let o = only g m a b in q ∙ same-ends g gap (o .low) (o .high)

@@ -14,10 +14,10 @@ abbrev pub spanLength : FrameGrid → Span → ℕ
 spanLength g s = lengthOf g (pieceFrom (s .first) (s .last))
 
 -- the least of n limits from `limit` on that a division keeps
-unfoldable pub leastFrom : FrameGrid → Span → ℕ → ℕ → ℕ → Sought
-leastFrom g s asked limit zero = Nothing
-leastFrom g s asked limit (suc n) = cond (isFeasible g s asked limit) (Reach limit) (leastFrom g s asked (suc limit) n)
+unfoldable pub leastLimitFrom : FrameGrid → Span → ℕ → ℕ → ℕ → Sought
+leastLimitFrom g s count limit zero = Nothing
+leastLimitFrom g s count limit (suc n) = cond (isFeasible g s count limit) (Reach limit) (leastLimitFrom g s count (suc limit) n)
 
 -- document 01's "reach": the maximum, or the least limit above it up to the span's length that a division keeps; or that there is none
 unfoldable pub reachOf : FrameGrid → Span → ℕ → ℕ → Sought
-reachOf g s asked maximum = leastFrom g s asked maximum (suc (spanLength g s - maximum))
+reachOf g s count maximum = leastLimitFrom g s count maximum (suc (spanLength g s - maximum))

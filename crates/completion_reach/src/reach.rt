@@ -21,17 +21,17 @@ pub enum Sought {
 fn bisect(
     x: Ground,
     silences: &[u32],
-    asked: usize,
+    count: usize,
     pieces: usize,
     maximum: u64,
     enough: u64,
 ) -> u64
     requires { ⌜ Founded x (now silences) ⌝ }
-    requires { ⌜ pieces ≡ piecesAsked (spanIn (x .gap) (x .padding) (x .span) (now silences)) asked ⌝ }
+    requires { ⌜ pieces ≡ piecesAsked (spanIn (x .gap) (x .padding) (x .span) (now silences)) count ⌝ }
     requires { ⌜ Bracket (x .grid) (spanIn (x .gap) (x .padding) (x .span) (now silences))
-        asked maximum maximum enough ⌝ }
+        count maximum maximum enough ⌝ }
     ensures { λ r. ⌜ IsReach (x .grid) (spanIn (x .gap) (x .padding) (x .span) (now (silences .entry)))
-        asked maximum r ⌝ }
+        count maximum r ⌝ }
 {
     let mut low = maximum;
     let mut high = enough;
@@ -47,22 +47,22 @@ fn bisect(
 }
 
 // The reach for so many pieces as are asked for.
-pub fn reach(x: Ground, silences: &[u32], asked: usize, maximum: u64) -> Sought
+pub fn reach(x: Ground, silences: &[u32], count: usize, maximum: u64) -> Sought
     requires { ⌜ Founded x (now silences) ⌝ }
     ensures { λ r. ⌜ r
-        ≡ reachOf (x .grid) (spanIn (x .gap) (x .padding) (x .span) (now (silences .entry))) asked maximum ⌝ }
+        ≡ reachOf (x .grid) (spanIn (x .gap) (x .padding) (x .span) (now (silences .entry))) count maximum ⌝ }
 {
     let g = x.grid;
     let gap = x.gap;
     let frames = kept::kept_frames(gap, x.padding, x.span.first, x.span.last, silences);
-    let pieces = sizes::lesser(asked, frames);
+    let pieces = sizes::lesser(count, frames);
     if fits::fits(x, silences, pieces, maximum) {
         return Sought::Reach(maximum);
     }
     // one piece at most is as long as the span
     let whole = g.position(x.span.last) - g.position(x.span.first);
     if fits::fits(x, silences, pieces, whole) {
-        return Sought::Reach(bisect(x, silences, asked, pieces, maximum, whole));
+        return Sought::Reach(bisect(x, silences, count, pieces, maximum, whole));
     }
     Sought::Nothing
 }

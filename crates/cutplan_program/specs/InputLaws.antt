@@ -65,10 +65,10 @@ module _ {answer back : ℤ} (same : back ≡ answer) where
 -- ---- one read
 
 -- what was put behind the front leaves it as it was
-pub behind : (done : ℕ) (before last : List ℕ) (answer : ℤ) (step : Step) → done < length before
+pub reads-behind : (done : ℕ) (before last : List ℕ) (answer : ℤ) (step : Step) → done < length before
     → length last ≡ length (midOf done (length before - done) before) → Moved (length (midOf done (length before - done) before)) answer → step ≡ stepOf answer
     → ReadBehind done before step (putMid done (length before - done) before last)
-behind done before last answer step h e m s = record {
+reads-behind done before last answer step h e m s = record {
   room = h;
   front-stays = take-put done (length before - done) before last (omega (arith, h));
   length-stays = same-len-mid done (length before - done) before last e;

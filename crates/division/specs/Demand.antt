@@ -1,4 +1,4 @@
--- Demand 3, of a division of a span: what the planner owes by count and by length. `asked` is document 01's N.
+-- Demand 3, of a division of a span: what the planner owes by count and by length. `count` is document 01's N.
 use mathlib.Core.Path.{_≡_}
 use mathlib.Core.List.{List, List·Memᴰ}
 use Prim.Native.Nat.{ℕ, _≤_, _<_}
@@ -15,11 +15,11 @@ HasPiece g n ps = (p : Piece) × List·Memᴰ p ps × (n ≤ lengthOf g p)
 
 -- demand 3 by count: a division into exactly N pieces, or one for each kept frame if those are fewer;
 -- if one of its pieces exceeds the maximum, every division of the span into at most that many pieces has a piece at least as long as its longest
-pub record DemandByCount (g : FrameGrid) (s : Span) (asked maximum : ℕ) (cuts : List Cut) : Type 0 where
+pub record DemandByCount (g : FrameGrid) (s : Span) (count maximum : ℕ) (cuts : List Cut) : Type 0 where
   pub divides : Division s cuts
-  pub number : length (piecesOf s cuts) ≡ piecesAsked s asked
+  pub number : length (piecesOf s cuts) ≡ piecesAsked s count
   pub least : (p : Piece) → List·Memᴰ p (piecesOf s cuts) → maximum < lengthOf g p
-      → (others : List Cut) → Division s others → length (piecesOf s others) ≤ piecesAsked s asked
+      → (others : List Cut) → Division s others → length (piecesOf s others) ≤ piecesAsked s count
       → HasPiece g (longest g (piecesOf s cuts)) (piecesOf s others)
 
 -- demand 3 by length: a division of which every piece over the maximum is a single frame

@@ -36,12 +36,12 @@ module _ (g : FrameGrid) (s : Span) where
   -- ---- by count
 
   -- a division into min(N, kept frames) pieces within the reach meets demand 3
-  pub demand-reach : (asked maximum reach : ℕ) (cuts : List Cut) → IsReach g s asked maximum reach → Division s cuts
-      → length (piecesOf s cuts) ≡ piecesAsked s asked → longest g (piecesOf s cuts) ≤ reach → DemandByCount g s asked maximum cuts
-  demand-reach asked maximum reach cuts r d n w = record { divides = d; number = omega (arith, n); least = least }
+  pub demand-reach : (count maximum reach : ℕ) (cuts : List Cut) → IsReach g s count maximum reach → Division s cuts
+      → length (piecesOf s cuts) ≡ piecesAsked s count → longest g (piecesOf s cuts) ≤ reach → DemandByCount g s count maximum cuts
+  demand-reach count maximum reach cuts r d n w = record { divides = d; number = omega (arith, n); least = least }
     where
       least : (p : Piece) → List·Memᴰ p (piecesOf s cuts) → maximum < lengthOf g p
-          → (others : List Cut) → Division s others → length (piecesOf s others) ≤ piecesAsked s asked
+          → (others : List Cut) → Division s others → length (piecesOf s others) ≤ piecesAsked s count
           → HasPiece g (longest g (piecesOf s cuts)) (piecesOf s others)
       least p m over others e few =
           let limit = max maximum (longest g (piecesOf s others)) in
@@ -49,9 +49,9 @@ module _ (g : FrameGrid) (s : Span) where
           has-longest g (s .first) others (s .last) (longest g (piecesOf s cuts)) (omega (arith, w, h, over, longest-most g (piecesOf s cuts) p m))
 
   -- so does one into N pieces within the maximum, where no reach is sought
-  pub demand-maximum : Spread (s .first) (s .gaps) (s .last) → (asked maximum : ℕ) (cuts : List Cut) → Division s cuts
-      → length (piecesOf s cuts) ≡ asked → longest g (piecesOf s cuts) ≤ maximum → DemandByCount g s asked maximum cuts
-  demand-maximum spread asked maximum cuts d n w =
+  pub demand-maximum : Spread (s .first) (s .gaps) (s .last) → (count maximum : ℕ) (cuts : List Cut) → Division s cuts
+      → length (piecesOf s cuts) ≡ count → longest g (piecesOf s cuts) ≤ maximum → DemandByCount g s count maximum cuts
+  demand-maximum spread count maximum cuts d n w =
       record {
         divides = d;
         number = omega (arith, n, at-most-kept s spread cuts d);
@@ -68,26 +68,26 @@ module _ (g : FrameGrid) (s : Span) where
 
 -- ---- what completion by count leaves: cuts at places, among them those of the greedy division within the reach and those of equal shares
 
-module _ (g : FrameGrid) (ok : Accepted g) (s : Span) (spread : Spread (s .first) (s .gaps) (s .last)) (asked : ℕ) (some : 0 < asked)
-    (all : List Cut) (divides : Division s all) (shares : Among (sharesOf s (piecesAsked s asked)) all) where
-  pieces-some : 0 < piecesAsked s asked
+module _ (g : FrameGrid) (ok : Accepted g) (s : Span) (spread : Spread (s .first) (s .gaps) (s .last)) (count : ℕ) (some : 0 < count)
+    (all : List Cut) (divides : Division s all) (shares : Among (sharesOf s (piecesAsked s count)) all) where
+  pieces-some : 0 < piecesAsked s count
   pieces-some = omega (arith, some, spread-some (s .first) (s .gaps) (s .last) spread)
 
   -- they suffice for min(N, kept frames) pieces
-  pub shares-suffice : piecesAsked s asked ≤ length (piecesOf s all)
+  pub shares-suffice : piecesAsked s count ≤ length (piecesOf s all)
   shares-suffice =
-      let fit : piecesAsked s asked ≤ keptIn s = omega arith in
-      subst (λ (n : ℕ). n ≤ length (piecesOf s all)) (shares-count s spread (piecesAsked s asked) pieces-some fit)
-      (fewer-cuts s (sharesOf s (piecesAsked s asked)) all (shares-divide s spread (piecesAsked s asked) pieces-some fit) divides shares)
+      let fit : piecesAsked s count ≤ keptIn s = omega arith in
+      subst (λ (n : ℕ). n ≤ length (piecesOf s all)) (shares-count s spread (piecesAsked s count) pieces-some fit)
+      (fewer-cuts s (sharesOf s (piecesAsked s count)) all (shares-divide s spread (piecesAsked s count) pieces-some fit) divides shares)
 
   -- so a path over them by count has as many
-  pub pieces-asked : min asked (length (piecesOf s all)) ≡ piecesAsked s asked
+  pub pieces-asked : min count (length (piecesOf s all)) ≡ piecesAsked s count
   pieces-asked = omega (arith, shares-suffice, at-most-kept s spread all divides)
 
   -- and one of those paths keeps the reach
-  pub reach-kept : (maximum reach : ℕ) (far : List Cut) → IsReach g s asked maximum reach → Greedy g s reach far → Among far all
-      → (r : Refined s far all (piecesAsked s asked)) × (longest g (piecesOf s (r .cuts)) ≤ reach)
+  pub reach-kept : (maximum reach : ℕ) (far : List Cut) → IsReach g s count maximum reach → Greedy g s reach far → Among far all
+      → (r : Refined s far all (piecesAsked s count)) × (longest g (piecesOf s (r .cuts)) ≤ reach)
   reach-kept maximum reach far r greedy held =
       let d = greedy-divides g ok s spread reach far greedy in
-      let t = refine s far all d divides held (piecesAsked s asked) (feasible-greedy g ok s spread asked reach far greedy (r .feasible)) shares-suffice in
+      let t = refine s far all d divides held (piecesAsked s count) (feasible-greedy g ok s spread count reach far greedy (r .feasible)) shares-suffice in
       (t, omega (arith, more-cuts g ok s far (t .cuts) d (t .divides) (t .over), greedy-within g ok s spread reach far greedy))

@@ -11,9 +11,9 @@ use Rattle.candidate_span.specs.Kept.{keptFrames, keptBoundaries}
 abbrev pub keptIn : Span → ℕ
 keptIn s = keptFrames (s .first) (s .gaps) (s .last)
 
--- document 01's min(N, kept frames), where N is `asked`
+-- document 01's min(N, kept frames), where N is `count`
 abbrev pub piecesAsked : Span → ℕ → ℕ
-piecesAsked s asked = min asked (keptIn s)
+piecesAsked s count = min count (keptIn s)
 
 -- where a division may be cut: at a kept frame boundary, where one piece ends and the next starts, or at a whole dropped gap
 pub data Place (s : Span) : Cut → Type 0 where

@@ -20,9 +20,9 @@ choices (k ∷ ks) = choices ks ++ map (λ (c : List Cut). k ∷ c) (choices ks)
 unfoldable pub divisionsOf : Span → List (List Cut)
 divisionsOf s = choices (placesOf s)
 
--- whether a division "has at most min(N, kept frames) pieces and none longer than that limit", where N is `asked`
+-- whether a division "has at most min(N, kept frames) pieces and none longer than that limit", where N is `count`
 unfoldable pub keeps : FrameGrid → Span → ℕ → ℕ → List Cut → Bool
-keeps g s asked limit cuts = leb (length (piecesOf s cuts)) (piecesAsked s asked) && leb (longest g (piecesOf s cuts)) limit
+keeps g s count limit cuts = leb (length (piecesOf s cuts)) (piecesAsked s count) && leb (longest g (piecesOf s cuts)) limit
 
 -- some element of the list passes the test
 unfoldable pub anyOf : {A : Type 0} → (A → Bool) → List A → Bool
@@ -31,4 +31,4 @@ anyOf p (x ∷ xs) = p x || anyOf p xs
 
 -- whether some division of the span does so
 unfoldable pub isFeasible : FrameGrid → Span → ℕ → ℕ → Bool
-isFeasible g s asked limit = anyOf (keeps g s asked limit) (divisionsOf s)
+isFeasible g s count limit = anyOf (keeps g s count limit) (divisionsOf s)

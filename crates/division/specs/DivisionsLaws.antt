@@ -13,7 +13,7 @@ use Rattle.candidate_span.specs.Gaps.{Cut, Spread}
 use Rattle.candidate_span.specs.Span.{Span}
 use Rattle.division.specs.Division.{piecesAsked, Division}
 use Rattle.division.specs.Pieces.{piecesOf, longest}
-use Rattle.division.specs.RefineLaws.{Part, none, keep, skip, part-row, part-among, divisions-part}
+use Rattle.division.specs.RefineLaws.{Sublist, none, keep, skip, part-row, part-among, divisions-part}
 use Rattle.division.specs.Places.{placesOf}
 use Rattle.division.specs.PlacesLaws.{place-in, in-place, places-divide}
 use Rattle.division.specs.Divisions.{choices, divisionsOf, keeps, anyOf, isFeasible}
@@ -21,18 +21,18 @@ use Rattle.division.specs.Reach.{Feasible}
 
 -- ---- a choice of some cuts is a list with some left out
 
-part-chosen : {ks cs : List Cut} → Part ks cs → List·Memᴰ ks (choices cs)
+part-chosen : {ks cs : List Cut} → Sublist ks cs → List·Memᴰ ks (choices cs)
 part-chosen none = List·Memᴰ·head refl
 part-chosen (keep {k = k} {cs = cs} p) = Memᴰ·append-right (choices cs) (Memᴰ·map (λ (c : List Cut). k ∷ c) (part-chosen p))
 part-chosen (skip {k = k} {cs = cs} p) = Memᴰ·append-left (map (λ (c : List Cut). k ∷ c) (choices cs)) (part-chosen p)
 
-chosen-part : (ks cs : List Cut) → List·Memᴰ ks (choices cs) → Part ks cs
-chosen-part ks [] m = subst (λ (c : List Cut). Part c []) (sym (List·Memᴰ·eq-of-singleton m)) none
+chosen-part : (ks cs : List Cut) → List·Memᴰ ks (choices cs) → Sublist ks cs
+chosen-part ks [] m = subst (λ (c : List Cut). Sublist c []) (sym (List·Memᴰ·eq-of-singleton m)) none
 chosen-part ks (k ∷ cs) m = elim (List·Memᴰ·append-cases (choices cs) m) [
   | inl i ↦ skip (chosen-part ks cs i)
   | inr i ↦
       let t = Memᴰ·of-map (λ (c : List Cut). k ∷ c) (choices cs) i in
-      subst (λ (c : List Cut). Part c (k ∷ cs)) (t .2) (keep (chosen-part (t .0) cs (t .1)))
+      subst (λ (c : List Cut). Sublist c (k ∷ cs)) (t .2) (keep (chosen-part (t .0) cs (t .1)))
 ]
 
 -- ---- some element passes a test
@@ -68,21 +68,21 @@ module _ (s : Span) (spread : Spread (s .first) (s .gaps) (s .last)) where
       }
 
   -- where a limit is feasible, going through them says so
-  pub feasible-true : (g : FrameGrid) (asked limit : ℕ) → Feasible g s asked limit → isFeasible g s asked limit ≡ true
+  pub feasible-true : (g : FrameGrid) (count limit : ℕ) → Feasible g s count limit → isFeasible g s count limit ≡ true
   unfolding isFeasible keeps
-  feasible-true g asked limit f =
-      any-true (keeps g s asked limit) (divisionsOf s) (f .cuts) (division-listed (f .cuts) (f .divides))
-      (rw (le-leb (length (piecesOf s (f .cuts))) (piecesAsked s asked) (f .few), le-leb (longest g (piecesOf s (f .cuts))) limit (f .within)))
+  feasible-true g count limit f =
+      any-true (keeps g s count limit) (divisionsOf s) (f .cuts) (division-listed (f .cuts) (f .divides))
+      (rw (le-leb (length (piecesOf s (f .cuts))) (piecesAsked s count) (f .few), le-leb (longest g (piecesOf s (f .cuts))) limit (f .within)))
 
   -- and only there
-  pub true-feasible : (g : FrameGrid) (asked limit : ℕ) → isFeasible g s asked limit ≡ true → Feasible g s asked limit
+  pub true-feasible : (g : FrameGrid) (count limit : ℕ) → isFeasible g s count limit ≡ true → Feasible g s count limit
   unfolding isFeasible keeps
-  true-feasible g asked limit h =
-      let t = true-any (keeps g s asked limit) (divisionsOf s) h in
-      let b = both (leb (length (piecesOf s (t .0))) (piecesAsked s asked)) (leb (longest g (piecesOf s (t .0))) limit) (t .2) in
+  true-feasible g count limit h =
+      let t = true-any (keeps g s count limit) (divisionsOf s) h in
+      let b = both (leb (length (piecesOf s (t .0))) (piecesAsked s count)) (leb (longest g (piecesOf s (t .0))) limit) (t .2) in
       record {
         cuts = t .0;
         divides = listed-divides (t .0) (t .1);
-        few = leb-true (length (piecesOf s (t .0))) (piecesAsked s asked) (b .0);
+        few = leb-true (length (piecesOf s (t .0))) (piecesAsked s count) (b .0);
         within = leb-true (longest g (piecesOf s (t .0))) limit (b .1);
       }

@@ -16,7 +16,7 @@ use Rattle.division.specs.PiecesLaws.{row-inside}
 use Rattle.division.specs.Places.{placesOf}
 use Rattle.division.specs.PlacesLaws.{place-in, in-place, place-inside, places-divide}
 use Rattle.division.specs.Greedy.{Farthest, NoneWithin, GreedyFrom, Greedy}
-use Rattle.division.specs.GreedyLaws.{Start, start-first, start-right, keeps-ahead}
+use Rattle.division.specs.GreedyLaws.{MayBegin, start-first, start-right, keeps-ahead}
 
 -- ---- the farthest place can be found
 
@@ -85,7 +85,7 @@ module _ (g : FrameGrid) (ok : Accepted g) (s : Span) (spread : Spread (s .first
           )
       go (inr st) = inr (λ j p h. st j (place-in s spread j p) h)
 
-  none-step : (limit a : ℕ) (p : Cut) → Start s a → limit < lengthOf g (pieceFrom a (s .last)) → Farthest g s limit a p → NoneFrom g s limit (p .right) → NoneFrom g s limit a
+  none-step : (limit a : ℕ) (p : Cut) → MayBegin s a → limit < lengthOf g (pieceFrom a (s .last)) → Farthest g s limit a p → NoneFrom g s limit (p .right) → NoneFrom g s limit a
   none-step limit a p start more far n b [] h placed = omega (arith, more, boundary-mono g ok b a h)
   none-step limit a p start more far n b (k ∷ ks) h placed = elim (lt-or-le limit (lengthOf g (pieceFrom b (k .left)))) [
     | inl l ↦ omega (arith, l)
@@ -94,7 +94,7 @@ module _ (g : FrameGrid) (ok : Accepted g) (s : Span) (spread : Spread (s .first
         omega (arith, n (k .right) ks (o .1) (λ i m. placed i (List·Memᴰ·tail m)))
   ]
 
-  none-stuck : (limit a : ℕ) → Start s a → limit < lengthOf g (pieceFrom a (s .last)) → NoneWithin g s limit a → NoneFrom g s limit a
+  none-stuck : (limit a : ℕ) → MayBegin s a → limit < lengthOf g (pieceFrom a (s .last)) → NoneWithin g s limit a → NoneFrom g s limit a
   none-stuck limit a start more st b [] h placed = omega (arith, more, boundary-mono g ok b a h)
   none-stuck limit a start more st b (k ∷ ks) h placed = elim (lt-or-le a (k .left)) [
     | inl l ↦ omega (arith, st k (placed k (List·Memᴰ·head refl)) l, boundary-mono g ok b a h)
@@ -106,13 +106,13 @@ module _ (g : FrameGrid) (ok : Accepted g) (s : Span) (spread : Spread (s .first
   ]
 
   -- `fuel` boundaries at most are left
-  found-from : (limit fuel a : ℕ) → s .last ≤ a + fuel → a < s .last → Start s a → ((ks : List Cut) × GreedyFrom g s limit a ks) ⊎ NoneFrom g s limit a
+  found-from : (limit fuel a : ℕ) → s .last ≤ a + fuel → a < s .last → MayBegin s a → ((ks : List Cut) × GreedyFrom g s limit a ks) ⊎ NoneFrom g s limit a
   found-from limit zero a h l start = absurd (omega (arith, h, l))
   found-from limit (suc fuel) a h l start =
       go (lt-or-le limit (lengthOf g (pieceFrom a (s .last)))) (farthest-found limit a) (λ b i j k. found-from limit fuel b i j k)
     where
       go : (limit < lengthOf g (pieceFrom a (s .last))) ⊎ (lengthOf g (pieceFrom a (s .last)) ≤ limit) → ((k : Cut) × Farthest g s limit a k) ⊎ NoneWithin g s limit a
-          → ((b : ℕ) → s .last ≤ b + fuel → b < s .last → Start s b → ((ks : List Cut) × GreedyFrom g s limit b ks) ⊎ NoneFrom g s limit b)
+          → ((b : ℕ) → s .last ≤ b + fuel → b < s .last → MayBegin s b → ((ks : List Cut) × GreedyFrom g s limit b ks) ⊎ NoneFrom g s limit b)
           → ((ks : List Cut) × GreedyFrom g s limit a ks) ⊎ NoneFrom g s limit a
       go (inr w) f rest = inl ([], w)
       go (inl more) (inr st) rest = inr (none-stuck limit a start more st)

@@ -30,8 +30,8 @@ behind-fewer s js ks b = omega (arith, pieces-count (s .first) js (s .last), pie
 -- ---- one step
 
 -- a piece may start at a: no place reaches over it
-abbrev pub Start : Span → ℕ → Type 0
-Start s a = (k : Cut) → Place s k → k .left ≤ a → k .right ≤ a
+abbrev pub MayBegin : Span → ℕ → Type 0
+MayBegin s a = (k : Cut) → Place s k → k .left ≤ a → k .right ≤ a
 
 module _ (g : FrameGrid) (ok : Accepted g) (s : Span) (spread : Spread (s .first) (s .gaps) (s .last)) where
   -- a place that does not start behind another's end has both its ends no farther on
@@ -42,15 +42,15 @@ module _ (g : FrameGrid) (ok : Accepted g) (s : Span) (spread : Spread (s .first
   ]
 
   -- a piece may start with the span
-  pub start-first : Start s (s .first)
+  pub start-first : MayBegin s (s .first)
   start-first k p h = absurd (omega (arith, place-inside s spread k p .0))
 
   -- and at the right end of each place
-  pub start-right : (k : Cut) → Place s k → Start s (k .right)
+  pub start-right : (k : Cut) → Place s k → MayBegin s (k .right)
   start-right k p j q h = ends-order j k q p h .1
 
   -- from an earlier start no piece within the limit ends farther on
-  pub keeps-ahead : (limit a b : ℕ) (p k : Cut) → b ≤ a → Start s a → Farthest g s limit a p → Place s k → lengthOf g (pieceFrom b (k .left)) ≤ limit
+  pub keeps-ahead : (limit a b : ℕ) (p k : Cut) → b ≤ a → MayBegin s a → Farthest g s limit a p → Place s k → lengthOf g (pieceFrom b (k .left)) ≤ limit
       → (k .left ≤ p .left) × (k .right ≤ p .right)
   keeps-ahead limit a b p k h start far q short = elim (lt-or-le a (k .left)) [
     | inl l ↦
@@ -61,7 +61,7 @@ module _ (g : FrameGrid) (ok : Accepted g) (s : Span) (spread : Spread (s .first
 
   -- ---- nowhere behind
 
-  ahead-from : (limit a b : ℕ) (js ks : List Cut) → b ≤ a → Start s a → GreedyFrom g s limit a js → ((k : Cut) → List·Memᴰ k ks → Place s k)
+  ahead-from : (limit a b : ℕ) (js ks : List Cut) → b ≤ a → MayBegin s a → GreedyFrom g s limit a js → ((k : Cut) → List·Memᴰ k ks → Place s k)
       → longest g (piecesFrom b ks (s .last)) ≤ limit → NowhereBehind js ks
   ahead-from limit a b [] ks h start far placed short = tt
   ahead-from limit a b (j ∷ js) [] h start far placed short = absurd (omega (arith, far .0, short, boundary-mono g ok b a h))

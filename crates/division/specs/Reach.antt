@@ -8,15 +8,15 @@ use Rattle.candidate_span.specs.Span.{Span}
 use Rattle.division.specs.Division.{piecesAsked, Division}
 use Rattle.division.specs.Pieces.{piecesOf, longest}
 
--- a division of the span has at most min(N, kept frames) pieces, where N is `asked`, and none longer than the limit
-pub record Feasible (g : FrameGrid) (s : Span) (asked limit : ℕ) : Type 0 where
+-- a division of the span has at most min(N, kept frames) pieces, where N is `count`, and none longer than the limit
+pub record Feasible (g : FrameGrid) (s : Span) (count limit : ℕ) : Type 0 where
   pub cuts : List Cut
   pub divides : Division s cuts
-  pub few : length (piecesOf s cuts) ≤ piecesAsked s asked
+  pub few : length (piecesOf s cuts) ≤ piecesAsked s count
   pub within : longest g (piecesOf s cuts) ≤ limit
 
 -- `limit` is the reach
-pub record IsReach (g : FrameGrid) (s : Span) (asked maximum limit : ℕ) : Type 0 where
+pub record IsReach (g : FrameGrid) (s : Span) (count maximum limit : ℕ) : Type 0 where
   pub above : maximum ≤ limit
-  pub feasible : Feasible g s asked limit
-  pub least : (l : ℕ) → maximum ≤ l → Feasible g s asked l → limit ≤ l
+  pub feasible : Feasible g s count limit
+  pub least : (l : ℕ) → maximum ≤ l → Feasible g s count l → limit ≤ l

@@ -18,52 +18,52 @@ use Rattle.division.specs.GreedyFound.{greedy-found}
 use Rattle.division.specs.Reach.{Feasible, IsReach}
 
 -- a limit above a feasible one is feasible
-pub feasible-above : (g : FrameGrid) (s : Span) (asked l m : ℕ) → l ≤ m → Feasible g s asked l → Feasible g s asked m
-feasible-above g s asked l m h f = record { cuts = f .cuts; divides = f .divides; few = f .few; within = omega (arith, h, f .within) }
+pub feasible-above : (g : FrameGrid) (s : Span) (count l m : ℕ) → l ≤ m → Feasible g s count l → Feasible g s count m
+feasible-above g s count l m h f = record { cuts = f .cuts; divides = f .divides; few = f .few; within = omega (arith, h, f .within) }
 
 -- there is one reach at most
-pub reach-one : (g : FrameGrid) (s : Span) (asked maximum l m : ℕ) → IsReach g s asked maximum l → IsReach g s asked maximum m → l ≡ m
-reach-one g s asked maximum l m r t = omega (arith, r .least m (t .above) (t .feasible), t .least l (r .above) (r .feasible))
+pub reach-one : (g : FrameGrid) (s : Span) (count maximum l m : ℕ) → IsReach g s count maximum l → IsReach g s count maximum m → l ≡ m
+reach-one g s count maximum l m r t = omega (arith, r .least m (t .above) (t .feasible), t .least l (r .above) (r .feasible))
 
 -- the maximum is the reach where it is feasible itself
-pub reach-maximum : (g : FrameGrid) (s : Span) (asked maximum : ℕ) → Feasible g s asked maximum → IsReach g s asked maximum maximum
-reach-maximum g s asked maximum f = record { above = omega arith; feasible = f; least = λ l h e. h }
+pub reach-maximum : (g : FrameGrid) (s : Span) (count maximum : ℕ) → Feasible g s count maximum → IsReach g s count maximum maximum
+reach-maximum g s count maximum f = record { above = omega arith; feasible = f; least = λ l h e. h }
 
-module _ (g : FrameGrid) (ok : Accepted g) (s : Span) (spread : Spread (s .first) (s .gaps) (s .last)) (asked : ℕ) where
+module _ (g : FrameGrid) (ok : Accepted g) (s : Span) (spread : Spread (s .first) (s .gaps) (s .last)) (count : ℕ) where
   -- the greedy division of a feasible limit has at most min(N, kept frames) pieces
-  pub feasible-greedy : (limit : ℕ) (ks : List Cut) → Greedy g s limit ks → Feasible g s asked limit → length (piecesOf s ks) ≤ piecesAsked s asked
+  pub feasible-greedy : (limit : ℕ) (ks : List Cut) → Greedy g s limit ks → Feasible g s count limit → length (piecesOf s ks) ≤ piecesAsked s count
   feasible-greedy limit ks far f = omega (arith, greedy-fewest g ok s spread limit ks (f .cuts) far (f .divides) (f .within), f .few)
 
   -- it tells whether a limit is feasible
-  pub feasible-told : (limit : ℕ) → Feasible g s asked limit ⊎ (Feasible g s asked limit → ⊥)
+  pub feasible-told : (limit : ℕ) → Feasible g s count limit ⊎ (Feasible g s count limit → ⊥)
   feasible-told limit = go (greedy-found g ok s spread limit)
     where
-      told : (ks : List Cut) → Greedy g s limit ks → (piecesAsked s asked < length (piecesOf s ks)) ⊎ (length (piecesOf s ks) ≤ piecesAsked s asked)
-          → Feasible g s asked limit ⊎ (Feasible g s asked limit → ⊥)
+      told : (ks : List Cut) → Greedy g s limit ks → (piecesAsked s count < length (piecesOf s ks)) ⊎ (length (piecesOf s ks) ≤ piecesAsked s count)
+          → Feasible g s count limit ⊎ (Feasible g s count limit → ⊥)
       told ks far (inl l) = inr (λ f. omega (arith, l, feasible-greedy limit ks far f))
       told ks far (inr l) =
           inl (record { cuts = ks; divides = greedy-divides g ok s spread limit ks far; few = l; within = greedy-within g ok s spread limit ks far })
 
       go : ((ks : List Cut) × Greedy g s limit ks) ⊎ ((ks : List Cut) → Division s ks → limit < longest g (piecesOf s ks))
-          → Feasible g s asked limit ⊎ (Feasible g s asked limit → ⊥)
-      go (inl t) = told (t .0) (t .1) (lt-or-le (piecesAsked s asked) (length (piecesOf s (t .0))))
+          → Feasible g s count limit ⊎ (Feasible g s count limit → ⊥)
+      go (inl t) = told (t .0) (t .1) (lt-or-le (piecesAsked s count) (length (piecesOf s (t .0))))
       go (inr n) = inr (λ f. omega (arith, n (f .cuts) (f .divides), f .within))
 
   -- down from a feasible limit, n above the maximum
-  reach-below : (maximum n : ℕ) → Feasible g s asked (maximum + n) → (limit : ℕ) × IsReach g s asked maximum limit
+  reach-below : (maximum n : ℕ) → Feasible g s count (maximum + n) → (limit : ℕ) × IsReach g s count maximum limit
   reach-below maximum zero f =
       let e : maximum + 0 ≡ maximum = omega arith in
-      (maximum, reach-maximum g s asked maximum (subst (Feasible g s asked) e f))
+      (maximum, reach-maximum g s count maximum (subst (Feasible g s count) e f))
   reach-below maximum (suc n) f = go (feasible-told (maximum + n)) (reach-below maximum n)
     where
-      here : (Feasible g s asked (maximum + n) → ⊥) → (l : ℕ) → Feasible g s asked l → maximum + suc n ≤ l
-      here never l e = elim (lt-or-le (maximum + n) l) [ inl h ↦ omega (arith, h) | inr h ↦ absurd (never (feasible-above g s asked l (maximum + n) h e)) ]
+      here : (Feasible g s count (maximum + n) → ⊥) → (l : ℕ) → Feasible g s count l → maximum + suc n ≤ l
+      here never l e = elim (lt-or-le (maximum + n) l) [ inl h ↦ omega (arith, h) | inr h ↦ absurd (never (feasible-above g s count l (maximum + n) h e)) ]
 
-      go : Feasible g s asked (maximum + n) ⊎ (Feasible g s asked (maximum + n) → ⊥) → (Feasible g s asked (maximum + n) → (limit : ℕ) × IsReach g s asked maximum limit)
-          → (limit : ℕ) × IsReach g s asked maximum limit
+      go : Feasible g s count (maximum + n) ⊎ (Feasible g s count (maximum + n) → ⊥) → (Feasible g s count (maximum + n) → (limit : ℕ) × IsReach g s count maximum limit)
+          → (limit : ℕ) × IsReach g s count maximum limit
       go (inl e) rest = rest e
       go (inr never) rest = (maximum + suc n, record { above = omega arith; feasible = f; least = λ l h e. here never l e })
 
   -- where any limit is feasible, there is a reach
-  pub reach-found : (maximum l : ℕ) → Feasible g s asked l → (limit : ℕ) × IsReach g s asked maximum limit
-  reach-found maximum l f = reach-below maximum l (feasible-above g s asked l (maximum + l) (omega arith) f)
+  pub reach-found : (maximum l : ℕ) → Feasible g s count l → (limit : ℕ) × IsReach g s count maximum limit
+  reach-found maximum l f = reach-below maximum l (feasible-above g s count l (maximum + l) (omega arith) f)

@@ -16,32 +16,32 @@ use Rattle.division.specs.PiecesLaws.{row-from, row-inside, pieces-count
 use Rattle.division.specs.Refine.{Refined}
 
 -- the first list is the second with some left out
-pub data Part : List Cut → List Cut → Type 0 where
-  none : Part [] []
-  keep : {k : Cut} {ks cs : List Cut} → Part ks cs → Part (k ∷ ks) (k ∷ cs)
-  skip : {k : Cut} {ks cs : List Cut} → Part ks cs → Part ks (k ∷ cs)
+pub data Sublist : List Cut → List Cut → Type 0 where
+  none : Sublist [] []
+  keep : {k : Cut} {ks cs : List Cut} → Sublist ks cs → Sublist (k ∷ ks) (k ∷ cs)
+  skip : {k : Cut} {ks cs : List Cut} → Sublist ks cs → Sublist ks (k ∷ cs)
 
-part-whole : (ks : List Cut) → Part ks ks
+part-whole : (ks : List Cut) → Sublist ks ks
 part-whole [] = none
 part-whole (k ∷ ks) = keep (part-whole ks)
 
-part-empty : (cs : List Cut) → Part [] cs
+part-empty : (cs : List Cut) → Sublist [] cs
 part-empty [] = none
 part-empty (c ∷ cs) = skip (part-empty cs)
 
-part-length : {ks cs : List Cut} → Part ks cs → length ks ≤ length cs
+part-length : {ks cs : List Cut} → Sublist ks cs → length ks ≤ length cs
 part-length none = omega arith
 part-length (keep p) = omega (arith, part-length p)
 part-length (skip p) = omega (arith, part-length p)
 
 -- a row with some cuts left out is a row
-pub part-row : {ks cs : List Cut} (a z : ℕ) → Part ks cs → Row a cs z → Row a ks z
+pub part-row : {ks cs : List Cut} (a z : ℕ) → Sublist ks cs → Row a cs z → Row a ks z
 part-row a z none r = r
 part-row a z (keep {k = k} p) r = (r .0, r .1, part-row (k .right) z p (r .2))
 part-row a z (skip {k = k} {ks = ks} p) r = row-from a (k .right) ks z (omega arith) (part-row (k .right) z p (r .2))
 
 -- and has no other cuts
-pub part-among : {ks cs : List Cut} → Part ks cs → Among ks cs
+pub part-among : {ks cs : List Cut} → Sublist ks cs → Among ks cs
 part-among none k m = m
 part-among (keep p) k (List·Memᴰ·head e) = List·Memᴰ·head e
 part-among (keep p) k (List·Memᴰ·tail m) = List·Memᴰ·tail (part-among p k m)
@@ -57,7 +57,7 @@ past b ks z c cs h r m k i = go (m k i)
     go (List·Memᴰ·head e) = absurd (omega (arith, h, ap (λ (j : Cut). j .left) e, row-inside b ks z k r i .0))
     go (List·Memᴰ·tail j) = j
 
-part-of : (a b : ℕ) (ks cs : List Cut) (z : ℕ) → Row a cs z → Row b ks z → Among ks cs → Part ks cs
+part-of : (a b : ℕ) (ks cs : List Cut) (z : ℕ) → Row a cs z → Row b ks z → Among ks cs → Sublist ks cs
 part-of a b [] cs z r s m = part-empty cs
 part-of a b (k ∷ ks) [] z r s m = absurd (List·Memᴰ·not-nil (m k (List·Memᴰ·head refl)))
 part-of a b (k ∷ ks) (c ∷ cs) z r s m =
@@ -66,16 +66,16 @@ part-of a b (k ∷ ks) (c ∷ cs) z r s m =
     rest : Among ks (c ∷ cs)
     rest j i = m j (List·Memᴰ·tail i)
 
-    go : List·Memᴰ k (c ∷ cs) → (Among ks cs → Part ks cs) → (Row (c .right) (k ∷ ks) z → Among (k ∷ ks) cs → Part (k ∷ ks) cs) → Part (k ∷ ks) (c ∷ cs)
+    go : List·Memᴰ k (c ∷ cs) → (Among ks cs → Sublist ks cs) → (Row (c .right) (k ∷ ks) z → Among (k ∷ ks) cs → Sublist (k ∷ ks) cs) → Sublist (k ∷ ks) (c ∷ cs)
     go (List·Memᴰ·head e) f f′ =
         let l : c .left ≤ k .right = omega (arith, s .1, ap (λ (j : Cut). j .left) e) in
-        subst (λ (j : Cut). Part (k ∷ ks) (j ∷ cs)) e (keep (f (past (k .right) ks z c cs l (s .2) rest)))
+        subst (λ (j : Cut). Sublist (k ∷ ks) (j ∷ cs)) e (keep (f (past (k .right) ks z c cs l (s .2) rest)))
     go (List·Memᴰ·tail i) f f′ =
         let q = row-inside (c .right) cs z k (r .2) i in
         skip (f′ (q .0, s .1, s .2) (past (c .right) (k ∷ ks) z c cs (omega (arith, r .1)) (q .0, s .1, s .2) m))
 
 -- a division whose cuts another has is that other with some left out
-pub divisions-part : (s : Span) (ks cs : List Cut) → Division s ks → Division s cs → Among ks cs → Part ks cs
+pub divisions-part : (s : Span) (ks cs : List Cut) → Division s ks → Division s cs → Among ks cs → Sublist ks cs
 divisions-part s ks cs d e m = part-of (s .first) (s .first) ks cs (s .last) (e .rises) (d .rises) m
 
 -- fewer cuts are fewer pieces
@@ -91,7 +91,7 @@ module _ (g : FrameGrid) (ok : Accepted g) where
   under-first a b e c [] z h l r = omega (arith, boundary-mono g ok a b h, boundary-mono g ok e z (omega arith))
   under-first a b e c (k ∷ ks) z h l r = omega (arith, boundary-mono g ok a b h, boundary-mono g ok e (k .left) (omega (arith, r .0)))
 
-  part-longest : {ks cs : List Cut} (a b z : ℕ) → a ≤ b → Part ks cs → Row b cs z → longest g (piecesFrom b cs z) ≤ longest g (piecesFrom a ks z)
+  part-longest : {ks cs : List Cut} (a b z : ℕ) → a ≤ b → Sublist ks cs → Row b cs z → longest g (piecesFrom b cs z) ≤ longest g (piecesFrom a ks z)
   part-longest a b z h none r = omega (arith, boundary-mono g ok a b h)
   part-longest a b z h (keep {k = k} p) r = omega (arith, boundary-mono g ok a b h, part-longest (k .right) (k .right) z (omega arith) p (r .2))
   part-longest a b z h (skip {k = k} {ks = ks} {cs = cs} p) r =
@@ -109,11 +109,11 @@ module _ (g : FrameGrid) (ok : Accepted g) where
 
 record Between (ks cs : List Cut) (n : ℕ) : Type 0 where
   pub list : List Cut
-  pub over : Part ks list
-  pub under : Part list cs
+  pub over : Sublist ks list
+  pub under : Sublist list cs
   pub size : length list ≡ n
 
-part-between : {ks cs : List Cut} (n : ℕ) → Part ks cs → length ks ≤ n → n ≤ length cs → Between ks cs n
+part-between : {ks cs : List Cut} (n : ℕ) → Sublist ks cs → length ks ≤ n → n ≤ length cs → Between ks cs n
 part-between n none h l = record { list = []; over = none; under = none; size = omega arith }
 part-between zero (keep p) h l = absurd (omega arith)
 part-between (suc n) (keep {k = k} p) h l =

@@ -20,12 +20,12 @@ use Rattle.grid.specs.declared.validate.Validity.the-variants.{Valid, Ba
 -- ---- the six tests, each true where the recording passes
 
 -- above 0, and at most the limit
-unfoldable pub isWithin : ℕ → ℕ → Bool
-isWithin x most = ltb 0 x && leb x most
+unfoldable pub isUpTo : ℕ → ℕ → Bool
+isUpTo x most = ltb 0 x && leb x most
 
 -- 1: the sample rate is above 0 and within its limit
 abbrev pub rateOk : ℕ → Bool
-rateOk rate = isWithin rate maxRate
+rateOk rate = isUpTo rate maxRate
 
 -- 2: there is a channel
 abbrev pub channelsOk : ℕ → Bool
@@ -33,7 +33,7 @@ channelsOk channels = ltb 0 channels
 
 -- 3: frame rate and hop are above 0 and within their limits
 unfoldable pub frameStepOk : ℕ → ℕ → Bool
-frameStepOk frameRate hop = isWithin frameRate maxFrameRate && isWithin hop maxHop
+frameStepOk frameRate hop = isUpTo frameRate maxFrameRate && isUpTo hop maxHop
 
 -- 3: and a frame spans at least one sample
 unfoldable pub framesOk : ℕ → ℕ → ℕ → Bool

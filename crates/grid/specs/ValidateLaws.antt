@@ -14,7 +14,7 @@ use Rattle.base_laws.specs.Tests.{holds, both, unmet}
 use Rattle.grid.specs.Limits.{maxRate, maxFrameRate, maxHop, maxFrames}
 use Rattle.grid.specs.Boundary.{Bounded, boundaryOf, covers}
 use Rattle.grid.specs.BoundaryLaws.{Accepted, boundary-rises}
-use Rattle.grid.specs.Validate.{isWithin, rateOk, channelsOk, frameStepOk, framesOk, levelCount, listsOk, valuesOk, lengthOk, gridOf, orElse, validityOf, isValid, refusalOf}
+use Rattle.grid.specs.Validate.{isUpTo, rateOk, channelsOk, frameStepOk, framesOk, levelCount, listsOk, valuesOk, lengthOk, gridOf, orElse, validityOf, isValid, refusalOf}
 use Rattle.grid.specs.declared.boundary.FrameGrid.{FrameGrid}
 use Rattle.grid.specs.declared.validate.Domain.{Domain}
 use Rattle.grid.specs.declared.validate.Recording.{Recording}
@@ -33,23 +33,23 @@ pub record AcceptedRecording (r : Recording) (values : List Float) (flags : List
 -- ---- what a test that passed says of the numbers
 
 -- a number within its limit is at most that
-pub within-most : (x most : ℕ) → isWithin x most ≡ true → x ≤ most
-unfolding isWithin
+pub within-most : (x most : ℕ) → isUpTo x most ≡ true → x ≤ most
+unfolding isUpTo
 within-most x most e = leb→le x most (and-r (ltb 0 x) (leb x most) (holds e))
 
 -- and it is above 0
-pub within-pos : (x most : ℕ) → isWithin x most ≡ true → 0 < x
-unfolding isWithin
+pub within-pos : (x most : ℕ) → isUpTo x most ≡ true → 0 < x
+unfolding isUpTo
 within-pos x most e = ltb→lt 0 x (and-l (ltb 0 x) (leb x most) (holds e))
 
 -- test 3 of frame rate and hop, taken apart
-pub step-parts : (frameRate hop : ℕ) → frameStepOk frameRate hop ≡ true → (isWithin frameRate maxFrameRate ≡ true) × (isWithin hop maxHop ≡ true)
+pub step-parts : (frameRate hop : ℕ) → frameStepOk frameRate hop ≡ true → (isUpTo frameRate maxFrameRate ≡ true) × (isUpTo hop maxHop ≡ true)
 unfolding frameStepOk
-step-parts frameRate hop e = both (isWithin frameRate maxFrameRate) (isWithin hop maxHop) e
+step-parts frameRate hop e = both (isUpTo frameRate maxFrameRate) (isUpTo hop maxHop) e
 
 -- test 3, taken apart
 pub frames-parts : (rate frameRate hop : ℕ) → framesOk rate frameRate hop ≡ true
-    → (isWithin frameRate maxFrameRate ≡ true) × (isWithin hop maxHop ≡ true) × (frameRate ≤ hop * rate)
+    → (isUpTo frameRate maxFrameRate ≡ true) × (isUpTo hop maxHop ≡ true) × (frameRate ≤ hop * rate)
 unfolding framesOk
 frames-parts rate frameRate hop e =
     let p = both (frameStepOk frameRate hop) (leb frameRate (hop * rate)) e in

@@ -3,7 +3,7 @@ use crate::boundary::FrameGrid;
 use crate::values;
 ghost use mathlib.Core.Path.{_≡_};
 ghost use Rattle.grid.specs.Boundary.{Bounded};
-ghost use Rattle.grid.specs.Validate.{isWithin, rateOk, channelsOk, frameStepOk, framesOk, levelCount};
+ghost use Rattle.grid.specs.Validate.{isUpTo, rateOk, channelsOk, frameStepOk, framesOk, levelCount};
 ghost use Rattle.grid.specs.Validate.{listsOk, valuesOk, lengthOk, gridOf, validityOf, isValid, refusalOf};
 
 pub const MAX_RATE: u32 = 192_000;
@@ -76,8 +76,8 @@ pub fn is_valid(v: Validity) -> bool
 }
 
 // Whether x is above 0 and at most `most`.
-pub fn within(x: u32, most: u32) -> bool
-    ensures { λ r. ⌜ r ≡ isWithin x most ⌝ }
+pub fn is_up_to(x: u32, most: u32) -> bool
+    ensures { λ r. ⌜ r ≡ isUpTo x most ⌝ }
 {
     0 < x && x <= most
 }
@@ -86,7 +86,7 @@ pub fn within(x: u32, most: u32) -> bool
 pub fn rate_ok(sample_rate: u32) -> bool
     ensures { λ r. ⌜ r ≡ rateOk «sample_rate» ⌝ }
 {
-    within(sample_rate, MAX_RATE)
+    is_up_to(sample_rate, MAX_RATE)
 }
 
 // Test 2.
@@ -100,10 +100,10 @@ pub fn channels_ok(channels: u16) -> bool
 pub fn frame_step_ok(frame_rate: u32, hop: u32) -> bool
     ensures { λ r. ⌜ r ≡ frameStepOk «frame_rate» hop ⌝ }
 {
-    if !within(frame_rate, MAX_FRAME_RATE) {
+    if !is_up_to(frame_rate, MAX_FRAME_RATE) {
         return false;
     }
-    within(hop, MAX_HOP)
+    is_up_to(hop, MAX_HOP)
 }
 
 // Test 3.

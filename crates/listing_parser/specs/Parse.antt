@@ -42,9 +42,9 @@ andThen none next = none
 andThen (some a) next = next a
 
 -- the first that is something
-abbrev pub orElse : {A : Type 0} → Option A → Option A → Option A
-orElse none other = other
-orElse (some a) other = some a
+abbrev pub firstSome : {A : Type 0} → Option A → Option A → Option A
+firstSome none other = other
+firstSome (some a) other = some a
 
 -- ---- words and numbers
 
@@ -75,7 +75,7 @@ numberIn (b ∷ bytes) = cond (isDigit b) (some (numberFrom b bytes)) none
 -- one of some words: its place among them, counted from k
 unfoldable pub choiceIn : ℕ → List (List ℕ) → List ℕ → Option (Read ℕ)
 choiceIn k [] bytes = none
-choiceIn k (word ∷ words) bytes = orElse (andThen (wordIn word bytes) (λ rest. some (valueThen k rest))) (choiceIn (suc k) words bytes)
+choiceIn k (word ∷ words) bytes = firstSome (andThen (wordIn word bytes) (λ rest. some (valueThen k rest))) (choiceIn (suc k) words bytes)
 
 -- ---- lines
 
@@ -135,4 +135,4 @@ refusalIn bytes =
 
 -- what the bytes say
 unfoldable pub parsedOf : List ℕ → Option Parsed
-parsedOf bytes = orElse (planIn bytes) (refusalIn bytes)
+parsedOf bytes = firstSome (planIn bytes) (refusalIn bytes)

@@ -15,7 +15,7 @@ use Rattle.listing.specs.TextLaws.{decimal-digit, decimal-more}
 use Rattle.listing.specs.Rows.{ListedRow, MarksTo}
 use Rattle.listing.specs.Listing.{flagsWord, reasonWord, numbersLine, pieceLine, cutLine, lineOf, linesOf, refusalLine}
 use Rattle.listing_parser.specs.ParseLaws.{begun, piece-is, cut-is, plan-is, listed-is, parsed-listed, parsed-refusal}
-use Rattle.listing_parser.specs.Parse.{Parsed, planned, refused, printedOf, Listable, Read, valueThen, andThen, orElse, wordIn, isDigit, digitsIn, numberFrom, numberIn, choiceIn, flagEnds, reasonEnds, rowIn, rowsIn, ended, planIn, refusalIn, parsedOf}
+use Rattle.listing_parser.specs.Parse.{Parsed, planned, refused, printedOf, Listable, Read, valueThen, andThen, firstSome, wordIn, isDigit, digitsIn, numberFrom, numberIn, choiceIn, flagEnds, reasonEnds, rowIn, rowsIn, ended, planIn, refusalIn, parsedOf}
 
 -- ---- steps
 
@@ -25,7 +25,7 @@ then-back none next b h go = absurd (Option·none-ne-some b h)
 then-back (some a) next b h go = go a refl h
 
 -- where one of two ways gives something, it is the first or the second
-else-back : {A C : Type 0} (o other : Option A) (a : A) → orElse o other ≡ some a → (o ≡ some a → C) → (other ≡ some a → C) → C
+else-back : {A C : Type 0} (o other : Option A) (a : A) → firstSome o other ≡ some a → (o ≡ some a → C) → (other ≡ some a → C) → C
 else-back none other a h first second = second h
 else-back (some b) other a h first second = first h
 

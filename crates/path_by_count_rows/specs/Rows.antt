@@ -20,8 +20,8 @@ use Rattle.path_by_count_rows.specs.First.{firstStart}
 -- ---- one score of a row
 
 -- where the pieces to candidate j may start in row k: an allowed piece, and k - 1 pieces before it
-abbrev pub startOf : ℕ → List ℕ → List ℕ → ℕ → ℕ → ℕ
-startOf limit left right k j = max (firstStart limit left right j) (k - 1)
+abbrev pub earliestStart : ℕ → List ℕ → List ℕ → ℕ → ℕ → ℕ
+earliestStart limit left right k j = max (firstStart limit left right j) (k - 1)
 
 -- document 01's "by count, the first piece may have any length": a path of one piece. To the first candidate there is none
 unfoldable pub firstScore : Lengths → List ℕ → List ℕ → List Float → ℕ → Score

@@ -32,18 +32,18 @@ use Rattle.path_by_count_rows.specs.FirstLaws.{first-start-high, first-s
 use Rattle.path_by_count_tree.specs.Tree.{noLeaf}
 use Rattle.path_by_count_tree.specs.TreeLaws.{Sound, covers-all, covers-front}
 use Rattle.path_by_count_tree.specs.Fill.{written, kept, Padded, Linked}
-use Rattle.path_by_count_rows.specs.Rows.{startOf, firstScore, leafScore, behind, Laid, Kept, ScoreRow, FirstRow, NextRow, FirstWritten, NextWritten, Planted, RowReady}
+use Rattle.path_by_count_rows.specs.Rows.{earliestStart, firstScore, leafScore, behind, Laid, Kept, ScoreRow, FirstRow, NextRow, FirstWritten, NextWritten, Planted, RowReady}
 
 -- ---- where the last piece may start
 
 module _ (l : Lengths) (left right : List ℕ) where
   -- the last piece may start somewhere before j
-  pub start-below : (k j : ℕ) → 0 < k → k ≤ j → startOf (l .limit) left right k j < j
+  pub start-below : (k j : ℕ) → 0 < k → k ≤ j → earliestStart (l .limit) left right k j < j
   start-below k j h g = omega (arith, first-start-high (l .limit) left right j)
 
   -- the least of the scores through the leaves of a row's tree is the best predecessor: the piece rule leaves the candidates from the first start on
   pub predecessor-by : (leaves : ℕ) (over : List ℕ) (cost : List Float) (k j from : ℕ) (b : Best) → Candidates left right → 0 < k → k ≤ j → j < length left
-      → from ≡ startOf (l .limit) left right k j → heldOf b ≡ leastIn (arrivalAt l right over cost leaves (getD left j 0)) from j
+      → from ≡ earliestStart (l .limit) left right k j → heldOf b ≡ leastIn (arrivalAt l right over cost leaves (getD left j 0)) from j
       → heldOf b ≡ predecessorOf l left right (leafScore leaves over cost) (k - 1) j
   unfolding predecessorOf pieceLength
   predecessor-by leaves over cost k j from b ok some reached inside e h =

@@ -23,8 +23,8 @@ use Rattle.path_by_count_search.specs.declared.halves.Half.{Half}
 use Rattle.path_by_count_search.specs.declared.halves.Ordered.{Ordered}
 
 -- the preferences of a query: only the weights of a length are held
-abbrev pub lengthsOf : Query → Lengths
-lengthsOf q = record { min = q .min; target = q .target; limit = q .limit; weights = lengthWeights (q .«target_weight») (q .«short_weight») }
+abbrev pub queryLengths : Query → Lengths
+queryLengths q = record { min = q .min; target = q .target; limit = q .limit; weights = lengthWeights (q .«target_weight») (q .«short_weight») }
 
 -- what the bound of the candidates from lo up to hi reads
 pub record Ranged (right over : List ℕ) (cost : List Float) (end node lo hi : ℕ) : Type 0 where
@@ -57,7 +57,7 @@ pub record FirstIn (score : ℕ → Score) (lo hi from to : ℕ) (b r : Best) : 
 
 -- the score through each candidate, for what is sought
 abbrev pub through : Query → List ℕ → List ℕ → List Float → ℕ → Score
-through q right over cost = arrivalAt (lengthsOf q) right over cost (q .leaves) (q .end)
+through q right over cost = arrivalAt (queryLengths q) right over cost (q .leaves) (q .end)
 
 -- some candidate of lo .. hi lies in the query
 abbrev pub meets : Query → ℕ → ℕ → Bool
@@ -65,7 +65,7 @@ meets q lo hi = ltb (max lo (q .from)) (min hi (q .to))
 
 -- the bound of those that do, by the score of a node
 abbrev pub activeBound : Query → List ℕ → List ℕ → List Float → ℕ → ℕ → ℕ → Score
-activeBound q right over cost node lo hi = boundOf (lengthsOf q) right over cost (q .end) node (max lo (q .from)) (min hi (q .to))
+activeBound q right over cost node lo hi = boundOf (queryLengths q) right over cost (q .end) node (max lo (q .from)) (min hi (q .to))
 
 -- the best that one of them can be: that bound, at the first of them; where there is none, more pieces over the limit than a path can have
 unfoldable pub outlookOf : Query → List ℕ → List ℕ → List Float → ℕ → ℕ → ℕ → Best
@@ -82,13 +82,13 @@ unfoldable pub inOrder : Half → Half → Ordered
 inOrder lower upper = pickOrder (lessThan (upper .outlook .score) (lower .outlook .score)) lower upper
 
 -- the range lo .. hi of a node with its outlook
-abbrev pub halfOf : Query → List ℕ → List ℕ → List Float → ℕ → ℕ → ℕ → Half
-halfOf q right over cost node lo hi = record { node = node; lo = lo; hi = hi; outlook = outlookOf q right over cost node lo hi }
+abbrev pub halfAt : Query → List ℕ → List ℕ → List Float → ℕ → ℕ → ℕ → Half
+halfAt q right over cost node lo hi = record { node = node; lo = lo; hi = hi; outlook = outlookOf q right over cost node lo hi }
 
 -- the halves of lo .. hi, the range of a node
 abbrev pub halvesOf : Query → List ℕ → List ℕ → List Float → ℕ → ℕ → ℕ → Ordered
 halvesOf q right over cost node lo hi =
-    inOrder (halfOf q right over cost (node * 2) lo (lo + (hi - lo) / 2)) (halfOf q right over cost (node * 2 + 1) (lo + (hi - lo) / 2) hi)
+    inOrder (halfAt q right over cost (node * 2) lo (lo + (hi - lo) / 2)) (halfAt q right over cost (node * 2 + 1) (lo + (hi - lo) / 2) hi)
 
 -- what they read
 pub record Halved (right over : List ℕ) (cost : List Float) (q : Query) (node lo hi : ℕ) : Type 0 where

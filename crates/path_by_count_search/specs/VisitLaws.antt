@@ -26,7 +26,7 @@ use Rattle.path_by_count_tree.specs.Tree.{noLeaf, Bound, Covers}
 use Rattle.path_by_count_tree.specs.TreeLaws.{bound-of, lower-half, upper-half}
 use Rattle.path_by_count_search.specs.Bound.{boundOf}
 use Rattle.path_by_count_search.specs.BoundLaws.{bound-nonneg, bound-least}
-use Rattle.path_by_count_search.specs.Visit.{lengthsOf, Ranged, Looks, OneOf, FirstIn, through, activeBound, outlookOf, inOrder, halfOf, halvesOf, Halved, Part, Parts}
+use Rattle.path_by_count_search.specs.Visit.{queryLengths, Ranged, Looks, OneOf, FirstIn, through, activeBound, outlookOf, inOrder, halfAt, halvesOf, Halved, Part, Parts}
 use Rattle.path_by_count_search.specs.declared.halves.Half.{Half}
 use Rattle.path_by_count_search.specs.declared.halves.Ordered.{Ordered}
 
@@ -47,12 +47,12 @@ module _ (q : Query) (right over : List ℕ) (cost : List Float) (node lo hi : �
   outlook-none b p z h d = let l : min hi (q .to) ≤ max lo (q .from) = omega arith in rw (le-ltb (max lo (q .from)) (min hi (q .to)) l) d
 
   -- some do
-  pub outlook-some : (s : Score) → a ≡ max lo (q .from) → e ≡ min hi (q .to) → a < e → s ≡ boundOf (lengthsOf q) right over cost (q .end) node a e
+  pub outlook-some : (s : Score) → a ≡ max lo (q .from) → e ≡ min hi (q .to) → a < e → s ≡ boundOf (queryLengths q) right over cost (q .end) node a e
       → _≡_ {A = Best} (record { score = s; at = a }) (outlookOf q right over cost node lo hi)
   unfolding outlookOf
   outlook-some s p z h d = let l : max lo (q .from) < min hi (q .to) = omega arith in rw (d, lt-ltb (max lo (q .from)) (min hi (q .to)) l, p, z)
 
-module _ (q : Query) {right over : List ℕ} {cost : List Float} (s : Starts (lengthsOf q) right over cost (q .leaves) (q .to) (q .end)) where
+module _ (q : Query) {right over : List ℕ} {cost : List Float} (s : Starts (queryLengths q) right over cost (q .leaves) (q .to) (q .end)) where
   -- the bound of a node can be read
   pub looks : {node lo hi : ℕ} → Bound (q .leaves) (q .to) over cost node lo hi → Looks right over cost q node lo hi
   looks {node} {lo} {hi} b = record {
@@ -196,7 +196,7 @@ either-order P lower upper x y = elim (tested (lessThan (upper .outlook .score) 
 
 module _ (q : Query) {right over : List ℕ} {cost : List Float} {node lo hi : ℕ} (c : Covers (q .leaves) (q .to) over cost node lo hi) (h : 1 < hi - lo) where
   -- they can be read
-  pub halved : Starts (lengthsOf q) right over cost (q .leaves) (q .to) (q .end) → Halved right over cost q node lo hi
+  pub halved : Starts (queryLengths q) right over cost (q .leaves) (q .to) (q .end) → Halved right over cost q node lo hi
   halved s =
       let low = lower-half c (λ (e : hi - lo ≡ 1). omega arith) refl in
       let up = upper-half c (λ (e : hi - lo ≡ 1). omega arith) refl in
@@ -206,8 +206,8 @@ module _ (q : Query) {right over : List ℕ} {cost : List Float} {node lo hi : �
   pub halves-parts : {o : Ordered} → o ≡ halvesOf q right over cost node lo hi → Parts q right over cost lo hi o
   halves-parts {o} e =
       let mid = lo + (hi - lo) / 2 in
-      let lower : Half = halfOf q right over cost (node * 2) lo mid in
-      let upper : Half = halfOf q right over cost (node * 2 + 1) mid hi in
+      let lower : Half = halfAt q right over cost (node * 2) lo mid in
+      let upper : Half = halfAt q right over cost (node * 2 + 1) mid hi in
       let low : Part q right over cost lo hi lower = search (arith, lower-half c (λ (e : hi - lo ≡ 1). omega arith) refl) in
       let up : Part q right over cost lo hi upper = search (arith, upper-half c (λ (e : hi - lo ≡ 1). omega arith) refl) in
       subst (λ (x : Ordered). Parts q right over cost lo hi x) (sym e) (either-order (λ (x : Ordered). Parts q right over cost lo hi x) lower upper
@@ -216,7 +216,7 @@ module _ (q : Query) {right over : List ℕ} {cost : List Float} {node lo hi : �
 
 module _ (q : Query) {right over : List ℕ} {cost : List Float} {lo hi : ℕ} where
   -- a part whose outlook is not ahead of the best so far has nothing better
-  pub left-out : {h : Half} {best : Best} → Starts (lengthsOf q) right over cost (q .leaves) (q .to) (q .end) → Part q right over cost lo hi h
+  pub left-out : {h : Half} {best : Best} → Starts (queryLengths q) right over cost (q .leaves) (q .to) (q .end) → Part q right over cost lo hi h
       → T (nonneg (best .score .cost)) → aheadOf (h .outlook) best ≡ false → FirstIn (through q right over cost) (h .lo) (h .hi) (q .from) (q .to) best best
   left-out {h} {best} s p f x = none-better q s (p .covers) f (subst (λ (o : Best). aheadOf o best ≡ false) (p .seen) x)
 

@@ -49,7 +49,7 @@ fn outlook(
         };
         return Best { score, at: hi };
     }
-    let lengths = visit::lengths_of(query);
+    let lengths = visit::query_lengths(query);
     let score = bound::bound(right, over, cost, lengths, query.end, node, start, stop);
     Best { score, at: start }
 }

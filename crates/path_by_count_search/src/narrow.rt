@@ -9,7 +9,7 @@ ghost use lib.Dec.{T};
 ghost use Rattle.base_terms.specs.Floats.{nonneg};
 ghost use Rattle.path_by_count_search.specs.Starts.{Starts};
 ghost use Rattle.path_by_count_tree.specs.Tree.{Covers};
-ghost use Rattle.path_by_count_search.specs.Visit.{lengthsOf, FirstIn, through};
+ghost use Rattle.path_by_count_search.specs.Visit.{queryLengths, FirstIn, through};
 ghost use Rattle.path_by_count_search.specs.Narrow.{narrowerOf};
 
 // A node with its range.
@@ -46,7 +46,8 @@ fn narrower(place: Place, from: usize, to: usize) -> Place
 // The first of the best so far and the candidates in the query. No bound is needed on the way down to the place that
 // holds them all.
 pub fn search(right: &[u64], over: &[u32], cost: &[f64], query: Query, best: Best) -> Best
-    requires { ⌜ Starts (lengthsOf query) (now right) (now over) (now cost) (query .leaves) (query .to) (query .end) ⌝ }
+    requires { ⌜ Starts (queryLengths query) (now right) (now over) (now cost)
+        (query .leaves) (query .to) (query .end) ⌝ }
     requires { ⌜ Covers (query .leaves) (query .to) (now over) (now cost) 1 0 (query .leaves) ⌝ }
     requires { ⌜ query .to ≤ query .leaves ⌝ }
     requires { ⌜ T (nonneg (best .score .cost)) ⌝ }

@@ -15,7 +15,7 @@ ghost use Rattle.base_terms.specs.Floats.{nonneg};
 ghost use Rattle.path_by_count_tree.specs.Least.{entry, aheadBest};
 ghost use Rattle.path_by_count_search.specs.Starts.{Starts, Start};
 ghost use Rattle.path_by_count_tree.specs.Tree.{Covers};
-ghost use Rattle.path_by_count_search.specs.Visit.{lengthsOf, FirstIn, through};
+ghost use Rattle.path_by_count_search.specs.Visit.{queryLengths, FirstIn, through};
 
 // So few candidates are compared one after the other: a bound costs about as much as a score, so that halving on would
 // cost more than it leaves out.
@@ -39,8 +39,8 @@ pub struct Query {
 }
 
 // The preferences of a query, by value.
-pub fn lengths_of(query: Query) -> Lengths
-    ensures { λ r. ⌜ r ≡ lengthsOf query ⌝ }
+pub fn query_lengths(query: Query) -> Lengths
+    ensures { λ r. ⌜ r ≡ queryLengths query ⌝ }
 {
     Lengths {
         min: query.min,
@@ -57,7 +57,7 @@ fn at_leaf(right: &[u64], over: &[u32], cost: &[f64], query: Query, i: usize, be
         r ≡ aheadBest (entry (through query (now (right .entry)) (now (over .entry)) (now (cost .entry))) i) best
         ⌝ }
 {
-    let lengths = lengths_of(query);
+    let lengths = query_lengths(query);
     let score = scan::score_from(right, over, cost, lengths, query.end, query.leaves + i, i);
     best::first_of(Best { score, at: i }, best)
 }
@@ -72,7 +72,8 @@ fn at_leaves(
     hi: usize,
     best: Best,
 ) -> Best
-    requires { ⌜ Starts (lengthsOf query) (now right) (now over) (now cost) (query .leaves) (query .to) (query .end) ⌝ }
+    requires { ⌜ Starts (queryLengths query) (now right) (now over) (now cost)
+        (query .leaves) (query .to) (query .end) ⌝ }
     requires { ⌜ T (nonneg (best .score .cost)) ⌝ }
     ensures { λ r. ⌜
         FirstIn (through query (now (right .entry)) (now (over .entry)) (now (cost .entry))) lo hi (query .from)
@@ -101,7 +102,8 @@ pub fn visit(
     hi: usize,
     best: Best,
 ) -> Best
-    requires { ⌜ Starts (lengthsOf query) (now right) (now over) (now cost) (query .leaves) (query .to) (query .end) ⌝ }
+    requires { ⌜ Starts (queryLengths query) (now right) (now over) (now cost)
+        (query .leaves) (query .to) (query .end) ⌝ }
     requires { ⌜ Covers (query .leaves) (query .to) (now over) (now cost) node lo hi ⌝ }
     requires { ⌜ T (nonneg (best .score .cost)) ⌝ }
     ensures { λ r. ⌜

@@ -13,12 +13,12 @@ use Rattle.path_by_length.specs.WayLaws.{way-first, way-step, way-length
 
 module _ (parent : ℕ → ℕ) (last : ℕ) where
   -- `len` candidates are counted, and those before j are left
-  abbrev pub Counting : ℕ → ℕ → Type 0
-  Counting len j = (j ≤ last) × (len + j ≤ suc last) × (len + length (wayTo parent j) ≡ suc (length (wayTo parent last)))
+  abbrev pub CountingBack : ℕ → ℕ → Type 0
+  CountingBack len j = (j ≤ last) × (len + j ≤ suc last) × (len + length (wayTo parent j) ≡ suc (length (wayTo parent last)))
 
   -- the last n candidates of the way are written over the front of path₀, and those up to j are left
-  abbrev pub Writing : List ℕ → List ℕ → ℕ → ℕ → Type 0
-  Writing path₀ path n j =
+  abbrev pub WritingBack : List ℕ → List ℕ → ℕ → ℕ → Type 0
+  WritingBack path₀ path n j =
       (j ≤ last) × (n ≡ length (wayTo parent j)) × (take n (wayTo parent last) ≡ wayTo parent j) × (length path ≡ length path₀)
       × (path ≡ take n path₀ ++ drop n (onto (wayTo parent last) path₀))
 
@@ -29,15 +29,15 @@ module _ {parent : ℕ → ℕ} {last : ℕ} (falls : Falling parent last) where
   -- ---- counting
 
   -- one more candidate is counted
-  pub counting-next : (len j : ℕ) → 0 < j → Counting parent last len j → Counting parent last (len + 1) (parent j)
-  counting-next len j h (a, b, e) =
+  pub counting-back-next : (len j : ℕ) → 0 < j → CountingBack parent last len j → CountingBack parent last (len + 1) (parent j)
+  counting-back-next len j h (a, b, e) =
       let f = falls j h a in
       let g = way-length parent j h (falls-to j a) in
       (omega arith, omega arith, omega arith)
 
   -- at the first candidate all are counted
-  pub counting-done : (len j : ℕ) → j ≤ 0 → Counting parent last len j → len ≡ length (wayTo parent last)
-  counting-done len j h (a, b, e) =
+  pub counting-back-done : (len j : ℕ) → j ≤ 0 → CountingBack parent last len j → len ≡ length (wayTo parent last)
+  counting-back-done len j h (a, b, e) =
       let z : j ≡ 0 = omega arith in
       let g : length (wayTo parent j) ≡ 1 = rw z (ap length (way-first parent)) in
       omega arith
@@ -49,9 +49,9 @@ module _ {parent : ℕ → ℕ} {last : ℕ} (falls : Falling parent last) where
     whole = onto (wayTo parent last) path₀
 
     -- nothing is written yet
-    pub writing-start : (n : ℕ) → n ≡ length (wayTo parent last) → Writing parent last path₀ path₀ n last
+    pub writing-back-start : (n : ℕ) → n ≡ length (wayTo parent last) → WritingBack parent last path₀ path₀ n last
     unfolding onto
-    writing-start n e = (
+    writing-back-start n e = (
       le-refl last,
       e,
       rw e (take-length (wayTo parent last)),
@@ -60,7 +60,7 @@ module _ {parent : ℕ → ℕ} {last : ℕ} (falls : Falling parent last) where
     )
 
     -- candidate j stands where it is to be written, after the way up to it
-    module _ (path : List ℕ) (n j : ℕ) (before : List ℕ) (split : wayTo parent j ≡ before ++ (j ∷ [])) (size : suc (length before) ≡ n) (w : Writing parent last path₀ path n j) where
+    module _ (path : List ℕ) (n j : ℕ) (before : List ℕ) (split : wayTo parent j ≡ before ++ (j ∷ [])) (size : suc (length before) ≡ n) (w : WritingBack parent last path₀ path n j) where
       inside : n ≤ length (wayTo parent last)
       inside = let l = length-take n (wayTo parent last) in let q = ap length (w .2) in omega (arith, w .1)
 
@@ -84,16 +84,16 @@ module _ {parent : ℕ → ℕ} {last : ℕ} (falls : Falling parent last) where
           ∙ take-at before (j ∷ []) (length before) refl
 
     -- there is room for one more candidate
-    pub writing-room : (path : List ℕ) (n j : ℕ) → Writing parent last path₀ path n j → (0 < n) × (n ≤ length path)
-    writing-room path n j w =
+    pub writing-back-room : (path : List ℕ) (n j : ℕ) → WritingBack parent last path₀ path n j → (0 < n) × (n ≤ length path)
+    writing-back-room path n j w =
         let s = way-some parent j (falls-to j (w .0)) in
         let l = length-take n (wayTo parent last) in
         let q = ap length (w .2) in
         (omega (arith, w .1), omega (arith, w .1, w .3))
 
     -- one more candidate is written
-    pub writing-next : (path : List ℕ) (n j : ℕ) → 0 < j → Writing parent last path₀ path n j → Writing parent last path₀ (set path (n - 1) j) (n - 1) (parent j)
-    writing-next path n j h w =
+    pub writing-back-next : (path : List ℕ) (n j : ℕ) → 0 < j → WritingBack parent last path₀ path n j → WritingBack parent last path₀ (set path (n - 1) j) (n - 1) (parent j)
+    writing-back-next path n j h w =
         let before = wayTo parent (parent j) in
         let f = falls j h (w .0) in
         let s = way-step parent j h (falls-to j (w .0)) in
@@ -108,8 +108,8 @@ module _ {parent : ℕ → ℕ} {last : ℕ} (falls : Falling parent last) where
         )
 
     -- with the first candidate the whole way is written
-    pub writing-done : (path : List ℕ) (n j : ℕ) → j ≤ 0 → Writing parent last path₀ path n j → set path 0 0 ≡ onto (wayTo parent last) path₀
-    writing-done path n j h w =
+    pub writing-back-done : (path : List ℕ) (n j : ℕ) → j ≤ 0 → WritingBack parent last path₀ path n j → set path 0 0 ≡ onto (wayTo parent last) path₀
+    writing-back-done path n j h w =
         let e : j ≡ 0 = omega arith in
         let s : wayTo parent j ≡ [] ++ (j ∷ []) = rw e (way-first parent) in
         let z : 1 ≡ n = sym (w .1 ∙ ap length s) in

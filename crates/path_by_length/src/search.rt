@@ -9,7 +9,8 @@ use path_pieces::score::Score;
 use path_rules::solved::Solved;
 ghost use mathlib.Core.Path.{_≡_};
 ghost use lib.ListN.{length};
-ghost use Rattle.path_by_length.specs.Solved.{cutsIn, overWith, costWith, TableRoom, FilledBefore, Filled, Settled};
+ghost use Rattle.path_by_length.specs.Solved.{cutsIn, overWith, costWith};
+ghost use Rattle.path_by_length.specs.Solved.{TableRoom, FilledBefore, Filled, Settled};
 
 // Settles candidate j: its best score, and where the last piece starts.
 fn fill_at(

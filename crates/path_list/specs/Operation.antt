@@ -40,19 +40,19 @@ abbrev pub outcomeOf : Answer → List ℕ → Outcome
 outcomeOf answer path = record { answer = answer; path = path }
 
 -- 12 or the path at the front of the output, which is untouched beyond it
-unfoldable pub handedOf : List ℕ → Score → List ℕ → Outcome
-handedOf way score path =
+unfoldable pub handedOutOf : List ℕ → Score → List ℕ → Outcome
+handedOutOf way score path =
     cond (leb (length way) (length path))
     (outcomeOf (Found (record { score = score; len = length way })) (onto way path))
     (outcomeOf ShortPath path)
 
 -- by length, document 01's best path
 abbrev pub handedByLength : Lengths → List ℕ → List ℕ → List Float → List ℕ → Outcome
-handedByLength l left right cost path = handedOf (bestPath l left right cost) (bestScore l left right cost (lastCandidate left)) path
+handedByLength l left right cost path = handedOutOf (bestPath l left right cost) (bestScore l left right cost (lastCandidate left)) path
 
 -- by count, the best path of min(count, last index) pieces
 abbrev pub handedByCount : Lengths → List ℕ → List ℕ → List Float → ℕ → List ℕ → Outcome
-handedByCount l left right cost count path = handedOf (bestPathByCount l left right cost count) (bestScoreByCount l left right cost count) path
+handedByCount l left right cost count path = handedOutOf (bestPathByCount l left right cost count) (bestScoreByCount l left right cost count) path
 
 -- by count 14 first: with `parents` the length of the parent list
 unfoldable pub soughtOf : Lengths → List ℕ → List ℕ → List Float → Mode → ℕ → List ℕ → Outcome

@@ -23,7 +23,7 @@ use Rattle.path_by_count_rows.specs.Rows.{behind}
 use Rattle.path_by_count.specs.Counted as counted
 use Rattle.path_tests.specs.RefusalLaws.{AcceptedLists}
 use Rattle.path_list.specs.declared.search.Answer.the-variants.{Found, ShortParent, ShortPath}
-use Rattle.path_list.specs.Operation.{outcomeOf, handedOf, handedByLength, handedByCount, soughtOf}
+use Rattle.path_list.specs.Operation.{outcomeOf, handedOutOf, handedByLength, handedByCount, soughtOf}
 use Rattle.path_list.specs.Search.{Workable}
 
 -- ---- a part of a list in its middle is what was put there
@@ -87,14 +87,14 @@ workable r = record { domain = r .domain; counted = λ count e. r .counted count
 -- ---- the search's ends
 
 -- no room for the path
-pub handed-short : (way : List ℕ) (score : Score) (path : List ℕ) → length path < length way → outcomeOf ShortPath path ≡ handedOf way score path
-unfolding handedOf
+pub handed-short : (way : List ℕ) (score : Score) (path : List ℕ) → length path < length way → outcomeOf ShortPath path ≡ handedOutOf way score path
+unfolding handedOutOf
 handed-short way score path h = rw (lt-leb (length way) (length path) h)
 
 -- the path is handed out
 pub handed-found : (way : List ℕ) (score : Score) (path path' : List ℕ) (s : Solved) → length way ≤ length path → s .score ≡ score → s .len ≡ length way
-    → path' ≡ onto way path → outcomeOf (Found s) path' ≡ handedOf way score path
-unfolding handedOf
+    → path' ≡ onto way path → outcomeOf (Found s) path' ≡ handedOutOf way score path
+unfolding handedOutOf
 handed-found way score path path' s h e f g = rw (le-leb (length way) (length path) h, ← e, ← f, g)
 
 module _ (l : Lengths) (left right : List ℕ) (cost : List Float) where

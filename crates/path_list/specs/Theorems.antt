@@ -32,7 +32,7 @@ use Rattle.path_tests.specs.declared.refusal.Refusal.{Refusal}
 use Rattle.path_tests.specs.declared.refusal.Refusal.the-variants.{BadLists, BadEnds, BadCosts, BadCount, ShortWork}
 use Rattle.path_list.specs.declared.search.Answer.{Answer}
 use Rattle.path_list.specs.declared.search.Answer.the-variants.{Found, Refused, ShortParent, ShortPath}
-use Rattle.path_list.specs.Operation.{numberOf, Outcome, outcomeOf, handedOf, handedByCount, soughtOf, endAfter, pathOf}
+use Rattle.path_list.specs.Operation.{numberOf, Outcome, outcomeOf, handedOutOf, handedByCount, soughtOf, endAfter, pathOf}
 use Rattle.path_list.specs.Found.{PathWritten, FoundByLength, FoundByCount}
 
 -- ---- a path that is handed out, with its score
@@ -42,9 +42,9 @@ record Handed (way : List ℕ) (score : Score) (before after : List ℕ) (s : So
   front : take (s .len) after ≡ way
   output : PathWritten before after s
 
-handed-is : (way : List ℕ) (score : Score) (path : List ℕ) (s : Solved) → handedOf way score path .answer ≡ Found s
-    → Handed way score path (handedOf way score path .path) s
-unfolding handedOf
+handed-is : (way : List ℕ) (score : Score) (path : List ℕ) (s : Solved) → handedOutOf way score path .answer ≡ Found s
+    → Handed way score path (handedOutOf way score path .path) s
+unfolding handedOutOf
 handed-is way score path s e = go (leb (length way) (length path)) (leb-true (length way) (length path)) e
   where
     outcome : Bool → Outcome

@@ -23,7 +23,7 @@ use Rattle.candidates.specs.Sources.{Planned}
 use Rattle.candidates.specs.Order.{candidates-first, candidates-last, candidates-some, candidate-within, candidates-apart}
 use Rattle.candidates.specs.Found.{point-found}
 use Rattle.candidates.specs.Alone.{gap-dropped, dropped-found, gap-alone}
-use Rattle.plan_division.specs.Along.{endsAt, cutsFrom, cutsAlong, Rising, numbersAfter, wholePath, allCuts}
+use Rattle.plan_division.specs.Along.{endsAt, cutsAt, cutsAlong, RisingPath, numbersAfter, wholePath, allCuts}
 use Rattle.plan_division.specs.AlongLaws.{onward-last, cut-number}
 use Rattle.plan_division.specs.Across.{HasLeft, HasCut, Across}
 
@@ -31,24 +31,24 @@ use Rattle.plan_division.specs.Across.{HasLeft, HasCut, Across}
 
 module _ (s : Span) (cs : List Candidate) (p : Across s cs) where
   path-row : (i j : ℕ) (rest : List ℕ) (last : ℕ) → last < length cs → Onward (λ (a b : ℕ). a < b) i (j ∷ rest) last
-      → Row (endsAt cs i .right) (cutsFrom cs (j ∷ rest)) (endsAt cs last .left)
+      → Row (endsAt cs i .right) (cutsAt cs (j ∷ rest)) (endsAt cs last .left)
   path-row i j [] last l (h, e) = p .apart i last (omega arith) l
   path-row i j (k ∷ rest) last l (h, r) =
       let b : j < length cs = omega (arith, l, onward-last j (k ∷ rest) last r) in
       (p .apart i j h b, p .inside j b, path-row j k rest last l r)
 
   -- any path of rising candidates, from the first to the last
-  pub along-divides : (path : List ℕ) → Rising cs path → Division s (cutsAlong cs path)
+  pub along-divides : (path : List ℕ) → RisingPath cs path → Division s (cutsAlong cs path)
   along-divides [] r = absurd r
   along-divides (i ∷ []) (e, q) = absurd (omega (arith, e, q, p .some))
   along-divides (i ∷ (j ∷ rest)) (e, r) = record { rises = rises; placed = placed }
     where
-      rises : Row (s .first) (cutsFrom cs (j ∷ rest)) (s .last)
+      rises : Row (s .first) (cutsAt cs (j ∷ rest)) (s .last)
       rises =
-          subst (λ (a : ℕ). Row a (cutsFrom cs (j ∷ rest)) (s .last)) (ap (λ (n : ℕ). endsAt cs n .right) e ∙ p .starts)
-          (subst (λ (z : ℕ). Row (endsAt cs i .right) (cutsFrom cs (j ∷ rest)) z) (p .stops) (path-row i j rest (length cs - 1) (omega (arith, p .some)) r))
+          subst (λ (a : ℕ). Row a (cutsAt cs (j ∷ rest)) (s .last)) (ap (λ (n : ℕ). endsAt cs n .right) e ∙ p .starts)
+          (subst (λ (z : ℕ). Row (endsAt cs i .right) (cutsAt cs (j ∷ rest)) z) (p .stops) (path-row i j rest (length cs - 1) (omega (arith, p .some)) r))
 
-      placed : (k : Cut) → List·Memᴰ k (cutsFrom cs (j ∷ rest)) → Place s k
+      placed : (k : Cut) → List·Memᴰ k (cutsAt cs (j ∷ rest)) → Place s k
       placed k m =
           let f = cut-number cs i (j ∷ rest) (length cs - 1) k r m in
           subst (Place s) (sym (f .3)) (p .placed (f .0) (omega (arith, f .1)) (omega (arith, f .2)))
@@ -60,7 +60,7 @@ module _ (s : Span) (cs : List Candidate) (p : Across s cs) where
   numbers-rise (suc n) a z e = (omega arith, numbers-rise n (suc a) z (omega arith))
 
   -- the path through all candidates rises
-  pub whole-rises : Rising cs (wholePath cs)
+  pub whole-rises : RisingPath cs (wholePath cs)
   whole-rises = (refl, numbers-rise (length cs - 1) 0 (length cs - 1) (omega arith))
 
   -- all candidates between the ends are a division
@@ -75,7 +75,7 @@ module _ (s : Span) (cs : List Candidate) (p : Across s cs) where
   pub whole-length : length (wholePath cs) ≡ length cs
   whole-length = omega (arith, numbers-length (length cs - 1) 0, p .some)
 
-  number-in : (n a i : ℕ) → a < i → i < a + n → List·Memᴰ (endsAt cs i) (cutsFrom cs (numbersAfter a n))
+  number-in : (n a i : ℕ) → a < i → i < a + n → List·Memᴰ (endsAt cs i) (cutsAt cs (numbersAfter a n))
   number-in zero a i h l = absurd (omega arith)
   number-in (suc zero) a i h l = absurd (omega arith)
   number-in (suc (suc n)) a i h l = elim (lt-or-le (suc a) i) [

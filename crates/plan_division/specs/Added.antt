@@ -17,7 +17,7 @@ use Rattle.plan_division.specs.Along.{endsAt}
 
 -- by count: the cuts of the division that goes as far as it can, and of equal shares
 abbrev pub addedByCount : Span → ℕ → List Cut → List Cut
-addedByCount s asked far = far ++ sharesOf s (piecesAsked s asked)
+addedByCount s count far = far ++ sharesOf s (piecesAsked s count)
 
 -- by length: the points on n steps from a candidate to the next
 abbrev pub bridgesAmong : FrameGrid → ℕ → List Candidate → ℕ → List Cut

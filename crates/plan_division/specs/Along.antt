@@ -16,15 +16,15 @@ endsAt cs i = record { left = getD cs i (node 0) .left; right = getD cs i (node 
 -- ---- along a path
 
 -- the cuts at some candidates, but for the last of them
-abbrev pub cutsFrom : List Candidate → List ℕ → List Cut
-cutsFrom cs [] = []
-cutsFrom cs (i ∷ []) = []
-cutsFrom cs (i ∷ (j ∷ rest)) = endsAt cs i ∷ cutsFrom cs (j ∷ rest)
+abbrev pub cutsAt : List Candidate → List ℕ → List Cut
+cutsAt cs [] = []
+cutsAt cs (i ∷ []) = []
+cutsAt cs (i ∷ (j ∷ rest)) = endsAt cs i ∷ cutsAt cs (j ∷ rest)
 
 -- the cuts along a path: at its candidates between the first and the last
 abbrev pub cutsAlong : List Candidate → List ℕ → List Cut
 cutsAlong cs [] = []
-cutsAlong cs (i ∷ rest) = cutsFrom cs rest
+cutsAlong cs (i ∷ rest) = cutsAt cs rest
 
 -- the piece from candidate i to candidate j
 abbrev pub pieceBetween : List Candidate → ℕ → ℕ → Piece
@@ -41,8 +41,8 @@ piecesAlong cs [] = []
 piecesAlong cs (i ∷ rest) = piecesThrough cs i rest
 
 -- a path from the first candidate to the last, with pieces of any length
-abbrev pub Rising : List Candidate → List ℕ → Type 0
-Rising cs path = Path (λ (i j : ℕ). i < j) path (length cs - 1)
+abbrev pub RisingPath : List Candidate → List ℕ → Type 0
+RisingPath cs path = Path (λ (i j : ℕ). i < j) path (length cs - 1)
 
 -- ---- through every candidate
 

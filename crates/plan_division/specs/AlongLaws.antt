@@ -14,7 +14,7 @@ use Rattle.candidate_span.specs.Span.{Span}
 use Rattle.division.specs.Pieces.{Piece, piecesFrom, piecesOf, lengthOf, overs}
 use Rattle.candidates.specs.declared.candidate.Candidate.{Candidate}
 use Rattle.candidates.specs.Samples.{leftsOf, rightsOf}
-use Rattle.plan_division.specs.Along.{endsAt, cutsFrom, cutsAlong, pieceBetween, piecesThrough, piecesAlong, Rising}
+use Rattle.plan_division.specs.Along.{endsAt, cutsAt, cutsAlong, pieceBetween, piecesThrough, piecesAlong, RisingPath}
 use Rattle.plan_division.specs.Across.{Across}
 
 -- each piece leads on, so no candidate of a path lies beyond its last
@@ -25,7 +25,7 @@ module _ (cs : List Candidate) where
   -- ---- the pieces
 
   pieces-from : (i j : ℕ) (rest : List ℕ) (last : ℕ) → Onward (λ (a b : ℕ). a < b) i (j ∷ rest) last
-      → piecesFrom (endsAt cs i .right) (cutsFrom cs (j ∷ rest)) (endsAt cs last .left) ≡ piecesThrough cs i (j ∷ rest)
+      → piecesFrom (endsAt cs i .right) (cutsAt cs (j ∷ rest)) (endsAt cs last .left) ≡ piecesThrough cs i (j ∷ rest)
   pieces-from i j [] last (h, e) = ap (λ (n : ℕ). pieceBetween cs i n ∷ []) (sym e)
   pieces-from i j (k ∷ rest) last (h, r) = ap (λ (ps : List Piece). pieceBetween cs i j ∷ ps) (pieces-from j k rest last r)
 
@@ -36,7 +36,7 @@ module _ (cs : List Candidate) where
   -- ---- the cuts
 
   -- each is a candidate of the path, before its last
-  pub cut-number : (i : ℕ) (rest : List ℕ) (last : ℕ) (k : Cut) → Onward (λ (a b : ℕ). a < b) i rest last → List·Memᴰ k (cutsFrom cs rest)
+  pub cut-number : (i : ℕ) (rest : List ℕ) (last : ℕ) (k : Cut) → Onward (λ (a b : ℕ). a < b) i rest last → List·Memᴰ k (cutsAt cs rest)
       → (j : ℕ) × (i < j) × (j < last) × (k ≡ endsAt cs j)
   cut-number i [] last k r m = absurd (List·Memᴰ·not-nil m)
   cut-number i (j ∷ []) last k r m = absurd (List·Memᴰ·not-nil m)
@@ -83,21 +83,21 @@ module _ (cs : List Candidate) where
 
 module _ (s : Span) (cs : List Candidate) (p : Across s cs) where
   -- the division's pieces are the path's
-  pub pieces-along : (path : List ℕ) → Rising cs path → piecesOf s (cutsAlong cs path) ≡ piecesAlong cs path
+  pub pieces-along : (path : List ℕ) → RisingPath cs path → piecesOf s (cutsAlong cs path) ≡ piecesAlong cs path
   pieces-along [] r = absurd r
   pieces-along (i ∷ []) (e, q) = absurd (omega (arith, e, q, p .some))
   pieces-along (i ∷ (j ∷ rest)) (e, r) =
-      subst (λ (a : ℕ). piecesFrom a (cutsFrom cs (j ∷ rest)) (s .last) ≡ piecesThrough cs i (j ∷ rest)) (ap (λ (n : ℕ). endsAt cs n .right) e ∙ p .starts)
-      (subst (λ (z : ℕ). piecesFrom (endsAt cs i .right) (cutsFrom cs (j ∷ rest)) z ≡ piecesThrough cs i (j ∷ rest)) (p .stops)
+      subst (λ (a : ℕ). piecesFrom a (cutsAt cs (j ∷ rest)) (s .last) ≡ piecesThrough cs i (j ∷ rest)) (ap (λ (n : ℕ). endsAt cs n .right) e ∙ p .starts)
+      (subst (λ (z : ℕ). piecesFrom (endsAt cs i .right) (cutsAt cs (j ∷ rest)) z ≡ piecesThrough cs i (j ∷ rest)) (p .stops)
       (pieces-from cs i j rest (length cs - 1) r))
 
   -- one fewer than its candidates
-  pub count-along : (path : List ℕ) → Rising cs path → length path ≡ suc (length (piecesOf s (cutsAlong cs path)))
+  pub count-along : (path : List ℕ) → RisingPath cs path → length path ≡ suc (length (piecesOf s (cutsAlong cs path)))
   count-along [] r = absurd r
   count-along (i ∷ rest) r = rw (pieces-along (i ∷ rest) r) (ap suc (sym (through-count cs i rest)))
 
   -- and as many are over a limit
-  pub overs-along : (g : FrameGrid) (limit : ℕ) (path : List ℕ) → Rising cs path
+  pub overs-along : (g : FrameGrid) (limit : ℕ) (path : List ℕ) → RisingPath cs path
       → overs g limit (piecesOf s (cutsAlong cs path)) ≡ overCount limit (leftsOf g cs) (rightsOf g cs) path
   unfolding overCount
   overs-along g limit [] r = absurd r

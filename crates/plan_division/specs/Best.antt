@@ -15,8 +15,8 @@ bestPathOver g l cs = bestPath l (leftsOf g cs) (rightsOf g cs) (costsOf cs)
 
 -- by count
 abbrev pub bestPathOverByCount : FrameGrid → Lengths → List Candidate → ℕ → List ℕ
-bestPathOverByCount g l cs asked = bestPathByCount l (leftsOf g cs) (rightsOf g cs) (costsOf cs) asked
+bestPathOverByCount g l cs count = bestPathByCount l (leftsOf g cs) (rightsOf g cs) (costsOf cs) count
 
 -- how many pieces of the best path by count are over the limit
 abbrev pub oversOf : FrameGrid → Lengths → List Candidate → ℕ → ℕ
-oversOf g l cs asked = bestScoreByCount l (leftsOf g cs) (rightsOf g cs) (costsOf cs) asked .over
+oversOf g l cs count = bestScoreByCount l (leftsOf g cs) (rightsOf g cs) (costsOf cs) count .over

@@ -19,13 +19,13 @@ abbrev pub HasLefts : List Candidate → List Cut → Type 0
 HasLefts cs cuts = (k : Cut) → List·Memᴰ k cuts → HasLeft cs (k .left)
 
 -- document 01: "the cuts of the division that goes as far as it can at each step, and of min(N, kept frames) equal shares of the kept frames, are added"
-pub record CompletedByCount (g : FrameGrid) (s : Span) (asked maximum reach : ℕ) (cs : List Candidate) : Type 0 where
+pub record CompletedByCount (g : FrameGrid) (s : Span) (count maximum reach : ℕ) (cs : List Candidate) : Type 0 where
   pub across : Across s cs
-  pub sought : IsReach g s asked maximum reach
+  pub sought : IsReach g s count maximum reach
   pub far : List Cut
   pub greedy : Greedy g s reach far
   pub has-far : HasLefts cs far
-  pub has-shares : HasLefts cs (sharesOf s (piecesAsked s asked))
+  pub has-shares : HasLefts cs (sharesOf s (piecesAsked s count))
 
 -- document 01: "points are added until neighbouring candidates are within the maximum or one frame apart"; ds are the first candidates
 pub record CompletedByLength (g : FrameGrid) (s : Span) (maximum : ℕ) (ds cs : List Candidate) : Type 0 where

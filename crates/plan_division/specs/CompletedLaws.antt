@@ -39,29 +39,29 @@ module _ (x : Context) (ss runs : List ℕ) (levels : List Float) (ks : List ℕ
 
   -- ---- by count
 
-  module _ (ok : Accepted g) (asked : ℕ) (some : 0 < asked) (maximum reach : ℕ) (far : List Cut) (sought : IsReach g span asked maximum reach)
+  module _ (ok : Accepted g) (count : ℕ) (some : 0 < count) (maximum reach : ℕ) (far : List Cut) (sought : IsReach g span count maximum reach)
       (greedy : Greedy g span reach far) where
     -- the cuts that completion by count adds are places
-    pub places-by-count : (k : Cut) → List·Memᴰ k (addedByCount span asked far) → Place span k
+    pub places-by-count : (k : Cut) → List·Memᴰ k (addedByCount span count far) → Place span k
     places-by-count k m = go (List·Memᴰ·append-cases far m)
       where
-        go : List·Memᴰ k far ⊎ List·Memᴰ k (sharesOf span (piecesAsked span asked)) → Place span k
+        go : List·Memᴰ k far ⊎ List·Memᴰ k (sharesOf span (piecesAsked span count)) → Place span k
         go (inl i) = greedy-divides g ok span spread reach far greedy .placed k i
         go (inr i) =
-            let fit : piecesAsked span asked ≤ keptIn span = omega arith in
-            let more : 0 < piecesAsked span asked = omega (arith, some, spread-some (span .first) (span .gaps) (span .last) spread) in
-            shares-divide span spread (piecesAsked span asked) more fit .placed k i
+            let fit : piecesAsked span count ≤ keptIn span = omega arith in
+            let more : 0 < piecesAsked span count = omega (arith, some, spread-some (span .first) (span .gaps) (span .last) spread) in
+            shares-divide span spread (piecesAsked span count) more fit .placed k i
 
     -- a plan's candidates, with the cuts that completion by count adds
-    pub completed-by-count : CompletedByCount g span asked maximum reach (completedWith x ss runs levels ks (addedByCount span asked far) first last)
+    pub completed-by-count : CompletedByCount g span count maximum reach (completedWith x ss runs levels ks (addedByCount span count far) first last)
     completed-by-count =
-        let added = addedByCount span asked far in
+        let added = addedByCount span count far in
         record {
           across = planned-across x ss runs levels (ks ++ pointsIn added) first last (planned-completed x ss runs levels ks added first last p places-by-count);
           sought = sought;
           far = far;
           greedy = greedy;
-          has-far = λ k m. has-added x ss runs levels ks added first last p places-by-count k (Memᴰ·append-left (sharesOf span (piecesAsked span asked)) m);
+          has-far = λ k m. has-added x ss runs levels ks added first last p places-by-count k (Memᴰ·append-left (sharesOf span (piecesAsked span count)) m);
           has-shares = λ k m. has-added x ss runs levels ks added first last p places-by-count k (Memᴰ·append-right far m);
         }
 

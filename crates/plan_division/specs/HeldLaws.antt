@@ -90,6 +90,6 @@ completed-same x ss runs levels ks js added first last f =
     candidates-same x ss runs levels js (ks ++ pointsIn added) first last (λ k a b. f k a b ∙ sym (in-append ks (pointsIn added) k))
 
 -- the cuts that code marks under the reach are those of the division which goes as far as it can
-pub far-greedy : (g : FrameGrid) → Accepted g → (s : Span) → Spread (s .first) (s .gaps) (s .last) → (asked maximum reach : ℕ)
-    → IsReach g s asked maximum reach → Greedy g s reach (cutsOf g s reach (piecesAsked s asked))
-far-greedy g ok s spread asked maximum reach r = fits-greedy g ok s spread reach (piecesAsked s asked) (feasible-fits g ok s spread reach asked (r .feasible)) .0
+pub far-greedy : (g : FrameGrid) → Accepted g → (s : Span) → Spread (s .first) (s .gaps) (s .last) → (count maximum reach : ℕ)
+    → IsReach g s count maximum reach → Greedy g s reach (cutsOf g s reach (piecesAsked s count))
+far-greedy g ok s spread count maximum reach r = fits-greedy g ok s spread reach (piecesAsked s count) (feasible-fits g ok s spread reach count (r .feasible)) .0

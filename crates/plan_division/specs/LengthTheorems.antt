@@ -23,7 +23,7 @@ use Rattle.division.specs.Demand.{DemandByLength}
 use Rattle.division.specs.DemandLaws.{demand-length}
 use Rattle.candidates.specs.declared.candidate.Candidate.{Candidate}
 use Rattle.candidates.specs.Samples.{leftsOf, rightsOf}
-use Rattle.plan_division.specs.Along.{cutsAlong, pieceBetween, Rising}
+use Rattle.plan_division.specs.Along.{cutsAlong, pieceBetween, RisingPath}
 use Rattle.plan_division.specs.AlongLaws.{pieces-along}
 use Rattle.plan_division.specs.AcrossLaws.{along-divides}
 use Rattle.plan_division.specs.Completed.{CompletedByLength}
@@ -54,7 +54,7 @@ module _ (g : FrameGrid) (ok : Accepted g) (s : Span) (spread : Spread (s .first
       allowed : Path Rule path (length cs - 1)
       allowed = subst (λ (n : ℕ). Path Rule path n) (last-same g cs) a
 
-      rises : Rising cs path
+      rises : RisingPath cs path
       rises = length-rises g cs maximum path a
 
       each : (q : Piece) → List·Memᴰ q (piecesOf s (cutsAlong cs path)) → (lengthOf g q ≤ maximum) ⊎ IsSingle q

@@ -59,26 +59,26 @@ module _ (x : Context) (ss runs : List ℕ) (levels : List Float) (ks : List ℕ
   spread : Spread (span .first) (span .gaps) (span .last)
   spread = span-spread (x .gap) (x .padding) ss (p .prepared .spanned)
 
-  module _ (asked : ℕ) (some : 0 < asked) where
+  module _ (count : ℕ) (some : 0 < count) where
     -- the first path, its limit the maximum, meets demand 3 where it has N pieces and none over it: no reach is sought then
-    pub first-plan : length (bestPathOverByCount g l cs asked) ≡ suc asked → oversOf g l cs asked ≡ 0
-        → DemandByCount g span asked (l .limit) (cutsAlong cs (bestPathOverByCount g l cs asked))
+    pub first-plan : length (bestPathOverByCount g l cs count) ≡ suc count → oversOf g l cs count ≡ 0
+        → DemandByCount g span count (l .limit) (cutsAlong cs (bestPathOverByCount g l cs count))
     first-plan n none =
-        first-found g span spread cs asked some (planned-across x ss runs levels ks first last p) l (costsOf cs) (plan-searchable x ss runs levels ks first last g l p q) n none
+        first-found g span spread cs count some (planned-across x ss runs levels ks first last p) l (costsOf cs) (plan-searchable x ss runs levels ks first last g l p q) n none
 
-    module _ (maximum : ℕ) (far : List Cut) (sought : IsReach g span asked maximum (l .limit)) (greedy : Greedy g span (l .limit) far) where
+    module _ (maximum : ℕ) (far : List Cut) (sought : IsReach g span count maximum (l .limit)) (greedy : Greedy g span (l .limit) far) where
       -- the completed candidates
       abbrev byCount : List Candidate
-      byCount = completedWith x ss runs levels ks (addedByCount span asked far) first last
+      byCount = completedWith x ss runs levels ks (addedByCount span count far) first last
 
       -- the second path, its limit the reach, meets demand 3
-      pub second-plan : DemandByCount g span asked maximum (cutsAlong byCount (bestPathOverByCount g l byCount asked))
+      pub second-plan : DemandByCount g span count maximum (cutsAlong byCount (bestPathOverByCount g l byCount count))
       second-plan =
           let ok = q .sampled .accepted in
-          let added = addedByCount span asked far in
-          let places = places-by-count x ss runs levels ks first last p g ok asked some maximum (l .limit) far sought greedy in
-          second-found g span spread byCount asked ok some maximum (l .limit)
-          (completed-by-count x ss runs levels ks first last p g ok asked some maximum (l .limit) far sought greedy) l (costsOf byCount) refl
+          let added = addedByCount span count far in
+          let places = places-by-count x ss runs levels ks first last p g ok count some maximum (l .limit) far sought greedy in
+          second-found g span spread byCount count ok some maximum (l .limit)
+          (completed-by-count x ss runs levels ks first last p g ok count some maximum (l .limit) far sought greedy) l (costsOf byCount) refl
           (plan-searchable x ss runs levels (ks ++ pointsIn added) first last g l (planned-completed x ss runs levels ks added first last p places) q)
 
   -- the completed candidates

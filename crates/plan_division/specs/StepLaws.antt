@@ -12,7 +12,7 @@ use Rattle.candidate_span.specs.Span.{Span}
 use Rattle.candidates.specs.declared.candidate.Candidate.{Candidate}
 use Rattle.completion.specs.Bridge.{bridgeOf}
 use Rattle.completion.specs.Bridged.{bridgedFrom, bridgedIn}
-use Rattle.plan_division.specs.Along.{endsAt, cutsFrom, numbersAfter, allCuts}
+use Rattle.plan_division.specs.Along.{endsAt, cutsAt, numbersAfter, allCuts}
 use Rattle.plan_division.specs.Across.{HasCut, Across}
 use Rattle.plan_division.specs.Added.{bridgesAmong, addedByLength}
 
@@ -46,7 +46,7 @@ module _ (g : FrameGrid) (limit : ℕ) (cs : List Candidate) where
 
   -- the bridged candidates, on n steps
   abbrev bridgedTo : ℕ → ℕ → ℕ → List Cut
-  bridgedTo a n z = bridgedFrom g limit (endsAt cs a .right) (cutsFrom cs (numbersAfter a n)) (endsAt cs z .left)
+  bridgedTo a n z = bridgedFrom g limit (endsAt cs a .right) (cutsAt cs (numbersAfter a n)) (endsAt cs z .left)
 
   in-bridged : (n a z : ℕ) (k : Cut) (r : StepOf z k) → a + n ≡ z → a ≤ r .from → List·Memᴰ k (bridgedTo a n z)
   in-bridged zero a z k r e h = absurd (omega (arith, r .before))

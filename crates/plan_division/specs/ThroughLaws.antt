@@ -15,7 +15,7 @@ use Rattle.candidate_span.specs.Gaps.{Cut}
 use Rattle.candidate_span.specs.Span.{Span}
 use Rattle.division.specs.Division.{Row, Division}
 use Rattle.candidates.specs.declared.candidate.Candidate.{Candidate}
-use Rattle.plan_division.specs.Along.{endsAt, cutsFrom, cutsAlong, Rising}
+use Rattle.plan_division.specs.Along.{endsAt, cutsAt, cutsAlong, RisingPath}
 use Rattle.plan_division.specs.Across.{HasCut, Across}
 
 -- ---- a path from a division
@@ -34,14 +34,14 @@ module _ (s : Span) (cs : List Candidate) (p : Across s cs) where
     pub next : ℕ
     pub rest : List ℕ
     pub rises : Onward (λ (a b : ℕ). a < b) i (next ∷ rest) (length cs - 1)
-    pub cuts : cutsFrom cs (next ∷ rest) ≡ ks
+    pub cuts : cutsAt cs (next ∷ rest) ≡ ks
 
   through-cut : (i : ℕ) (k : Cut) (ks : List Cut) (c : HasCut cs k) → i < c .number → Through (c .number) ks → Through i (k ∷ ks)
   through-cut i k ks c h t = record {
     next = c .number;
     rest = t .next ∷ t .rest;
     rises = (h, t .rises);
-    cuts = ap (λ (j : Cut). j ∷ cutsFrom cs (t .next ∷ t .rest)) (c .is) ∙ ap (λ (js : List Cut). k ∷ js) (t .cuts);
+    cuts = ap (λ (j : Cut). j ∷ cutsAt cs (t .next ∷ t .rest)) (c .is) ∙ ap (λ (js : List Cut). k ∷ js) (t .cuts);
   }
 
   through : (i : ℕ) (ks : List Cut) → i < length cs - 1 → Row (endsAt cs i .right) ks (s .last) → ((k : Cut) → List·Memᴰ k ks → HasCut cs k) → Through i ks
@@ -56,7 +56,7 @@ module _ (s : Span) (cs : List Candidate) (p : Across s cs) where
   -- the path along which a division runs
   pub record PathOf (cuts : List Cut) : Type 0 where
     pub path : List ℕ
-    pub rising : Rising cs path
+    pub rising : RisingPath cs path
     pub along : cutsAlong cs path ≡ cuts
 
   pub division-path : (cuts : List Cut) → Division s cuts → ((k : Cut) → List·Memᴰ k cuts → HasCut cs k) → PathOf cuts

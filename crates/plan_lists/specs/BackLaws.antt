@@ -9,7 +9,7 @@ use lib.Seq.{take-set-le, drop-set-add, getD-take, getD-drop}
 use Rattle.candidate_points.specs.Placed.{placed}
 use Rattle.path_by_length.specs.Table.{wayTo}
 use Rattle.path_by_length.specs.Solved.{parentAt}
-use Rattle.path_by_length.specs.WalkLaws.{Writing, writing-start, writing-room, writing-next, writing-done}
+use Rattle.path_by_length.specs.WalkLaws.{WritingBack, writing-back-start, writing-back-room, writing-back-next, writing-back-done}
 use Rattle.plan_lists.specs.Within.{partAt}
 use Rattle.plan_lists.specs.WithinLaws.{within-placed}
 use Rattle.plan_lists.specs.Back.{WayRoom}
@@ -23,7 +23,7 @@ module _ (parents n at : ℕ) where
   pub record WritingWithin (work₀ work : List ℕ) (k j : ℕ) : Type 0 where
     pub same : length work ≡ length work₀
     pub before : take at work ≡ take at work₀
-    pub writing : Writing (parentIn work₀) (n - 1) (drop at work₀) (drop at work) k j
+    pub writing : WritingBack (parentIn work₀) (n - 1) (drop at work₀) (drop at work) k j
 
   module _ {work₀ : List ℕ} {len : ℕ} (r : WayRoom parents n at work₀ len) where
     fits : length (wayTo (parentIn work₀) (n - 1)) ≤ length (drop at work₀)
@@ -31,13 +31,13 @@ module _ (parents n at : ℕ) where
 
     -- before the first step
     pub within-start : WritingWithin work₀ work₀ len (n - 1)
-    within-start = record { same = refl; before = refl; writing = writing-start (r .leads .falling) (drop at work₀) fits len (r .long) }
+    within-start = record { same = refl; before = refl; writing = writing-back-start (r .leads .falling) (drop at work₀) fits len (r .long) }
 
     module _ {work : List ℕ} {k j : ℕ} (w : WritingWithin work₀ work k j) where
       -- there is a place for the candidate
       pub within-room : (0 < k) × (at + k ≤ length work)
       within-room =
-          let s = writing-room (r .leads .falling) (drop at work₀) fits (drop at work) k j (w .writing) in
+          let s = writing-back-room (r .leads .falling) (drop at work₀) fits (drop at work) k j (w .writing) in
           (s .0, omega (arith, s .0, s .1, length-drop at work))
 
       -- and its parent stands before the path
@@ -58,7 +58,7 @@ module _ (parents n at : ℕ) where
       within-next i e h = record {
         same = length-set work (at + i) j ∙ w .same;
         before = take-set-le at work (at + i) j (omega arith) ∙ w .before;
-        writing = rw (drop-set-add, e) (writing-next (r .leads .falling) (drop at work₀) fits (drop at work) k j h (w .writing));
+        writing = rw (drop-set-add, e) (writing-back-next (r .leads .falling) (drop at work₀) fits (drop at work) k j h (w .writing));
       }
 
       -- the parent that is read after the candidate is written
@@ -79,4 +79,4 @@ module _ (parents n at : ℕ) where
           within-placed at (wayTo (parentIn work₀) (n - 1)) work₀ (set work at 0)
           (take-set-le at work at 0 (omega arith) ∙ w .before)
           (ap (λ (p : ℕ). drop at (set work p 0)) (sym z) ∙ drop-set-add at work 0 0
-          ∙ writing-done (r .leads .falling) (drop at work₀) fits (drop at work) k j h (w .writing))
+          ∙ writing-back-done (r .leads .falling) (drop at work₀) fits (drop at work) k j h (w .writing))

@@ -45,11 +45,11 @@ use Rattle.plan_steps.specs.Held.{frontOf, heldWith, SpanHeld, SpanRoom}
 use Rattle.plan_modes.specs.Lengths.{AskedByCount}
 use Rattle.plan_steps.specs.Steps.{planAlong, cutsAdded}
 use Rattle.plan_modes.specs.Plan.{hasParents, pathByCount, suffices, plannedUnder, completedByCount, plannedAfter, planByCount}
-use Rattle.plan_steps.specs.Search.{AskedOver, PathOver, FoundByCount}
+use Rattle.plan_steps.specs.Search.{AskedOver, PathOver, SearchedByCount}
 
-module _ (x : Context) (g : FrameGrid) (settings : PlanConfig) (asked : ℕ) (span : HeldSpan) (work positions : List ℕ) (workf : List Float)
+module _ (x : Context) (g : FrameGrid) (settings : PlanConfig) (count : ℕ) (span : HeldSpan) (work positions : List ℕ) (workf : List Float)
     (h : SpanHeld x g span (frontOf (x .padding .frames) work) (levelsHeld (x .padding .frames) workf)) (room : SpanRoom (x .padding .frames) (length work) (length positions) (length workf))
-    (q : AskedByCount g settings (span .first) (span .last) asked)
+    (q : AskedByCount g settings (span .first) (span .last) count)
   where
     abbrev front : List ℕ
     front = frontOf (x .padding .frames) work
@@ -81,15 +81,15 @@ module _ (x : Context) (g : FrameGrid) (settings : PlanConfig) (asked : ℕ) (sp
             (omega (arith, f .0, stands .number), omega (arith, f .1, stands .number, h .sampled .same, h .planned .prepared .few))
 
         -- 14 is said of the candidates that there are
-        pub under-parents : (b : Bool) (parents : ℕ) → b ≡ hasParents asked k parents → hasParents asked (length cs) parents ≡ b
-        under-parents b parents e = ap (λ (m : ℕ). hasParents asked m parents) (sym (stands .number)) ∙ sym e
+        pub under-parents : (b : Bool) (parents : ℕ) → b ≡ hasParents count k parents → hasParents count (length cs) parents ≡ b
+        under-parents b parents e = ap (λ (m : ℕ). hasParents count m parents) (sym (stands .number)) ∙ sym e
 
         -- the list is long enough for the search
-        pub under-enough : (b : Bool) (parents : ℕ) → b ≡ hasParents asked k parents → b ≡ true → (0 < asked) × (min asked (k - 1) * k ≤ parents)
+        pub under-enough : (b : Bool) (parents : ℕ) → b ≡ hasParents count k parents → b ≡ true → (0 < count) × (min count (k - 1) * k ≤ parents)
         unfolding hasParents
-        under-enough b parents e t = (q .some, leb-true (min asked (k - 1) * k) parents (sym e ∙ t))
+        under-enough b parents e t = (q .some, leb-true (min count (k - 1) * k) parents (sym e ∙ t))
 
-        module _ (limit : ℕ) (l : Lengths) (prefers : l ≡ lengthsByCount g settings (span .first) (span .last) asked limit) where
+        module _ (limit : ℕ) (l : Lengths) (prefers : l ≡ lengthsByCount g settings (span .first) (span .last) count limit) where
           preferred : Preferred l
           preferred = subst Preferred (sym prefers) (q .preferred limit)
 
@@ -98,17 +98,17 @@ module _ (x : Context) (g : FrameGrid) (settings : PlanConfig) (asked : ℕ) (sp
           under-asked = with-asked x g span front levels h added placed k work₁ positions workf₁ stands room₁ l preferred
 
           -- once the path is found
-          module _ (work₂ positions₂ : List ℕ) (workf₂ : List Float) (answer : Solved) (found : FoundByCount g k l asked work₁ positions workf₁ work₂ positions₂ workf₂ answer)
+          module _ (work₂ positions₂ : List ℕ) (workf₂ : List Float) (answer : Solved) (found : SearchedByCount g k l count work₁ positions workf₁ work₂ positions₂ workf₂ answer)
               (same₂ : length work₂ ≡ length work₁) (same64 : length positions₂ ≡ length positions)
             where
               abbrev path : List ℕ
-              path = bestPathOverByCount g l cs asked
+              path = bestPathOverByCount g l cs count
 
               over : PathOver g cs path work₁ work₂ positions₂ workf₁ workf₂ answer
               over = found .over cs (stands .number) (with-held x g span front levels h added placed k work₁ positions workf₁ stands room₁)
 
               allowed : Path (AllowedByCount (l .limit) (leftsOf g cs) (rightsOf g cs)) path (lastCandidate (leftsOf g cs))
-              allowed = count-allowed (with-searchable x g span front levels h added placed l preferred) asked (q .some) .0
+              allowed = count-allowed (with-searchable x g span front levels h added placed l preferred) count (q .some) .0
 
               -- the plan along it can be handed out
               pub under-room : HandRoom (g .frames) k (answer .len) work₂ positions₂
@@ -121,19 +121,19 @@ module _ (x : Context) (g : FrameGrid) (settings : PlanConfig) (asked : ℕ) (sp
                   → now ≡ handedOutOf (answer .len - 1)
                   (piecesAlongNumbers (leftsIn k positions₂) (rightsIn (g .frames) k positions₂) (l .min) most (pathIn (g .frames) (answer .len) work₂))
                   (cutsAlongNumbers (leftsIn k positions₂) (rightsIn (g .frames) k positions₂) (reasonsIn (entriesIn (g .frames) k work₂)) (pathIn (g .frames) (answer .len) work₂)) out
-                  → now ≡ planAlong g settings cs (pathByCount g settings s asked limit cs) out
+                  → now ≡ planAlong g settings cs (pathByCount g settings s count limit cs) out
               unfolding lengthsWith
               under-handed most is out now e =
                   along-handed x g span front levels h added placed k work₁ positions workf₁ stands room₁
                   (AllowedByCount (l .limit) (leftsOf g cs) (rightsOf g cs)) (λ i j a. a .0) l preferred path allowed work₂ positions₂ workf₂ answer over same₂ same64
                   settings (l .min) most out now (ap (λ (t : Lengths). t .min) prefers) is e
-                  ∙ ap (λ (t : Lengths). planAlong g settings cs (bestPathOverByCount g t cs asked) out) prefers
+                  ∙ ap (λ (t : Lengths). planAlong g settings cs (bestPathOverByCount g t cs count) out) prefers
 
               -- whether it suffices
-              pub under-suffices : (b : Bool) → b ≡ (eqb (answer .len) (suc asked) && eqb (answer .score .over) 0) → suffices g settings s asked limit cs ≡ b
+              pub under-suffices : (b : Bool) → b ≡ (eqb (answer .len) (suc count) && eqb (answer .score .over) 0) → suffices g settings s count limit cs ≡ b
               unfolding suffices
               under-suffices b e =
-                  sym (ap (λ (t : Lengths). eqb (length (bestPathOverByCount g t cs asked)) (suc asked) && eqb (oversOf g t cs asked) 0) prefers)
+                  sym (ap (λ (t : Lengths). eqb (length (bestPathOverByCount g t cs count)) (suc count) && eqb (oversOf g t cs count) 0) prefers)
                   ∙ sym (rw (over .len, found .overs cs (stands .number) (with-held x g span front levels h added placed k work₁ positions workf₁ stands room₁)) at e)
 
               -- the fronts are as they were
@@ -159,9 +159,9 @@ module _ (x : Context) (g : FrameGrid) (settings : PlanConfig) (asked : ℕ) (sp
       -- and what is planned of it is the same
       pub kept-after : (parents parents₂ : ℕ) → parents₂ ≡ parents → (out : Output) (now : Handed)
           → now ≡ plannedAfter g settings (spanIn (x .gap) (x .padding) span (silencesHeld (span .silences) (frontOf (x .padding .frames) work₂)))
-          (heldWith x span (frontOf (x .padding .frames) work₂) (levelsHeld (x .padding .frames) workf₂)) asked parents₂ out
-          (reachOf g (spanIn (x .gap) (x .padding) span (silencesHeld (span .silences) (frontOf (x .padding .frames) work₂))) asked (maximumIn g settings))
-          → now ≡ plannedAfter g settings s with asked parents out (reachOf g s asked (maximumIn g settings))
+          (heldWith x span (frontOf (x .padding .frames) work₂) (levelsHeld (x .padding .frames) workf₂)) count parents₂ out
+          (reachOf g (spanIn (x .gap) (x .padding) span (silencesHeld (span .silences) (frontOf (x .padding .frames) work₂))) count (maximumIn g settings))
+          → now ≡ plannedAfter g settings s with count parents out (reachOf g s count (maximumIn g settings))
       kept-after parents parents₂ e out now d = rw (fronts, same-levels, e) at d
 
     -- no point is added to the first candidates
@@ -171,52 +171,52 @@ module _ (x : Context) (g : FrameGrid) (settings : PlanConfig) (asked : ℕ) (sp
     -- ---- the ends of planning after the reach was sought
 
     module _ (most : ℕ) (is : most ≡ maximumIn g settings) (parents : ℕ) (out : Output) where
-      sought : (r : Sought) → reachOf g s asked most ≡ r → reachOf g s asked (maximumIn g settings) ≡ r
-      sought r e = ap (reachOf g s asked) (sym is) ∙ e
+      sought : (r : Sought) → reachOf g s count most ≡ r → reachOf g s count (maximumIn g settings) ≡ r
+      sought r e = ap (reachOf g s count) (sym is) ∙ e
 
       -- there is no reach: 18
-      pub after-none : reachOf g s asked most ≡ Nothing → handedOf NoReach out ≡ plannedAfter g settings s with asked parents out (reachOf g s asked (maximumIn g settings))
-      after-none e = sym (ap (plannedAfter g settings s with asked parents out) (sought Nothing e))
+      pub after-none : reachOf g s count most ≡ Nothing → handedOf NoReach out ≡ plannedAfter g settings s with count parents out (reachOf g s count (maximumIn g settings))
+      after-none e = sym (ap (plannedAfter g settings s with count parents out) (sought Nothing e))
 
-      module _ (limit : ℕ) (e : reachOf g s asked most ≡ Reach limit) where
+      module _ (limit : ℕ) (e : reachOf g s count most ≡ Reach limit) where
         abbrev ds : List Candidate
-        ds = completedByCount g settings s with asked limit
+        ds = completedByCount g settings s with count limit
 
         -- the cuts that are added are places
-        pub after-placed : (k : Cut) → List·Memᴰ k (cutsAdded g s asked limit) → Place s k
-        after-placed = count-placed x g span work workf h (room-collects room) most asked limit (q .some) e
+        pub after-placed : (k : Cut) → List·Memᴰ k (cutsAdded g s count limit) → Place s k
+        after-placed = count-placed x g span work workf h (room-collects room) most count limit (q .some) e
 
         -- the parent list is too short: 14
-        pub after-short : hasParents asked (length ds) parents ≡ false
-            → handedOf ShortParent out ≡ plannedAfter g settings s with asked parents out (reachOf g s asked (maximumIn g settings))
+        pub after-short : hasParents count (length ds) parents ≡ false
+            → handedOf ShortParent out ≡ plannedAfter g settings s with count parents out (reachOf g s count (maximumIn g settings))
         unfolding plannedUnder
-        after-short b = sym (ap (plannedAfter g settings s with asked parents out) (sought (Reach limit) e) ∙ rw b)
+        after-short b = sym (ap (plannedAfter g settings s with count parents out) (sought (Reach limit) e) ∙ rw b)
 
         -- the plan along the second path
-        pub after-planned : hasParents asked (length ds) parents ≡ true → (now : Handed) → now ≡ planAlong g settings ds (pathByCount g settings s asked limit ds) out
-            → now ≡ plannedAfter g settings s with asked parents out (reachOf g s asked (maximumIn g settings))
+        pub after-planned : hasParents count (length ds) parents ≡ true → (now : Handed) → now ≡ planAlong g settings ds (pathByCount g settings s count limit ds) out
+            → now ≡ plannedAfter g settings s with count parents out (reachOf g s count (maximumIn g settings))
         unfolding plannedUnder
-        after-planned b now d = d ∙ sym (ap (plannedAfter g settings s with asked parents out) (sought (Reach limit) e) ∙ rw b)
+        after-planned b now d = d ∙ sym (ap (plannedAfter g settings s with count parents out) (sought (Reach limit) e) ∙ rw b)
 
     -- ---- the ends of the whole
 
     module _ (most : ℕ) (is : most ≡ maximumIn g settings) (parents : ℕ) (out : Output) where
       -- the parent list is too short for the first path: 14
-      pub count-short : hasParents asked (length (with [])) parents ≡ false → handedOf ShortParent out ≡ planByCount g settings s with asked parents out
+      pub count-short : hasParents count (length (with [])) parents ≡ false → handedOf ShortParent out ≡ planByCount g settings s with count parents out
       unfolding planByCount
       count-short b = rw b
 
-      module _ (fits : hasParents asked (length (with [])) parents ≡ true) where
+      module _ (fits : hasParents count (length (with [])) parents ≡ true) where
         -- the plan along the first path, which suffices
-        pub count-first : suffices g settings s asked most (with []) ≡ true → (now : Handed) → now ≡ planAlong g settings (with []) (pathByCount g settings s asked most (with [])) out
-            → now ≡ planByCount g settings s with asked parents out
+        pub count-first : suffices g settings s count most (with []) ≡ true → (now : Handed) → now ≡ planAlong g settings (with []) (pathByCount g settings s count most (with [])) out
+            → now ≡ planByCount g settings s with count parents out
         unfolding planByCount
         count-first b now d =
-            d ∙ ap (λ (m : ℕ). planAlong g settings (with []) (pathByCount g settings s asked m (with [])) out) is
-            ∙ sym (rw (fits, subst (λ (m : ℕ). suffices g settings s asked m (with []) ≡ true) is b))
+            d ∙ ap (λ (m : ℕ). planAlong g settings (with []) (pathByCount g settings s count m (with [])) out) is
+            ∙ sym (rw (fits, subst (λ (m : ℕ). suffices g settings s count m (with []) ≡ true) is b))
 
         -- else what is planned once the reach was sought
-        pub count-second : suffices g settings s asked most (with []) ≡ false
-            → (now : Handed) → now ≡ plannedAfter g settings s with asked parents out (reachOf g s asked (maximumIn g settings)) → now ≡ planByCount g settings s with asked parents out
+        pub count-second : suffices g settings s count most (with []) ≡ false
+            → (now : Handed) → now ≡ plannedAfter g settings s with count parents out (reachOf g s count (maximumIn g settings)) → now ≡ planByCount g settings s with count parents out
         unfolding planByCount
-        count-second b now d = d ∙ sym (rw (fits, subst (λ (m : ℕ). suffices g settings s asked m (with []) ≡ false) is b))
+        count-second b now d = d ∙ sym (rw (fits, subst (λ (m : ℕ). suffices g settings s count m (with []) ≡ false) is b))

@@ -35,7 +35,7 @@ use Rattle.plan_steps.specs.HeldLaws.{room-collects, room-stays}
 use Rattle.plan_modes.specs.Lengths.{AskedByLength}
 use Rattle.plan_steps.specs.Steps.{planAlong}
 use Rattle.plan_modes.specs.Plan.{completedByLength, planByLength}
-use Rattle.plan_steps.specs.Search.{AskedOver, PathOver, FoundByLength}
+use Rattle.plan_steps.specs.Search.{AskedOver, PathOver, SearchedByLength}
 
 module _ (x : Context) (g : FrameGrid) (settings : PlanConfig) (span : HeldSpan) (work positions : List ℕ) (workf : List Float)
     (h : SpanHeld x g span (frontOf (x .padding .frames) work) (levelsHeld (x .padding .frames) workf)) (room : SpanRoom (x .padding .frames) (length work) (length positions) (length workf))
@@ -68,7 +68,7 @@ module _ (x : Context) (g : FrameGrid) (settings : PlanConfig) (span : HeldSpan)
           with-asked x g span (frontOf (x .padding .frames) work) (levelsHeld (x .padding .frames) workf) h added placed k work₁ positions workf₁ stands room₁ l preferred
 
       -- once the path is found
-      module _ (work₂ positions₂ : List ℕ) (workf₂ : List Float) (answer : Solved) (found : FoundByLength g k l work₁ positions workf₁ work₂ positions₂ workf₂ answer)
+      module _ (work₂ positions₂ : List ℕ) (workf₂ : List Float) (answer : Solved) (found : SearchedByLength g k l work₁ positions workf₁ work₂ positions₂ workf₂ answer)
           (same₂ : length work₂ ≡ length work₁) (same64 : length positions₂ ≡ length positions) where
         over : PathOver g cs (bestPathOver g l cs) work₁ work₂ positions₂ workf₁ workf₂ answer
         over =

@@ -13,13 +13,13 @@ pub record AskedByLength (g : FrameGrid) (settings : PlanConfig) : Type 0 where
   pub preferred : Preferred (lengthsByLength g settings)
 
 -- by count, for so many pieces of the span from boundary `first` to boundary `last`
-pub record AskedByCount (g : FrameGrid) (settings : PlanConfig) (first last asked : ℕ) : Type 0 where
+pub record AskedByCount (g : FrameGrid) (settings : PlanConfig) (first last count : ℕ) : Type 0 where
   pub timed : Timed g settings
-  pub pieces : InPieces g first last asked
-  pub some : 0 < asked
-  pub preferred : (limit : ℕ) → Preferred (lengthsByCount g settings first last asked limit)
+  pub pieces : InPieces g first last count
+  pub some : 0 < count
+  pub preferred : (limit : ℕ) → Preferred (lengthsByCount g settings first last count limit)
 
 -- by whichever mode
 pub record AskedFor (g : FrameGrid) (settings : PlanConfig) (first last : ℕ) : Type 0 where
   pub by-length : AskedByLength g settings
-  pub by-count : (asked : ℕ) → settings .mode ≡ ByCount asked → AskedByCount g settings first last asked
+  pub by-count : (count : ℕ) → settings .mode ≡ ByCount count → AskedByCount g settings first last count

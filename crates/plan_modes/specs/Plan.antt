@@ -41,40 +41,40 @@ module _ (g : FrameGrid) (settings : PlanConfig) (with : List Cut → List Candi
 
 -- 14: a parent list of this length has an entry for each piece and candidate of a path
 unfoldable pub hasParents : ℕ → ℕ → ℕ → Bool
-hasParents asked candidates parents = leb (min asked (candidates - 1) * candidates) parents
+hasParents count candidates parents = leb (min count (candidates - 1) * candidates) parents
 
 module _ (g : FrameGrid) (settings : PlanConfig) (s : Span) where
   -- document 01's best path by count, of min(N, last index) pieces, under a limit
   abbrev pub pathByCount : ℕ → ℕ → List Candidate → List ℕ
-  pathByCount asked limit cs = bestPathOverByCount g (lengthsByCount g settings (s .first) (s .last) asked limit) cs asked
+  pathByCount count limit cs = bestPathOverByCount g (lengthsByCount g settings (s .first) (s .last) count limit) cs count
 
   -- it has no fewer than N pieces, and none over the limit
   unfoldable pub suffices : ℕ → ℕ → List Candidate → Bool
-  suffices asked limit cs =
-      eqb (length (pathByCount asked limit cs)) (suc asked) && eqb (oversOf g (lengthsByCount g settings (s .first) (s .last) asked limit) cs asked) 0
+  suffices count limit cs =
+      eqb (length (pathByCount count limit cs)) (suc count) && eqb (oversOf g (lengthsByCount g settings (s .first) (s .last) count limit) cs count) 0
 
   -- the path over candidates under a limit: 14, or the plan along it
   unfoldable pub plannedUnder : ℕ → ℕ → List Candidate → ℕ → Output → Handed
-  plannedUnder asked limit cs parents out =
-      pick (hasParents asked (length cs) parents) (planAlong g settings cs (pathByCount asked limit cs) out) (handedOf ShortParent out)
+  plannedUnder count limit cs parents out =
+      pick (hasParents count (length cs) parents) (planAlong g settings cs (pathByCount count limit cs) out) (handedOf ShortParent out)
 
   module _ (with : List Cut → List Candidate) where
     -- the candidates completed for a number of pieces, under a limit
     abbrev pub completedByCount : ℕ → ℕ → List Candidate
-    completedByCount asked limit = with (cutsAdded g s asked limit)
+    completedByCount count limit = with (cutsAdded g s count limit)
 
     -- once the reach was sought: 18, or the path over the completed candidates under the reach
     abbrev pub plannedAfter : ℕ → ℕ → Output → Sought → Handed
-    plannedAfter asked parents out Nothing = handedOf NoReach out
-    plannedAfter asked parents out (Reach limit) = plannedUnder asked limit (completedByCount asked limit) parents out
+    plannedAfter count parents out Nothing = handedOf NoReach out
+    plannedAfter count parents out (Reach limit) = plannedUnder count limit (completedByCount count limit) parents out
 
     -- document 01: "if the first path has fewer than N pieces or one over the maximum", the reach is sought; else the plan along the first path; 14 comes before both
     unfoldable pub planByCount : ℕ → ℕ → Output → Handed
-    planByCount asked parents out =
-        pick (hasParents asked (length (with [])) parents)
-        (pick (suffices asked (maximumIn g settings) (with []))
-        (planAlong g settings (with []) (pathByCount asked (maximumIn g settings) (with [])) out)
-        (plannedAfter asked parents out (reachOf g s asked (maximumIn g settings))))
+    planByCount count parents out =
+        pick (hasParents count (length (with [])) parents)
+        (pick (suffices count (maximumIn g settings) (with []))
+        (planAlong g settings (with []) (pathByCount count (maximumIn g settings) (with [])) out)
+        (plannedAfter count parents out (reachOf g s count (maximumIn g settings))))
         (handedOf ShortParent out)
 
     -- ---- either
@@ -82,4 +82,4 @@ module _ (g : FrameGrid) (settings : PlanConfig) (s : Span) where
     -- the plan by length or by count, as the mode says
     unfoldable pub planBy : Mode → ℕ → Output → Handed
     planBy ByLength parents out = planByLength g settings with out
-    planBy (ByCount asked) parents out = planByCount asked parents out
+    planBy (ByCount count) parents out = planByCount count parents out

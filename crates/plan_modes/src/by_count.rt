@@ -28,19 +28,19 @@ ghost use Rattle.plan_modes.specs.Lengths.{AskedByCount};
 ghost use Rattle.plan_modes.specs.Plan.{hasParents, plannedAfter, planByCount};
 
 // 14: whether a parent list of this length has an entry for each piece and candidate of a path.
-fn has_parents(asked: usize, candidates: usize, parents: usize) -> bool
+fn has_parents(count: usize, candidates: usize, parents: usize) -> bool
     requires { ⌜ (0 < candidates) × (candidates ≤ suc maxIndex) ⌝ }
-    ensures { λ r. ⌜ r ≡ hasParents asked candidates parents ⌝ }
+    ensures { λ r. ⌜ r ≡ hasParents count candidates parents ⌝ }
 {
-    sizes::lesser(asked, candidates - 1) * candidates <= parents
+    sizes::lesser(count, candidates - 1) * candidates <= parents
 }
 
 // Whether a path has as many pieces as are asked for, and none over its limit.
-fn is_enough(solved: Solved, asked: usize) -> bool
-    requires { ⌜ asked < 4294967296 ⌝ }
-    ensures { λ r. ⌜ r ≡ (eqb (solved .len) (suc asked) && eqb (solved .score .over) 0) ⌝ }
+fn is_enough(solved: Solved, count: usize) -> bool
+    requires { ⌜ count < 4294967296 ⌝ }
+    ensures { λ r. ⌜ r ≡ (eqb (solved .len) (suc count) && eqb (solved .score .over) 0) ⌝ }
 {
-    if solved.len != asked + 1 {
+    if solved.len != count + 1 {
         return false;
     }
     solved.score.over == 0
@@ -51,7 +51,7 @@ fn plan_after(
     x: Context,
     g: FrameGrid,
     settings: PlanConfig,
-    asked: usize,
+    count: usize,
     span: HeldSpan,
     work_u32: &mut [u32],
     work_u64: &mut [u64],
@@ -64,23 +64,23 @@ fn plan_after(
         (levelsHeld (x .padding .frames) (now «work_f64»)) ⌝ }
     requires { ⌜ SpanRoom (x .padding .frames) (length (now «work_u32»)) (length (now «work_u64»))
         (length (now «work_f64»)) ⌝ }
-    requires { ⌜ AskedByCount g settings (span .first) (span .last) asked ⌝ }
+    requires { ⌜ AskedByCount g settings (span .first) (span .last) count ⌝ }
     ensures { λ a. ⌜ handedOf a (outputOf (now (pieces .exit)) (now (cuts .exit)))
         ≡ plannedAfter g settings (spanIn (x .gap) (x .padding) span
         (silencesHeld (span .silences) (frontOf (x .padding .frames) (now («work_u32» .entry)))))
         (heldWith x span (frontOf (x .padding .frames) (now («work_u32» .entry)))
         (levelsHeld (x .padding .frames) (now («work_f64» .entry))))
-        asked (length (now (parent .entry))) (outputOf (now (pieces .entry)) (now (cuts .entry)))
+        count (length (now (parent .entry))) (outputOf (now (pieces .entry)) (now (cuts .entry)))
         (reachOf g (spanIn (x .gap) (x .padding) span
         (silencesHeld (span .silences) (frontOf (x .padding .frames) (now («work_u32» .entry)))))
-        asked (maximumIn g settings)) ⌝ }
+        count (maximumIn g settings)) ⌝ }
 {
     let max = lengths::maximum(g, settings);
     let completed = complete::complete_by_count(
         x,
         g,
         max,
-        asked,
+        count,
         span,
         &mut *work_u32,
         &mut *work_f64,
@@ -88,15 +88,15 @@ fn plan_after(
     match completed {
         Completed::NoReach => Answer::NoReach,
         Completed::Under(limit, k) => {
-            if !has_parents(asked, k, parent.len()) {
+            if !has_parents(count, k, parent.len()) {
                 return Answer::ShortParent;
             }
-            let l = lengths::lengths_by_count(g, settings, span.first, span.last, asked, limit);
+            let l = lengths::lengths_by_count(g, settings, span.first, span.last, count, limit);
             let solved = search::search_by_count(
                 g,
                 k,
                 l,
-                asked,
+                count,
                 &mut *work_u32,
                 &mut *work_u64,
                 work_f64,
@@ -123,7 +123,7 @@ pub fn plan_by_count(
     x: Context,
     g: FrameGrid,
     settings: PlanConfig,
-    asked: usize,
+    count: usize,
     span: HeldSpan,
     work_u32: &mut [u32],
     work_u64: &mut [u64],
@@ -136,31 +136,31 @@ pub fn plan_by_count(
         (levelsHeld (x .padding .frames) (now «work_f64»)) ⌝ }
     requires { ⌜ SpanRoom (x .padding .frames) (length (now «work_u32»)) (length (now «work_u64»))
         (length (now «work_f64»)) ⌝ }
-    requires { ⌜ AskedByCount g settings (span .first) (span .last) asked ⌝ }
+    requires { ⌜ AskedByCount g settings (span .first) (span .last) count ⌝ }
     ensures { λ a. ⌜ handedOf a (outputOf (now (pieces .exit)) (now (cuts .exit)))
         ≡ planByCount g settings (spanIn (x .gap) (x .padding) span
         (silencesHeld (span .silences) (frontOf (x .padding .frames) (now («work_u32» .entry)))))
         (heldWith x span (frontOf (x .padding .frames) (now («work_u32» .entry)))
         (levelsHeld (x .padding .frames) (now («work_f64» .entry))))
-        asked (length (now (parent .entry))) (outputOf (now (pieces .entry)) (now (cuts .entry))) ⌝ }
+        count (length (now (parent .entry))) (outputOf (now (pieces .entry)) (now (cuts .entry))) ⌝ }
 {
     let max = lengths::maximum(g, settings);
     let k = collect::collect(x, span, &mut *work_u32, &mut *work_f64);
-    if !has_parents(asked, k, parent.len()) {
+    if !has_parents(count, k, parent.len()) {
         return Answer::ShortParent;
     }
-    let l = lengths::lengths_by_count(g, settings, span.first, span.last, asked, max);
+    let l = lengths::lengths_by_count(g, settings, span.first, span.last, count, max);
     let solved = search::search_by_count(
         g,
         k,
         l,
-        asked,
+        count,
         &mut *work_u32,
         &mut *work_u64,
         &mut *work_f64,
         &mut *parent,
     );
-    if is_enough(solved, asked) {
+    if is_enough(solved, count) {
         let len = solved.len;
         return hand::hand_out_held(g, k, len, l.min, max, &*work_u32, &*work_u64, pieces, cuts);
     }
@@ -168,7 +168,7 @@ pub fn plan_by_count(
         x,
         g,
         settings,
-        asked,
+        count,
         span,
         work_u32,
         work_u64,

@@ -54,11 +54,11 @@ pub fn plan_span(
             pieces,
             cuts,
         ),
-        Mode::ByCount(asked) => by_count::plan_by_count(
+        Mode::ByCount(count) => by_count::plan_by_count(
             x,
             g,
             settings,
-            asked as usize,
+            count as usize,
             span,
             work_u32,
             work_u64,

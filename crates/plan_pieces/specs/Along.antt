@@ -21,14 +21,14 @@ module _ (left right : List ℕ) where
   pieceAt path i = record { start = getD right (getD path i 0) 0; end = getD left (getD path (suc i) 0) 0 }
 
   -- from candidate i on
-  unfoldable pub piecesFrom : Float → ℕ → ℕ → List ℕ → List ℕ
-  piecesFrom least most i [] = []
-  piecesFrom least most i (j ∷ rest) = pieceNumbers least most i j ++ piecesFrom least most j rest
+  unfoldable pub pieceNumbersFrom : Float → ℕ → ℕ → List ℕ → List ℕ
+  pieceNumbersFrom least most i [] = []
+  pieceNumbersFrom least most i (j ∷ rest) = pieceNumbers least most i j ++ pieceNumbersFrom least most j rest
 
   -- a piece from each candidate of a path to the next
   unfoldable pub piecesAlongNumbers : Float → ℕ → List ℕ → List ℕ
   piecesAlongNumbers least most [] = []
-  piecesAlongNumbers least most (i ∷ rest) = piecesFrom least most i rest
+  piecesAlongNumbers least most (i ∷ rest) = pieceNumbersFrom least most i rest
 
   -- ---- cuts
 
@@ -37,15 +37,15 @@ module _ (left right : List ℕ) where
   cutNumbers reasons j = getD left j 0 ∷ (getD right j 0 ∷ (getD reasons j 0 ∷ []))
 
   -- from the cut at candidate j on; there is none at the last
-  unfoldable pub cutsFrom : List ℕ → ℕ → List ℕ → List ℕ
-  cutsFrom reasons j [] = []
-  cutsFrom reasons j (k ∷ rest) = cutNumbers reasons j ++ cutsFrom reasons k rest
+  unfoldable pub cutNumbersFrom : List ℕ → ℕ → List ℕ → List ℕ
+  cutNumbersFrom reasons j [] = []
+  cutNumbersFrom reasons j (k ∷ rest) = cutNumbers reasons j ++ cutNumbersFrom reasons k rest
 
   -- a cut at each candidate between the first of a path and its last
   unfoldable pub cutsAlongNumbers : List ℕ → List ℕ → List ℕ
   cutsAlongNumbers reasons [] = []
   cutsAlongNumbers reasons (i ∷ []) = []
-  cutsAlongNumbers reasons (i ∷ (j ∷ rest)) = cutsFrom reasons j rest
+  cutsAlongNumbers reasons (i ∷ (j ∷ rest)) = cutNumbersFrom reasons j rest
 
 -- ---- candidates as numbers in a list
 

@@ -12,7 +12,7 @@ use Rattle.base_terms.specs.Lists.{onto}
 use Rattle.base_code.specs.FrontLaws.{onto-nil, onto-next}
 use Rattle.path_pieces.specs.Pieces.{pieceLength}
 use Rattle.plan_pieces.specs.Flags.{flagsOf}
-use Rattle.plan_pieces.specs.Along.{pieceAt, pieceNumbers, piecesFrom, piecesAlongNumbers, cutNumbers, reasonsIn, cutsFrom, cutsAlongNumbers, putThree}
+use Rattle.plan_pieces.specs.Along.{pieceAt, pieceNumbers, pieceNumbersFrom, piecesAlongNumbers, cutNumbers, reasonsIn, cutNumbersFrom, cutsAlongNumbers, putThree}
 use Rattle.plan_pieces.specs.Drawn.{Drawn}
 use Rattle.plan_pieces.specs.declared.pieces.PieceEnds.{PieceEnds}
 
@@ -21,23 +21,23 @@ use Rattle.plan_pieces.specs.declared.pieces.PieceEnds.{PieceEnds}
 module _ (left right : List ℕ) where
   pub pieces-step : (least : Float) (most : ℕ) (path : List ℕ) (i : ℕ) → suc i < length path → piecesAlongNumbers left right least most (drop i path)
       ≡ pieceNumbers left right least most (getD path i 0) (getD path (suc i) 0) ++ piecesAlongNumbers left right least most (drop (suc i) path)
-  unfolding piecesAlongNumbers piecesFrom
+  unfolding piecesAlongNumbers pieceNumbersFrom
   pieces-step least most path i h = rw (drop-cons path i 0 (omega (arith, h)), drop-cons path (suc i) 0 h)
 
   pub pieces-none : (least : Float) (most : ℕ) (path : List ℕ) → length path ≤ 1 → piecesAlongNumbers left right least most path ≡ []
-  unfolding piecesAlongNumbers piecesFrom
+  unfolding piecesAlongNumbers pieceNumbersFrom
   pieces-none least most [] h = refl
   pieces-none least most (i ∷ []) h = refl
   pieces-none least most (i ∷ (j ∷ rest)) h = absurd (omega arith)
 
   pub cuts-step : (reasons path : List ℕ) (i : ℕ) → suc (suc i) < length path
       → cutsAlongNumbers left right reasons (drop i path) ≡ cutNumbers left right reasons (getD path (suc i) 0) ++ cutsAlongNumbers left right reasons (drop (suc i) path)
-  unfolding cutsAlongNumbers cutsFrom
+  unfolding cutsAlongNumbers cutNumbersFrom
   cuts-step reasons path i h =
       rw (drop-cons path i 0 (omega (arith, h)), drop-cons path (suc i) 0 (omega (arith, h)), drop-cons path (suc (suc i)) 0 h)
 
   pub cuts-none : (reasons path : List ℕ) → length path ≤ 2 → cutsAlongNumbers left right reasons path ≡ []
-  unfolding cutsAlongNumbers cutsFrom
+  unfolding cutsAlongNumbers cutNumbersFrom
   cuts-none reasons [] h = refl
   cuts-none reasons (i ∷ []) h = refl
   cuts-none reasons (i ∷ (j ∷ [])) h = refl

@@ -7,7 +7,7 @@ use lib.Ieee.{Float}
 use lib.ListN.{length, getD}
 use Rattle.path_pieces.specs.Pieces.{pieceLength}
 use Rattle.plan_pieces.specs.Flags.{flagsOf}
-use Rattle.plan_pieces.specs.Along.{piecesFrom, piecesAlongNumbers, cutsFrom, cutsAlongNumbers}
+use Rattle.plan_pieces.specs.Along.{pieceNumbersFrom, piecesAlongNumbers, cutNumbersFrom, cutsAlongNumbers}
 
 -- the three numbers of piece or cut i
 pub record Numbers (ns : List ℕ) (i first second third : ℕ) : Type 0 where
@@ -30,8 +30,8 @@ numbers-on x y z ns i a b c n =
 module _ (left right : List ℕ) where
   -- ---- pieces
 
-  from-length : (least : Float) (most i : ℕ) (path : List ℕ) → length (piecesFrom left right least most i path) ≡ 3 * length path
-  unfolding piecesFrom
+  from-length : (least : Float) (most i : ℕ) (path : List ℕ) → length (pieceNumbersFrom left right least most i path) ≡ 3 * length path
+  unfolding pieceNumbersFrom
   from-length least most i [] = refl
   from-length least most i (j ∷ rest) = omega (arith, from-length least most j rest)
 
@@ -45,7 +45,7 @@ module _ (left right : List ℕ) where
   pub piece-numbers : (least : Float) (most : ℕ) (path : List ℕ) (i : ℕ) → suc i < length path
       → Numbers (piecesAlongNumbers left right least most path) i
       (getD right (getD path i 0) 0) (getD left (getD path (suc i) 0) 0) (flagsOf least most (pieceLength left right (getD path i 0) (getD path (suc i) 0)))
-  unfolding piecesAlongNumbers piecesFrom
+  unfolding piecesAlongNumbers pieceNumbersFrom
   piece-numbers least most [] i h = absurd (omega arith)
   piece-numbers least most (p ∷ []) i h = absurd (omega arith)
   piece-numbers least most (p ∷ (q ∷ rest)) zero h = record { one = refl; two = refl; three = refl }
@@ -54,8 +54,8 @@ module _ (left right : List ℕ) where
 
   -- ---- cuts
 
-  cuts-from-length : (reasons : List ℕ) (j : ℕ) (path : List ℕ) → length (cutsFrom left right reasons j path) ≡ 3 * length path
-  unfolding cutsFrom
+  cuts-from-length : (reasons : List ℕ) (j : ℕ) (path : List ℕ) → length (cutNumbersFrom left right reasons j path) ≡ 3 * length path
+  unfolding cutNumbersFrom
   cuts-from-length reasons j [] = refl
   cuts-from-length reasons j (k ∷ rest) = omega (arith, cuts-from-length reasons k rest)
 
@@ -70,7 +70,7 @@ module _ (left right : List ℕ) where
   pub cut-numbers : (reasons path : List ℕ) (i : ℕ) → suc (suc i) < length path
       → Numbers (cutsAlongNumbers left right reasons path) i
       (getD left (getD path (suc i) 0) 0) (getD right (getD path (suc i) 0) 0) (getD reasons (getD path (suc i) 0) 0)
-  unfolding cutsAlongNumbers cutsFrom
+  unfolding cutsAlongNumbers cutNumbersFrom
   cut-numbers reasons [] i h = absurd (omega arith)
   cut-numbers reasons (p ∷ []) i h = absurd (omega arith)
   cut-numbers reasons (p ∷ (q ∷ [])) i h = absurd (omega arith)

@@ -13,7 +13,7 @@ use Rattle.candidates.specs.declared.candidate.Candidate.{Candidate}
 use Rattle.candidates.specs.declared.candidate.Reason.the-variants.{Silence}
 use Rattle.base_terms.specs.Floats.{nought}
 use Rattle.plan_pieces.specs.Flags.{shortFlag, longFlag, flagsOf}
-use Rattle.plan_pieces.specs.Along.{piecesFrom, piecesAlongNumbers, cutsFrom, cutsAlongNumbers}
+use Rattle.plan_pieces.specs.Along.{pieceNumbersFrom, piecesAlongNumbers, cutNumbersFrom, cutsAlongNumbers}
 use Rattle.plan_pieces.specs.PlanAlong.{reasonsOf}
 
 grid : FrameGrid
@@ -28,15 +28,15 @@ along k most = piecesAlongNumbers (leftsOf grid (cutIn k)) (rightsOf grid (cutIn
 
 -- pieces 0 to 400 and 400 to 700, without flags
 printed : along 4 400000000 ≡ 0 ∷ (400 ∷ (0 ∷ (400 ∷ (700 ∷ (0 ∷ [])))))
-unfolding span climb size odd units round sum add neg sub div lt ofInt grid boundaryOf startOf samplesFloor samplesIn pieceLength shortFlag longFlag flagsOf piecesFrom piecesAlongNumbers
+unfolding span climb size odd units round sum add neg sub div lt ofInt grid boundaryOf startOf samplesFloor samplesIn pieceLength shortFlag longFlag flagsOf pieceNumbersFrom piecesAlongNumbers
 printed = refl
 
 -- and the cut between them, in silence
 printed-cut : cutsAlongNumbers (leftsOf grid (cutIn 4)) (rightsOf grid (cutIn 4)) (reasonsOf (cutIn 4)) (0 ∷ (1 ∷ (2 ∷ []))) ≡ 400 ∷ (400 ∷ (0 ∷ []))
-unfolding grid boundaryOf startOf cutsFrom cutsAlongNumbers
+unfolding grid boundaryOf startOf cutNumbersFrom cutsAlongNumbers
 printed-cut = refl
 
 -- with a maximum of 300 ms the second piece of 0 to 300 and 300 to 700 is flagged long
 long-second : along 3 300000000 ≡ 0 ∷ (300 ∷ (0 ∷ (300 ∷ (700 ∷ (2 ∷ [])))))
-unfolding span climb size odd units round sum add neg sub div lt ofInt grid boundaryOf startOf samplesFloor samplesIn pieceLength shortFlag longFlag flagsOf piecesFrom piecesAlongNumbers
+unfolding span climb size odd units round sum add neg sub div lt ofInt grid boundaryOf startOf samplesFloor samplesIn pieceLength shortFlag longFlag flagsOf pieceNumbersFrom piecesAlongNumbers
 long-second = refl

@@ -25,17 +25,17 @@ bridgedHeld x g most span work workf =
     with (addedByLength g most (with []))
 
 -- by count: document 01's reach, and the candidates that are completed under it
-module _ (x : Context) (g : FrameGrid) (most asked : ℕ) (span : HeldSpan) (work : List ℕ) (workf : List Float) (work′ : List ℕ) (workf′ : List Float) where
+module _ (x : Context) (g : FrameGrid) (most count : ℕ) (span : HeldSpan) (work : List ℕ) (workf : List Float) (work′ : List ℕ) (workf′ : List Float) where
   -- the span
   abbrev s : Span
   s = spanIn (x .gap) (x .padding) span (silencesHeld (span .silences) (frontOf (x .padding .frames) work))
 
   -- the reach and the candidates under it, or that there is no reach
   abbrev Says : Completed → Type 0
-  Says NoReach = reachOf g s asked most ≡ Nothing
+  Says NoReach = reachOf g s count most ≡ Nothing
   Says (Under limit k) =
-      (reachOf g s asked most ≡ Reach limit)
-      × Stands (x .padding .frames) k (heldWith x span (frontOf (x .padding .frames) work) (levelsHeld (x .padding .frames) workf) (cutsAdded g s asked limit)) work′ workf′
+      (reachOf g s count most ≡ Reach limit)
+      × Stands (x .padding .frames) k (heldWith x span (frontOf (x .padding .frames) work) (levelsHeld (x .padding .frames) workf) (cutsAdded g s count limit)) work′ workf′
 
   -- what an answer says
   pub record CompletedIs (r : Completed) : Type 0 where

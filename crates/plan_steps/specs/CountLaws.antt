@@ -81,18 +81,18 @@ module _ (x : Context) (g : FrameGrid) (span : HeldSpan) (work : List ℕ) (work
     ground-few = omega (arith, span-order x g span front levels h .1, h .planned .prepared .few)
 
     -- what the search for the reach answers
-    pub sought-is : (most asked : ℕ) (r q : Sought) → r ≡ reachOf g (spanIn (x .gap) (x .padding) span (take (2 * span .silences) work)) asked most → r ≡ q → reachOf g s asked most ≡ q
-    sought-is most asked r q e f = ap (λ (t : Span). reachOf g t asked most) (sym ground-span) ∙ sym e ∙ f
+    pub sought-is : (most count : ℕ) (r q : Sought) → r ≡ reachOf g (spanIn (x .gap) (x .padding) span (take (2 * span .silences) work)) count most → r ≡ q → reachOf g s count most ≡ q
+    sought-is most count r q e f = ap (λ (t : Span). reachOf g t count most) (sym ground-span) ∙ sym e ∙ f
 
     -- ---- under the reach
 
-    module _ (most asked limit : ℕ) (some : 0 < asked) (sought : reachOf g s asked most ≡ Reach limit) where
+    module _ (most count limit : ℕ) (some : 0 < count) (sought : reachOf g s count most ≡ Reach limit) where
       -- the cuts that are added are places
-      pub count-placed : (k : Cut) → List·Memᴰ k (cutsAdded g s asked limit) → Place s k
+      pub count-placed : (k : Cut) → List·Memᴰ k (cutsAdded g s count limit) → Place s k
       count-placed =
-          subst (λ (t : Span). (k : Cut) → List·Memᴰ k (cutsAdded g t asked limit) → Place t k) (sym same)
-          (places-by-count x (silencesHeld (span .silences) front) (runsHeld n front) levels (pointsHeld n span front) (span .first) (span .last) (h .planned) g ok asked some most limit
-          (cutsOf g whole limit (piecesAsked whole asked)) reach (far-greedy g ok whole spread asked most limit reach))
+          subst (λ (t : Span). (k : Cut) → List·Memᴰ k (cutsAdded g t count limit) → Place t k) (sym same)
+          (places-by-count x (silencesHeld (span .silences) front) (runsHeld n front) levels (pointsHeld n span front) (span .first) (span .last) (h .planned) g ok count some most limit
+          (cutsOf g whole limit (piecesAsked whole count)) reach (far-greedy g ok whole spread count most limit reach))
         where
           same : s ≡ spanOf (x .gap) (x .padding) (silencesHeld (span .silences) front)
           same = span-same x g span front levels h
@@ -106,20 +106,20 @@ module _ (x : Context) (g : FrameGrid) (span : HeldSpan) (work : List ℕ) (work
           spread : Spread (whole .first) (whole .gaps) (whole .last)
           spread = span-spread (x .gap) (x .padding) (silencesHeld (span .silences) front) (h .planned .prepared .spanned)
 
-          reach : IsReach g whole asked most limit
-          reach = is-reach g ok whole spread asked most limit (subst (λ (t : Span). reachOf g t asked most ≡ Reach limit) same sought)
+          reach : IsReach g whole count most limit
+          reach = is-reach g ok whole spread count most limit (subst (λ (t : Span). reachOf g t count most ≡ Reach limit) same sought)
 
-      module _ (work′ : List ℕ) (marks : work′ ≡ marking (marksAt (g .frames)) (cutsAdded g (spanIn (x .gap) (x .padding) span (take (2 * span .silences) work)) asked limit) work) where
-        front-is : frontOf n work′ ≡ marking (marksAt n) (cutsAdded g s asked limit) front
+      module _ (work′ : List ℕ) (marks : work′ ≡ marking (marksAt (g .frames)) (cutsAdded g (spanIn (x .gap) (x .padding) span (take (2 * span .silences) work)) count limit) work) where
+        front-is : frontOf n work′ ≡ marking (marksAt n) (cutsAdded g s count limit) front
         front-is =
-            ap (frontOf n) marks ∙ ap (λ (t : Span). frontOf n (marking (marksAt (g .frames)) (cutsAdded g t asked limit) work)) ground-span
-            ∙ ap (λ (m : ℕ). frontOf n (marking (marksAt m) (cutsAdded g s asked limit) work)) (h .sampled .same)
-            ∙ marking-front (entriesAt n) (marksAt n) (cutsAdded g s asked limit) work (omega (arith, room .u32s))
+            ap (frontOf n) marks ∙ ap (λ (t : Span). frontOf n (marking (marksAt (g .frames)) (cutsAdded g t count limit) work)) ground-span
+            ∙ ap (λ (m : ℕ). frontOf n (marking (marksAt m) (cutsAdded g s count limit) work)) (h .sampled .same)
+            ∙ marking-front (entriesAt n) (marksAt n) (cutsAdded g s count limit) work (omega (arith, room .u32s))
 
         -- the span is still held
         pub count-held : SpanHeld x g span (frontOf n work′) levels
-        count-held = rw front-is (more-held x g span front levels h (cutsAdded g s asked limit) count-placed)
+        count-held = rw front-is (more-held x g span front levels h (cutsAdded g s count limit) count-placed)
 
         -- and its candidates are those with the cuts that are added
-        pub count-with : heldWith x span (frontOf n work′) levels [] ≡ heldWith x span front levels (cutsAdded g s asked limit)
-        count-with = rw front-is (more-with x g span front levels h (cutsAdded g s asked limit) count-placed)
+        pub count-with : heldWith x span (frontOf n work′) levels [] ≡ heldWith x span front levels (cutsAdded g s count limit)
+        count-with = rw front-is (more-with x g span front levels h (cutsAdded g s count limit) count-placed)

@@ -18,7 +18,7 @@ use Rattle.completion.specs.Shares.{Sharable}
 use Rattle.completion.specs.MarkingLaws.{marking-append}
 use Rattle.plan_steps.specs.Steps.{cutsAdded}
 
-module _ (x : Ground) (asked limit : ℕ) (work : List ℕ) (room : MarkRoom x (marksAt (x .grid .frames)) work) (base : ℕ) (at : base ≡ marksAt (x .grid .frames)) where
+module _ (x : Ground) (count limit : ℕ) (work : List ℕ) (room : MarkRoom x (marksAt (x .grid .frames)) work) (base : ℕ) (at : base ≡ marksAt (x .grid .frames)) where
   abbrev number : ℕ
   number = 2 * x .span .silences
 
@@ -32,7 +32,7 @@ module _ (x : Ground) (asked limit : ℕ) (work : List ℕ) (room : MarkRoom x (
   pub far-room : MarkRoom x base work
   far-room = rw at room
 
-  module _ (last-few : x .span .last ≤ maxFrames) (frames pieces : ℕ) (kept : frames ≡ keptIn s) (lesser : pieces ≡ min asked frames)
+  module _ (last-few : x .span .last ≤ maxFrames) (frames pieces : ℕ) (kept : frames ≡ keptIn s) (lesser : pieces ≡ min count frames)
       (work′ : List ℕ) (far : work′ ≡ marking base (cutsOf (x .grid) s limit pieces) work)
     where
       same : take number work′ ≡ take number work
@@ -56,9 +56,9 @@ module _ (x : Ground) (asked limit : ℕ) (work : List ℕ) (room : MarkRoom x (
 
       -- both lists of cuts are marked then
       pub all-marked : (work″ : List ℕ) → work″ ≡ marking base (sharesOf (spanned (take number work′)) pieces) work′
-          → work″ ≡ marking (marksAt (x .grid .frames)) (cutsAdded (x .grid) s asked limit) work
+          → work″ ≡ marking (marksAt (x .grid .frames)) (cutsAdded (x .grid) s count limit) work
       all-marked work″ e =
           e ∙ ap (λ (ss : List ℕ). marking base (sharesOf (spanned ss) pieces) work′) same ∙ ap (marking base (sharesOf s pieces)) far
           ∙ sym (marking-append base (cutsOf (x .grid) s limit pieces) (sharesOf s pieces) work)
-          ∙ ap (λ (m : ℕ). marking base (cutsOf (x .grid) s limit m ++ sharesOf s m) work) (asked-pieces s asked frames pieces kept lesser)
-          ∙ ap (λ (b : ℕ). marking b (cutsAdded (x .grid) s asked limit) work) at
+          ∙ ap (λ (m : ℕ). marking base (cutsOf (x .grid) s limit m ++ sharesOf s m) work) (asked-pieces s count frames pieces kept lesser)
+          ∙ ap (λ (b : ℕ). marking b (cutsAdded (x .grid) s count limit) work) at

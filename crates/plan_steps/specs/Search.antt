@@ -36,13 +36,13 @@ pub record PathOver (g : FrameGrid) (cs : List Candidate) (path work work′ pos
 
 module _ (g : FrameGrid) (k : ℕ) (l : Lengths) (work positions : List ℕ) (costs : List Float) (work′ positions′ : List ℕ) (costs′ : List Float) (answer : Solved) where
   -- by length: whatever candidates stand there, the best path over them is left
-  pub record FoundByLength : Type 0 where
+  pub record SearchedByLength : Type 0 where
     pub over : (cs : List Candidate) → k ≡ length cs → CandidatesHeld g cs work positions costs
         → PathOver g cs (bestPathOver g l cs) work work′ positions′ costs costs′ answer
 
-module _ (g : FrameGrid) (k : ℕ) (l : Lengths) (asked : ℕ) (work positions : List ℕ) (costs : List Float) (work′ positions′ : List ℕ) (costs′ : List Float) (answer : Solved) where
+module _ (g : FrameGrid) (k : ℕ) (l : Lengths) (count : ℕ) (work positions : List ℕ) (costs : List Float) (work′ positions′ : List ℕ) (costs′ : List Float) (answer : Solved) where
   -- by count: the same, and the answer says how many of its pieces are over the limit
-  pub record FoundByCount : Type 0 where
+  pub record SearchedByCount : Type 0 where
     pub over : (cs : List Candidate) → k ≡ length cs → CandidatesHeld g cs work positions costs
-        → PathOver g cs (bestPathOverByCount g l cs asked) work work′ positions′ costs costs′ answer
-    pub overs : (cs : List Candidate) → k ≡ length cs → CandidatesHeld g cs work positions costs → answer .score .over ≡ oversOf g l cs asked
+        → PathOver g cs (bestPathOverByCount g l cs count) work work′ positions′ costs costs′ answer
+    pub overs : (cs : List Candidate) → k ≡ length cs → CandidatesHeld g cs work positions costs → answer .score .over ≡ oversOf g l cs count

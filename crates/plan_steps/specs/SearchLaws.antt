@@ -22,7 +22,7 @@ use Rattle.plan_path.specs.Held.{PathHeld}
 use Rattle.plan_path.specs.HeldLaws.{path-read}
 use Rattle.base_terms.specs.Layout.{searchAt, pathAt, scoresAt}
 use Rattle.plan_path.specs.Search.{leftsIn, rightsIn, costsIn, SearchRoom}
-use Rattle.plan_steps.specs.Search.{AskedOver, PathOver, FoundByLength, FoundByCount}
+use Rattle.plan_steps.specs.Search.{AskedOver, PathOver, SearchedByLength, SearchedByCount}
 
 module _ (g : FrameGrid) (k : ℕ) (l : Lengths) (work positions : List ℕ) (costs : List Float) where
   -- the positions can be written
@@ -64,21 +64,21 @@ module _ (g : FrameGrid) (k : ℕ) (l : Lengths) (work positions : List ℕ) (co
 
     module _ (work′ : List ℕ) (costs′ : List Float) (answer : Solved) (kept : take (scoresAt (g .frames)) costs′ ≡ take (scoresAt (g .frames)) costs) where
       -- the best path by length over the candidates that stand there
-      pub found-by-length : PathHeld (searchAt (g .frames)) (pathAt (g .frames))
+      pub searched-by-length : PathHeld (searchAt (g .frames)) (pathAt (g .frames))
           (bestPath l (leftsIn k positions′) (rightsIn (g .frames) k positions′) (costsIn (g .frames) k costs))
           (bestScore l (leftsIn k positions′) (rightsIn (g .frames) k positions′) (costsIn (g .frames) k costs) (lastCandidate (leftsIn k positions′))) work work′ answer
-          → FoundByLength g k l work positions costs work′ positions′ costs′ answer
-      found-by-length p = record {
+          → SearchedByLength g k l work positions costs work′ positions′ costs′ answer
+      searched-by-length p = record {
         over = λ cs number held.
             over-held cs number held _ _ work′ costs′ answer (rw (lefts-are cs number held, rights-are cs number held, costs-are cs number held) at p) kept;
       }
 
       -- and by count
-      pub found-by-count : (asked : ℕ) → PathHeld (searchAt (g .frames)) (pathAt (g .frames))
-          (bestPathByCount l (leftsIn k positions′) (rightsIn (g .frames) k positions′) (costsIn (g .frames) k costs) asked)
-          (bestScoreByCount l (leftsIn k positions′) (rightsIn (g .frames) k positions′) (costsIn (g .frames) k costs) asked) work work′ answer
-          → FoundByCount g k l asked work positions costs work′ positions′ costs′ answer
-      found-by-count asked p = record {
+      pub searched-by-count : (count : ℕ) → PathHeld (searchAt (g .frames)) (pathAt (g .frames))
+          (bestPathByCount l (leftsIn k positions′) (rightsIn (g .frames) k positions′) (costsIn (g .frames) k costs) count)
+          (bestScoreByCount l (leftsIn k positions′) (rightsIn (g .frames) k positions′) (costsIn (g .frames) k costs) count) work work′ answer
+          → SearchedByCount g k l count work positions costs work′ positions′ costs′ answer
+      searched-by-count count p = record {
         over = λ cs number held.
             over-held cs number held _ _ work′ costs′ answer (rw (lefts-are cs number held, rights-are cs number held, costs-are cs number held) at p) kept;
         overs = λ cs number held.
@@ -86,8 +86,8 @@ module _ (g : FrameGrid) (k : ℕ) (l : Lengths) (work positions : List ℕ) (co
       }
 
     -- the parent list is long enough for the search
-    pub asked-parents : AskedOver g k l work positions costs → (asked parents : ℕ) → min asked (k - 1) * k ≤ parents
-        → pieceCount (leftsIn k positions′) asked * k ≤ parents
-    asked-parents a asked parents h =
+    pub asked-parents : AskedOver g k l work positions costs → (count parents : ℕ) → min count (k - 1) * k ≤ parents
+        → pieceCount (leftsIn k positions′) count * k ≤ parents
+    asked-parents a count parents h =
         let e : length (leftsIn k positions′) ≡ k = ap length (lefts-are (a .cs) (a .number) (a .held)) ∙ length-map (a .cs) (leftSample g) ∙ sym (a .number) in
         rw e h

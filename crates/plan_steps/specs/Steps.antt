@@ -15,7 +15,7 @@ use Rattle.plan_pieces.specs.Output.{Output, Handed, handedOutOf}
 
 -- document 01: "the cuts of the division that goes as far as it can at each step, and of min(N, kept frames) equal shares of the kept frames, are added"
 abbrev pub cutsAdded : FrameGrid → Span → ℕ → ℕ → List Cut
-cutsAdded g s asked limit = addedByCount s asked (cutsOf g s limit (piecesAsked s asked))
+cutsAdded g s count limit = addedByCount s count (cutsOf g s limit (piecesAsked s count))
 
 -- the plan along a path over candidates, or 12
 abbrev pub planAlong : FrameGrid → PlanConfig → List Candidate → List ℕ → Output → Handed

@@ -51,13 +51,13 @@ pub fn complete_by_length(
 }
 
 // Marks the cuts of the division that goes as far as it can under the limit, and of equal shares.
-fn mark_cuts(x: Ground, asked: usize, limit: u64, work_u32: &mut [u32])
+fn mark_cuts(x: Ground, count: usize, limit: u64, work_u32: &mut [u32])
     requires { ⌜ MarkRoom x (marksAt (x .grid .frames)) (now «work_u32») ⌝ }
     requires { ⌜ x .span .last ≤ maxFrames ⌝ }
     ensures { λ _. ⌜ now («work_u32» .exit)
         ≡ marking (marksAt (x .grid .frames))
         (cutsAdded (x .grid)
-        (spanIn (x .gap) (x .padding) (x .span) (take (2 * x .span .silences) (now («work_u32» .entry)))) asked limit)
+        (spanIn (x .gap) (x .padding) (x .span) (take (2 * x .span .silences) (now («work_u32» .entry)))) count limit)
         (now («work_u32» .entry)) ⌝ }
 {
     let g = x.grid;
@@ -66,7 +66,7 @@ fn mark_cuts(x: Ground, asked: usize, limit: u64, work_u32: &mut [u32])
     let span = x.span;
     let silences = &work_u32[..2 * span.silences];
     let frames = kept::kept_frames(gap, x.padding, span.first, span.last, silences);
-    let pieces = sizes::lesser(asked, frames);
+    let pieces = sizes::lesser(count, frames);
     far::mark_far(x, base, pieces, limit, &mut *work_u32);
     shares::mark_shares(x, base, frames, pieces, work_u32);
 }
@@ -82,7 +82,7 @@ pub fn complete_by_count(
     x: Context,
     g: FrameGrid,
     max: u64,
-    asked: usize,
+    count: usize,
     span: HeldSpan,
     work_u32: &mut [u32],
     work_f64: &mut [f64],
@@ -90,8 +90,8 @@ pub fn complete_by_count(
     requires { ⌜ SpanHeld x g span (frontOf (x .padding .frames) (now «work_u32»))
         (levelsHeld (x .padding .frames) (now «work_f64»)) ⌝ }
     requires { ⌜ CollectRoom (x .padding .frames) (length (now «work_u32»)) (length (now «work_f64»)) ⌝ }
-    requires { ⌜ 0 < asked ⌝ }
-    ensures { λ r. ⌜ CompletedIs x g max asked span (now («work_u32» .entry)) (now («work_f64» .entry))
+    requires { ⌜ 0 < count ⌝ }
+    ensures { λ r. ⌜ CompletedIs x g max count span (now («work_u32» .entry)) (now («work_f64» .entry))
         (now («work_u32» .exit)) (now («work_f64» .exit)) r ⌝ }
 {
     let gap = x.gap;
@@ -102,11 +102,11 @@ pub fn complete_by_count(
         padding,
         span,
     };
-    let sought = reach::reach(ground, &work_u32[..2 * span.silences], asked, max);
+    let sought = reach::reach(ground, &work_u32[..2 * span.silences], count, max);
     match sought {
         Sought::Nothing => Completed::NoReach,
         Sought::Reach(limit) => {
-            mark_cuts(ground, asked, limit, &mut *work_u32);
+            mark_cuts(ground, count, limit, &mut *work_u32);
             let k = collect::collect(x, span, work_u32, work_f64);
             Completed::Under(limit, k)
         }

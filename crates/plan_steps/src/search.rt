@@ -6,7 +6,7 @@ use plan_lists::positions;
 use plan_path::search;
 ghost use Prim.Native.Nat.{_*_, _-_, _≤_, _<_, min};
 ghost use lib.ListN.{length};
-ghost use Rattle.plan_steps.specs.Search.{AskedOver, FoundByLength, FoundByCount};
+ghost use Rattle.plan_steps.specs.Search.{AskedOver, SearchedByLength, SearchedByCount};
 
 // By length.
 pub fn search_by_length(
@@ -18,7 +18,7 @@ pub fn search_by_length(
     work_f64: &mut [f64],
 ) -> Solved
     requires { ⌜ AskedOver g k lengths (now «work_u32») (now «work_u64») (now «work_f64») ⌝ }
-    ensures { λ r. ⌜ FoundByLength g k lengths
+    ensures { λ r. ⌜ SearchedByLength g k lengths
         (now («work_u32» .entry)) (now («work_u64» .entry)) (now («work_f64» .entry))
         (now («work_u32» .exit)) (now («work_u64» .exit)) (now («work_f64» .exit)) r ⌝ }
 {
@@ -31,15 +31,15 @@ pub fn search_by_count(
     g: FrameGrid,
     k: usize,
     lengths: Lengths,
-    asked: usize,
+    count: usize,
     work_u32: &mut [u32],
     work_u64: &mut [u64],
     work_f64: &mut [f64],
     parent: &mut [u32],
 ) -> Solved
     requires { ⌜ AskedOver g k lengths (now «work_u32») (now «work_u64») (now «work_f64») ⌝ }
-    requires { ⌜ (0 < asked) × (min asked (k - 1) * k ≤ length (now parent)) ⌝ }
-    ensures { λ r. ⌜ FoundByCount g k lengths asked
+    requires { ⌜ (0 < count) × (min count (k - 1) * k ≤ length (now parent)) ⌝ }
+    ensures { λ r. ⌜ SearchedByCount g k lengths count
         (now («work_u32» .entry)) (now («work_u64» .entry)) (now («work_f64» .entry))
         (now («work_u32» .exit)) (now («work_u64» .exit)) (now («work_f64» .exit)) r ⌝ }
 {
@@ -48,7 +48,7 @@ pub fn search_by_count(
         g.frames,
         k,
         lengths,
-        asked,
+        count,
         work_u32,
         &*work_u64,
         work_f64,

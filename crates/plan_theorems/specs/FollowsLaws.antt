@@ -19,7 +19,7 @@ use Rattle.division.specs.Pieces.{Piece, pieceFrom, piecesOf}
 use Rattle.division.specs.Places.{cutAt}
 use Rattle.candidates.specs.Samples.{leftsOf, rightsOf}
 use Rattle.candidates.specs.declared.candidate.Candidate.{Candidate}
-use Rattle.plan_division.specs.Along.{endsAt, cutsFrom, cutsAlong, pieceBetween, piecesThrough, piecesAlong, Rising}
+use Rattle.plan_division.specs.Along.{endsAt, cutsAt, cutsAlong, pieceBetween, piecesThrough, piecesAlong, RisingPath}
 use Rattle.plan_division.specs.AlongLaws.{onward-last, left-sample, right-sample, pieces-along, count-along}
 use Rattle.plan_division.specs.Across.{Across}
 use Rattle.plan_lengths.specs.PlanLengths.{minimumIn, maximumIn}
@@ -40,7 +40,7 @@ path-below i [] last (suc n) o h = absurd (omega arith)
 path-below i (j ∷ rest) last (suc n) o h = path-below j rest last n (o .1) (omega arith)
 
 module _ (cs : List Candidate) where
-  path-named : (path : List ℕ) (n : ℕ) → 0 < length cs → Rising cs path → n < length path → getD path n 0 < length cs
+  path-named : (path : List ℕ) (n : ℕ) → 0 < length cs → RisingPath cs path → n < length path → getD path n 0 < length cs
   path-named [] n some r h = absurd r
   path-named (i ∷ rest) n some r h = omega (arith, some, path-below i rest (length cs - 1) n (r .1) (omega arith))
 
@@ -53,7 +53,7 @@ module _ (cs : List Candidate) where
   along-at [] n h = absurd (omega arith)
   along-at (i ∷ rest) n h = through-at i rest n (omega arith)
 
-  from-at : (rest : List ℕ) (n : ℕ) → suc n < length rest → getD (cutsFrom cs rest) n (cutAt 0) ≡ endsAt cs (getD rest n 0)
+  from-at : (rest : List ℕ) (n : ℕ) → suc n < length rest → getD (cutsAt cs rest) n (cutAt 0) ≡ endsAt cs (getD rest n 0)
   from-at [] n h = absurd (omega arith)
   from-at (i ∷ []) n h = absurd (omega arith)
   from-at (i ∷ (j ∷ rest)) zero h = refl
@@ -99,7 +99,7 @@ module _ (g : FrameGrid) (settings : PlanConfig) (cs : List Candidate) (path : L
 -- ---- number by number
 
 module _ (g : FrameGrid) (settings : PlanConfig) (s : Span) (cs : List Candidate) (path : List ℕ) (k : ℕ) (before after : Output)
-    (across : Across s cs) (rising : Rising cs path) (h : HandedAlong g settings cs path k before after) where
+    (across : Across s cs) (rising : RisingPath cs path) (h : HandedAlong g settings cs path k before after) where
   -- one piece fewer than candidates on the path
   count : length path ≡ suc k
   count = omega (arith, h .number, count-along s cs across path rising)

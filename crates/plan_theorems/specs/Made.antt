@@ -78,9 +78,9 @@ abbrev pub reasonAt : Output → ℕ → ℕ
 reasonAt out i = getD (out .cuts) (3 * i + 2) 0
 
 -- f 0 + f 1 + .., n of them
-abbrev pub sumOf : (ℕ → ℕ) → ℕ → ℕ
-sumOf f zero = 0
-sumOf f (suc n) = f 0 + sumOf (λ (i : ℕ). f (suc i)) n
+abbrev pub sumUpTo : (ℕ → ℕ) → ℕ → ℕ
+sumUpTo f zero = 0
+sumUpTo f (suc n) = f 0 + sumUpTo (λ (i : ℕ). f (suc i)) n
 
 -- the output has room for k pieces and the cuts between them
 abbrev pub HasRoom : ℕ → Output → Type 0
@@ -105,7 +105,7 @@ pub record Fills (from to k : ℕ) (out : Output) : Type 0 where
   -- a cut goes from the end of one piece to the start of the next
   pub cuts : (i : ℕ) → suc i < k → (previousEnd out i ≡ pieceEnd out i) × (nextStart out i ≡ pieceStart out (suc i))
   -- document 01: "Pieces plus what lies between them add up to the span."
-  pub adds : sumOf (lengthAt out) k + sumOf (λ (i : ℕ). nextStart out i - previousEnd out i) (k - 1) ≡ to - from
+  pub adds : sumUpTo (lengthAt out) k + sumUpTo (λ (i : ℕ). nextStart out i - previousEnd out i) (k - 1) ≡ to - from
 
 -- each flag stands exactly where it should: "The over-long flag is always set against the maximum, never the reach."
 pub record Flagged (minimum : Float) (maximum k : ℕ) (out : Output) : Type 0 where
@@ -165,12 +165,12 @@ module _ (r : Recording) (segment : SegmentConfig) (settings : PlanConfig) (valu
   -- ---- demand 2: the plan is that of document 01's best path
 
   -- the best path by length: its limit is the maximum
-  abbrev pub BestByLength : List Candidate → List ℕ → Type 0
-  BestByLength cs path = BestPathByLength (lengthsByLength g settings) (leftsOf g cs) (rightsOf g cs) (costsOf cs) path
+  abbrev pub BestOverByLength : List Candidate → List ℕ → Type 0
+  BestOverByLength cs path = BestPathByLength (lengthsByLength g settings) (leftsOf g cs) (rightsOf g cs) (costsOf cs) path
 
   -- the best path by count under a limit, of min(N, last index) pieces
-  abbrev pub BestByCount : ℕ → ℕ → List Candidate → List ℕ → Type 0
-  BestByCount count limit cs path =
+  abbrev pub BestOverByCount : ℕ → ℕ → List Candidate → List ℕ → Type 0
+  BestOverByCount count limit cs path =
       BestPathByCount (lengthsByCount g settings (s .first) (s .last) count limit) (leftsOf g cs) (rightsOf g cs) (costsOf cs) count path
 
   -- by length: over the candidates with points added until neighbours are within the maximum or one frame apart
@@ -182,7 +182,7 @@ module _ (r : Recording) (segment : SegmentConfig) (settings : PlanConfig) (valu
     pub candidates : InSpan s bridged
     pub neighbours : (i : ℕ) → suc i < length bridged → (lengthOf g (pieceBetween bridged i (suc i)) ≤ maximum) ⊎ IsSingle (pieceBetween bridged i (suc i))
     pub path : List ℕ
-    pub best : BestByLength bridged path
+    pub best : BestOverByLength bridged path
     pub follows : Follows g settings bridged path k out
 
   -- a path has N pieces, and none over the maximum
@@ -193,14 +193,14 @@ module _ (r : Recording) (segment : SegmentConfig) (settings : PlanConfig) (valu
   pub record PlanAtFirst (count k : ℕ) (out : Output) : Type 0 where
     pub candidates : InSpan s found
     pub path : List ℕ
-    pub best : BestByCount count maximum found path
+    pub best : BestOverByCount count maximum found path
     pub suffices : Suffices count found path
     pub follows : Follows g settings found path k out
 
   -- it does not: the best path over the first candidates has fewer than N pieces, or one over the maximum
   pub record FallsShort (count : ℕ) : Type 0 where
     pub first-path : List ℕ
-    pub first-best : BestByCount count maximum found first-path
+    pub first-best : BestOverByCount count maximum found first-path
     pub not-enough : Suffices count found first-path → ⊥
 
   -- by count, then: the limit is the reach, and the cuts of the division that goes as far as it can and of equal shares are added
@@ -212,7 +212,7 @@ module _ (r : Recording) (segment : SegmentConfig) (settings : PlanConfig) (valu
     pub greedy : Greedy g s limit far
     pub candidates : InSpan s (completed (addedByCount s count far))
     pub path : List ℕ
-    pub best : BestByCount count limit (completed (addedByCount s count far)) path
+    pub best : BestOverByCount count limit (completed (addedByCount s count far)) path
     pub follows : Follows g settings (completed (addedByCount s count far)) path k out
 
   -- ---- every plan

@@ -56,7 +56,7 @@ use Rattle.completion_reach.specs.Reach.{reachOf}
 use Rattle.completion_reach.specs.ReachLaws.{is-reach, reach-of, no-reach}
 use Rattle.completion_reach.specs.declared.reach.Sought.{Sought}
 use Rattle.completion_reach.specs.declared.reach.Sought.the-variants.{Reach, Nothing}
-use Rattle.plan_division.specs.Along.{cutsAlong, Rising}
+use Rattle.plan_division.specs.Along.{cutsAlong, RisingPath}
 use Rattle.plan_division.specs.Across.{Across}
 use Rattle.plan_division.specs.AcrossLaws.{planned-across}
 use Rattle.plan_division.specs.Added.{addedByCount, addedByLength}
@@ -75,7 +75,7 @@ use Rattle.plan_pieces.specs.Output.{Output, handedOf}
 use Rattle.plan_pieces.specs.declared.answer.Answer.the-variants.{ShortParent, NoReach}
 use Rattle.plan_modes.specs.Plan.{completedByLength, pathByLength, hasParents, suffices, completedByCount, planByCount}
 use Rattle.planner.specs.Operation.{candidatesWith}
-use Rattle.plan_theorems.specs.Made.{reasonAt, Fills, Flagged, Shows, InSpan, BestByCount, Suffices, PlanByLength, PlanAtFirst, FallsShort, PlanWithReach, SoughtOver, FewParents, ReachMissing}
+use Rattle.plan_theorems.specs.Made.{reasonAt, Fills, Flagged, Shows, InSpan, BestOverByCount, Suffices, PlanByLength, PlanAtFirst, FallsShort, PlanWithReach, SoughtOver, FewParents, ReachMissing}
 use Rattle.plan_theorems.specs.Made as made
 use Rattle.plan_theorems.specs.ShowsLaws.{shows-fills}
 use Rattle.plan_theorems.specs.FollowsLaws.{along-follows, along-shows, along-flagged, along-reasoned}
@@ -198,13 +198,13 @@ module _ (r : Recording) (segment : SegmentConfig) (settings : PlanConfig) (valu
       -- ---- what both ways leave
 
       -- the pieces and cuts fill the span, each with its flags or its reason
-      pub record Laid (k : ℕ) (after : Output) : Type 0 where
+      pub record SpanFilled (k : ℕ) (after : Output) : Type 0 where
         pub fills : Fills (boundaryOf g (s .first)) (boundaryOf g (s .last)) k after
         pub flagged : Flagged (minimumIn g settings) maximum k after
         pub reasoned : (i : ℕ) → suc i < k → reasonAt after i ≤ 2
 
-      laid : (cs : List Candidate) (path : List ℕ) (k : ℕ) (before after : Output) → Across s cs → Rising cs path → Division s (cutsAlong cs path)
-          → HandedAlong g settings cs path k before after → Laid k after
+      laid : (cs : List Candidate) (path : List ℕ) (k : ℕ) (before after : Output) → Across s cs → RisingPath cs path → Division s (cutsAlong cs path)
+          → HandedAlong g settings cs path k before after → SpanFilled k after
       laid cs path k before after across rising d h = record {
         fills = shows-fills g (p .accepted) s within (cutsAlong cs path) d k after (along-shows g settings s cs path k before after across rising h);
         flagged =
@@ -241,14 +241,14 @@ module _ (r : Recording) (segment : SegmentConfig) (settings : PlanConfig) (valu
           subst (λ (cs : List Candidate). DemandByLength g s maximum (cutsAlong (with (addedByLength g maximum cs)) (bestPathOver g byLength (with (addedByLength g maximum cs))))) (sym are)
           (length-plan x ss runs boundary-levels ks first last planned g byLength (ready byLength (by-length-preferred p)))
 
-      length-rising : Rising (with bridges) (bestPathOver g byLength (with bridges))
+      length-rising : RisingPath (with bridges) (bestPathOver g byLength (with bridges))
       length-rising = length-rises g (with bridges) (byLength .limit) (bestPathOver g byLength (with bridges)) (best-path-all length-searchable .allowed)
 
       -- what is claimed of a plan by length
       pub record MadeByLength (k : ℕ) (after : Output) : Type 0 where
         pub best : PlanByLength r segment settings values flags levels k after
         pub demand : (cuts : List Cut) × Shows g s cuts k after × DemandByLength g s maximum cuts
-        pub laid : Laid k after
+        pub laid : SpanFilled k after
 
       -- a plan by length meets both demands
       pub made-by-length : (k : ℕ) (before after : Output) → HandedAlong g settings (completedByLength g settings with) (pathByLength g settings with) k before after → MadeByLength k after
@@ -309,7 +309,7 @@ module _ (r : Recording) (segment : SegmentConfig) (settings : PlanConfig) (valu
         falls-short e = record { first-path = firstPath; first-best = count-all first-searchable-under count some; not-enough = first-falls e }
 
         -- two best paths are one
-        best-one : (path : List ℕ) → BestByCount r segment settings values flags levels count maximum ds path → firstPath ≡ path
+        best-one : (path : List ℕ) → BestOverByCount r segment settings values flags levels count maximum ds path → firstPath ≡ path
         best-one path b =
             let best = count-all first-searchable-under count some in
             sym (best .only (best .scored .1) path (b .tie (best .scored .1)) (b .allowed .1))
@@ -361,7 +361,7 @@ module _ (r : Recording) (segment : SegmentConfig) (settings : PlanConfig) (valu
         pub record MadeByCount (k : ℕ) (after : Output) : Type 0 where
           pub best : PlanAtFirst r segment settings values flags levels count k after ⊎ PlanWithReach r segment settings values flags levels count k after
           pub demand : (cuts : List Cut) × Shows g s cuts k after × DemandByCount g s count maximum cuts
-          pub laid : Laid k after
+          pub laid : SpanFilled k after
 
         -- along the first path
         made-first : (k : ℕ) (before after : Output) → suffices g settings s count maximum ds ≡ true → HandedAlong g settings ds firstPath k before after → MadeByCount k after

@@ -14,11 +14,11 @@ use Rattle.division.specs.Pieces.{Piece, pieceFrom, piecesFrom, piecesOf, lengt
 use Rattle.division.specs.PiecesLaws.{pieces-count, pieces-add, pieces-order}
 use Rattle.division.specs.Places.{cutAt}
 use Rattle.plan_pieces.specs.Output.{Output}
-use Rattle.plan_theorems.specs.Made.{lengthAt, previousEnd, nextStart, sumOf, Shows, Fills}
+use Rattle.plan_theorems.specs.Made.{lengthAt, previousEnd, nextStart, sumUpTo, Shows, Fills}
 
 -- ---- sums
 
-sum-same : (n : ℕ) (f h : ℕ → ℕ) → ((i : ℕ) → i < n → f i ≡ h i) → sumOf f n ≡ sumOf h n
+sum-same : (n : ℕ) (f h : ℕ → ℕ) → ((i : ℕ) → i < n → f i ≡ h i) → sumUpTo f n ≡ sumUpTo h n
 sum-same zero f h e = refl
 sum-same (suc n) f h e = omega (arith, e 0 (omega arith), sum-same n (λ (i : ℕ). f (suc i)) (λ (i : ℕ). h (suc i)) (λ i l. e (suc i) (omega arith)))
 
@@ -65,11 +65,11 @@ module _ (g : FrameGrid) where
   order-at (p ∷ (q ∷ ps)) zero o h = o .1
   order-at (p ∷ (q ∷ ps)) (suc i) o h = order-at (q ∷ ps) i (o .2) (omega arith)
 
-  total-sum : (ps : List Piece) → total g ps ≡ sumOf (λ (i : ℕ). lengthOf g (pieceAt ps i)) (length ps)
+  total-sum : (ps : List Piece) → total g ps ≡ sumUpTo (λ (i : ℕ). lengthOf g (pieceAt ps i)) (length ps)
   total-sum [] = refl
   total-sum (p ∷ ps) = omega (arith, total-sum ps)
 
-  between-sum : (ks : List Cut) → between g ks ≡ sumOf (λ (i : ℕ). boundaryOf g (cutIn ks i .right) - boundaryOf g (cutIn ks i .left)) (length ks)
+  between-sum : (ks : List Cut) → between g ks ≡ sumUpTo (λ (i : ℕ). boundaryOf g (cutIn ks i .right) - boundaryOf g (cutIn ks i .left)) (length ks)
   between-sum [] = refl
   between-sum (k ∷ ks) = omega (arith, between-sum ks)
 
@@ -83,17 +83,17 @@ module _ (g : FrameGrid) (ok : Accepted g) (s : Span) (inside : s .last ≤ g .f
   ordered : InOrder g (piecesOf s cuts)
   ordered = pieces-order g ok s cuts inside d
 
-  pieces-sum : sumOf (lengthAt out) k ≡ total g (piecesOf s cuts)
+  pieces-sum : sumUpTo (lengthAt out) k ≡ total g (piecesOf s cuts)
   pieces-sum =
       sum-same k (lengthAt out) (λ (i : ℕ). lengthOf g (pieceAt (piecesOf s cuts) i)) (λ i h. omega (arith, shown .piece-start i h, shown .piece-end i h))
-      ∙ ap (sumOf (λ (i : ℕ). lengthOf g (pieceAt (piecesOf s cuts) i))) (sym (shown .number)) ∙ sym (total-sum g (piecesOf s cuts))
+      ∙ ap (sumUpTo (λ (i : ℕ). lengthOf g (pieceAt (piecesOf s cuts) i))) (sym (shown .number)) ∙ sym (total-sum g (piecesOf s cuts))
 
-  cuts-sum : sumOf (λ (i : ℕ). nextStart out i - previousEnd out i) (k - 1) ≡ between g cuts
+  cuts-sum : sumUpTo (λ (i : ℕ). nextStart out i - previousEnd out i) (k - 1) ≡ between g cuts
   cuts-sum =
       let n : k - 1 ≡ length cuts = omega (arith, count) in
       sum-same (k - 1) (λ (i : ℕ). nextStart out i - previousEnd out i) (λ (i : ℕ). boundaryOf g (cutIn cuts i .right) - boundaryOf g (cutIn cuts i .left))
       (λ i h. omega (arith, shown .cut-start i (omega (arith, h)), shown .cut-end i (omega (arith, h))))
-      ∙ ap (sumOf (λ (i : ℕ). boundaryOf g (cutIn cuts i .right) - boundaryOf g (cutIn cuts i .left))) n ∙ sym (between-sum g cuts)
+      ∙ ap (sumUpTo (λ (i : ℕ). boundaryOf g (cutIn cuts i .right) - boundaryOf g (cutIn cuts i .left))) n ∙ sym (between-sum g cuts)
 
   -- an output that shows a division fills the span with its pieces
   pub shows-fills : Fills (boundaryOf g (s .first)) (boundaryOf g (s .last)) k out

@@ -49,7 +49,7 @@ use Rattle.planner.specs.Operation.{End, endAfter, candidatesWith, plannedOf, p
 use Rattle.plan_theorems.specs.Made.{HasRoom, PlanWritten, MadeOfSpan, Made, FewParents, ReachMissing, Ended}
 use Rattle.plan_theorems.specs.EndsLaws.{HandedAlong, along-refused, PlanEnd, along, short-parent, without-reach, handedBy, EndReached, ModeEnd, by-length, by-count, mode-end, AnswerEnds, end-ending, AlongSome, made-end, parent-end, reach-end, room-end}
 use Rattle.plan_theorems.specs.FollowsLaws.{along-written}
-use Rattle.plan_theorems.specs.MadeLaws.{divided-few, few-made, missing-made, short-given, none-given, parents-sure, Laid, MadeByLength, made-by-length, MadeByCount, made-by-count}
+use Rattle.plan_theorems.specs.MadeLaws.{divided-few, few-made, missing-made, short-given, none-given, parents-sure, SpanFilled, MadeByLength, made-by-length, MadeByCount, made-by-count}
 
 -- nothing is written for no piece
 none-written : (out : Output) → PlanWritten 0 out out
@@ -278,7 +278,7 @@ module _ (r : Recording) (segment : SegmentConfig) (settings : PlanConfig) (valu
                 (call out .out) c along-handed
 
         laid : (m : Mode) → settings .mode ≡ m
-            → Laid r segment settings values flags levels (length (work .u32s)) (length (work .u64s)) (length (work .f64s)) (ready made-fine) full f k (call out .out)
+            → SpanFilled r segment settings values flags levels (length (work .u32s)) (length (work .u64s)) (length (work .f64s)) (ready made-fine) full f k (call out .out)
         laid ByLength e = way-by-length e .laid
         laid (ByCount count) e = way-by-count count e .laid
 

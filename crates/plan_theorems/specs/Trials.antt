@@ -13,8 +13,7 @@ use Rattle.base_terms.specs.Lists.{filled, onto, tabulate, allOf}
 use Rattle.base_terms.specs.Work.{workOf, workOk}
 use Rattle.grid.specs.Boundary.{startOf, boundaryOf, covers}
 use Rattle.grid.specs.Durations.{framesIn, framesCeil, framesFloor, samplesFloor, samplesIn, secondsOf, frameSecs}
-use Rattle.grid.specs.Validate.{gridOf, frameStepOk, framesOk, listsOk, valuesOk, lengthOk, validityOf}
-use Rattle.grid.specs.Validate as grid
+use Rattle.grid.specs.Validate.{gridOf, isUpTo, frameStepOk, framesOk, listsOk, valuesOk, lengthOk, validityOf}
 use Rattle.grid.specs.Values.{isScore, isFinite, isUnflagged}
 use Rattle.silence_levels.specs.Keys.{withSignal}
 use Rattle.silence_levels.specs.Levels.{levelsOver, levelsOf}
@@ -22,14 +21,13 @@ use Rattle.silence_levels.specs.Threshold.{autoOf, resolveOf, thresholdOk}
 use Rattle.silence_runs.specs.Fill.{filledAs, fillShort}
 use Rattle.silence_runs.specs.Hysteresis.{reached, soundAt, soundsAfter, hysteresis}
 use Rattle.silence_runs.specs.Quiet.{belowAt, belowOff, quietRuns}
-use Rattle.silence_runs.specs.Runs.{joined, runs, rewritten, rewrittenAll, eachRun}
+use Rattle.silence_runs.specs.Runs.{withFrame, runs, rewritten, rewrittenAll, eachRun}
 use Rattle.silence_runs.specs.Silences.{silentRuns, silencesOf}
 use Rattle.silence_runs.specs.Sounds.{isSilent, anySound, fillSilence, soundsOf}
 use Rattle.silence_list.specs.Refusal.{durationsOk}
 use Rattle.silence_list.specs.Silences.{soundsIn, silencesIn}
 use Rattle.path_pieces.specs.Least.{lowestLeast, predecessorOf}
-use Rattle.path_pieces.specs.Pieces.{pieceLength, lengthCostOf, overOf, mayStart, withPiece, withCut, withCutAt}
-use Rattle.path_pieces.specs.Pieces as pieces
+use Rattle.path_pieces.specs.Pieces.{isWithin, pieceLength, lengthCostOf, overOf, mayStart, withPiece, withCut, withCutAt}
 use Rattle.path_by_length.specs.Table.{nextScore, tableOf, bestScore, parentOf, wayBack, bestPath}
 use Rattle.path_by_count.specs.Table.{bestWith, parentWith, wayWith, bestPathByCount, bestScoreByCount}
 use Rattle.path_tests.specs.Refusal.{isCount, countOk}
@@ -43,8 +41,7 @@ use Rattle.candidate_finder.specs.SpanIn.{paddingIn}
 use Rattle.division.specs.Divisions.{divisionsOf, keeps, anyOf, isFeasible}
 use Rattle.candidate_points.specs.Blocked.{getsGrid, touches, opens, blocksAt, blockedBy, isBlocked}
 use Rattle.candidate_points.specs.Points.{openTo, blockEnd, pointsFrom, gridPoints}
-use Rattle.candidate_cuts.specs.Cut.{splitPoint, leastLevel, openCut, silenceCut}
-use Rattle.candidate_cuts.specs.Cut as cuts
+use Rattle.candidate_cuts.specs.Cut.{splitPoint, leastLevelFrom, leastLevel, openCut, silenceCut}
 use Rattle.candidate_cuts.specs.Place.{shareOf, chosenBy}
 use Rattle.candidate_costs.specs.Cost.{pauseOf, cutCost}
 use Rattle.candidate_costs.specs.Level.{smoothedAt, frameLevel, levelAt, boundaryLevels}
@@ -53,19 +50,17 @@ use Rattle.candidate_costs.specs.Quietest.{quieter, quietestIn, quietestOf}
 use Rattle.candidate_costs.specs.Stretch.{mostOf, stretchAt, secsOf}
 use Rattle.candidate_costs.specs.Window.{clipped, windowOf, widthOf, sumFrom, sumOf, meanOf}
 use Rattle.plan_tests.specs.Refusal.{pieceLengthsOk, allDurationsOk, firstRefusalOf}
-use Rattle.candidates.specs.Candidates.{pausesBy, inPause, reasonAt, pointAt, ownAt, ownFrom, allListed, withLeft, cheaper, cheapestOf, cheapest, survivors, candidatesOf}
+use Rattle.candidates.specs.Candidates.{pausesBy, inPause, pointReason, pointAt, ownAt, ownFrom, allListed, withLeft, cheaper, cheapestOf, cheapest, survivors, candidatesOf}
 use Rattle.candidates.specs.Entries.{costsOf}
 use Rattle.candidate_finder.specs.CandidatesIn.{runsIn, boundaryLevelsIn}
 use Rattle.completion.specs.Bridge.{bridgeFrom}
-use Rattle.completion_reach.specs.Cuts.{pointsIn}
-use Rattle.completion_reach.specs.Cuts as completion
+use Rattle.completion_reach.specs.Cuts.{greedyCutsFrom, pointsIn}
 use Rattle.completion_reach.specs.Next.{nextAt}
 use Rattle.completion_reach.specs.Place.{placeAt}
-use Rattle.completion_reach.specs.Reach.{leastFrom, reachOf}
+use Rattle.completion_reach.specs.Reach.{leastLimitFrom, reachOf}
 use Rattle.completion_reach.specs.Reachable.{reachableIn}
 use Rattle.plan_lengths.specs.PlanLengths.{targetByCount, lengthsWith}
-use Rattle.plan_pieces.specs.Along.{piecesFrom, piecesAlongNumbers, cutsAlongNumbers}
-use Rattle.plan_pieces.specs.Along as along
+use Rattle.plan_pieces.specs.Along.{pieceNumbersFrom, cutNumbersFrom, piecesAlongNumbers, cutsAlongNumbers}
 use Rattle.plan_pieces.specs.Flags.{shortFlag, longFlag, flagsOf}
 use Rattle.plan_pieces.specs.Output.{Output, outputOf, hasRoom, handedOutOf}
 use Rattle.plan_pieces.specs.PlanAlong.{planPieces, planCuts}
@@ -188,7 +183,7 @@ module _ (a b c d : ℕ) (x : Float) where
 
   -- each by computation
   pub plan-trials : PlanTrials
-  unfolding minOf maxOf clampOf square offOf short lengthCost filled onto tabulate allOf workOk startOf boundaryOf covers framesIn framesCeil framesFloor samplesFloor samplesIn secondsOf frameSecs grid.isWithin frameStepOk framesOk listsOk valuesOk lengthOk validityOf isScore isFinite isUnflagged withSignal levelsOver levelsOf autoOf resolveOf thresholdOk filledAs fillShort reached soundAt soundsAfter hysteresis belowAt belowOff quietRuns joined runs rewritten rewrittenAll eachRun silentRuns silencesOf isSilent anySound fillSilence soundsOf durationsOk soundsIn silencesIn lowestLeast predecessorOf pieces.isWithin pieceLength lengthCostOf overOf mayStart withPiece withCut withCutAt nextScore tableOf bestScore parentOf wayBack bestPath bestWith parentWith wayWith bestPathByCount bestScoreByCount isCount countOk ratioOk isWeight isCutCost isReference weightsOk lowOf highOf isInner isGap innerGaps gapsOf dropped keptFrames boundaries blockOf paddingOf edgeLimit spacingOf isLeading isTrailing allSilent emptySpan firstOf lastOf divisionsOf keeps anyOf isFeasible getsGrid touches opens blocksAt blockedBy isBlocked openTo blockEnd pointsFrom gridPoints splitPoint cuts.leastFrom leastLevel openCut silenceCut shareOf chosenBy pauseOf cutCost smoothedAt frameLevel levelAt boundaryLevels rangeOf normalizeOf quieter quietestIn quietestOf mostOf stretchAt secsOf clipped windowOf widthOf sumFrom sumOf meanOf pieceLengthsOk allDurationsOk firstRefusalOf pausesBy inPause reasonAt pointAt ownAt ownFrom allListed withLeft cheaper cheapestOf cheapest survivors candidatesOf costsOf runsIn boundaryLevelsIn bridgeFrom completion.cutsFrom pointsIn nextAt placeAt leastFrom reachOf reachableIn targetByCount lengthsWith along.cutsFrom piecesFrom piecesAlongNumbers cutsAlongNumbers shortFlag longFlag flagsOf hasRoom handedOutOf planPieces planCuts plannedOf planOf planByLength hasParents suffices plannedUnder planByCount planBy span climb size odd units round sum add neg sub mul div lt eq le isNan ofInt ofBits
+  unfolding minOf maxOf clampOf square offOf short lengthCost filled onto tabulate allOf workOk startOf boundaryOf covers framesIn framesCeil framesFloor samplesFloor samplesIn secondsOf frameSecs isUpTo frameStepOk framesOk listsOk valuesOk lengthOk validityOf isScore isFinite isUnflagged withSignal levelsOver levelsOf autoOf resolveOf thresholdOk filledAs fillShort reached soundAt soundsAfter hysteresis belowAt belowOff quietRuns withFrame runs rewritten rewrittenAll eachRun silentRuns silencesOf isSilent anySound fillSilence soundsOf durationsOk soundsIn silencesIn lowestLeast predecessorOf isWithin pieceLength lengthCostOf overOf mayStart withPiece withCut withCutAt nextScore tableOf bestScore parentOf wayBack bestPath bestWith parentWith wayWith bestPathByCount bestScoreByCount isCount countOk ratioOk isWeight isCutCost isReference weightsOk lowOf highOf isInner isGap innerGaps gapsOf dropped keptFrames boundaries blockOf paddingOf edgeLimit spacingOf isLeading isTrailing allSilent emptySpan firstOf lastOf divisionsOf keeps anyOf isFeasible getsGrid touches opens blocksAt blockedBy isBlocked openTo blockEnd pointsFrom gridPoints splitPoint leastLevelFrom leastLevel openCut silenceCut shareOf chosenBy pauseOf cutCost smoothedAt frameLevel levelAt boundaryLevels rangeOf normalizeOf quieter quietestIn quietestOf mostOf stretchAt secsOf clipped windowOf widthOf sumFrom sumOf meanOf pieceLengthsOk allDurationsOk firstRefusalOf pausesBy inPause pointReason pointAt ownAt ownFrom allListed withLeft cheaper cheapestOf cheapest survivors candidatesOf costsOf runsIn boundaryLevelsIn bridgeFrom greedyCutsFrom pointsIn nextAt placeAt leastLimitFrom reachOf reachableIn targetByCount lengthsWith cutNumbersFrom pieceNumbersFrom piecesAlongNumbers cutsAlongNumbers shortFlag longFlag flagsOf hasRoom handedOutOf planPieces planCuts plannedOf planOf planByLength hasParents suffices plannedUnder planByCount planBy span climb size odd units round sum add neg sub mul div lt eq le isNan ofInt ofBits
   plan-trials = record {
     printed = refl;
     count-two = refl;

@@ -119,13 +119,13 @@ module _ (r : Recording) (segment : SegmentConfig) (settings : PlanConfig) (valu
       pub ready-asked : AskedFor g settings (span .first) (span .last)
       ready-asked = rw (q .grid) record {
         by-length = record { timed = ready-timed p; preferred = by-length-preferred p };
-        by-count = λ asked m.
-            let c = p .counted asked m in
+        by-count = λ count m.
+            let c = p .counted count m in
             record {
               timed = ready-timed p;
-              pieces = ready-in-pieces p (span .first) (span .last) asked (le-of-lt (inside .0)) (c .1);
+              pieces = ready-in-pieces p (span .first) (span .last) count (le-of-lt (inside .0)) (c .1);
               some = c .0;
-              preferred = λ limit. by-count-preferred p (span .first) (span .last) asked limit (inside .0) (inside .1) (c .0) (c .1);
+              preferred = λ limit. by-count-preferred p (span .first) (span .last) count limit (inside .0) (inside .1) (c .0) (c .1);
             };
       }
 

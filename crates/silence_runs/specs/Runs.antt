@@ -15,14 +15,14 @@ abbrev pub run : ℕ → ℕ → Run
 run x n = record { flag = x; frames = n }
 
 -- one more frame in front: it joins a run of its own flag, and else is a run of its own
-unfoldable pub joined : ℕ → List Run → List Run
-joined x [] = run x 1 ∷ []
-joined x (r ∷ rs) = cond (eqb x (r .flag)) (run x (suc (r .frames)) ∷ rs) (run x 1 ∷ (r ∷ rs))
+unfoldable pub withFrame : ℕ → List Run → List Run
+withFrame x [] = run x 1 ∷ []
+withFrame x (r ∷ rs) = cond (eqb x (r .flag)) (run x (suc (r .frames)) ∷ rs) (run x 1 ∷ (r ∷ rs))
 
 -- the maximal runs of equal flags, in order
 unfoldable pub runs : List ℕ → List Run
 runs [] = []
-runs (x ∷ xs) = joined x (runs xs)
+runs (x ∷ xs) = withFrame x (runs xs)
 
 -- the frames of a run, rewritten: of `kind` they become v of the run's length, of another kind they stay
 unfoldable pub rewritten : ℕ → (ℕ → ℕ) → Run → List ℕ

@@ -9,28 +9,28 @@ use lib.Dec.{eqb}
 use lib.ListN.{length, replicate, length-append, length-replicate}
 use borrow.Author.Tests.{eq-eqb, ne-eqb, eqb-true, eqb-false}
 use Rattle.base_laws.specs.Tests.{tested}
-use Rattle.silence_runs.specs.Runs.{Run, run, joined, runs, rewritten, rewrittenAll, eachRun}
+use Rattle.silence_runs.specs.Runs.{Run, run, withFrame, runs, rewritten, rewrittenAll, eachRun}
 
 -- the list does not start with the flag k
 abbrev pub NotFirst : ℕ → List ℕ → Type 0
 NotFirst k [] = Unit {0}
 NotFirst k (x ∷ xs) = x ≡ k → ⊥
 
-joined-same : (k n : ℕ) (rs : List Run) → joined k (run k n ∷ rs) ≡ run k (suc n) ∷ rs
-unfolding joined
+joined-same : (k n : ℕ) (rs : List Run) → withFrame k (run k n ∷ rs) ≡ run k (suc n) ∷ rs
+unfolding withFrame
 joined-same k n rs = rw (eq-eqb k k refl)
 
-joined-new : (k x : ℕ) (rs : List Run) → (x ≡ k → ⊥) → joined k (joined x rs) ≡ run k 1 ∷ joined x rs
-unfolding joined
+joined-new : (k x : ℕ) (rs : List Run) → (x ≡ k → ⊥) → withFrame k (withFrame x rs) ≡ run k 1 ∷ withFrame x rs
+unfolding withFrame
 joined-new k x [] h = rw (ne-eqb k x (λ e. h (sym e)))
 joined-new k x (r ∷ rs) h = elim (tested (eqb x (r .flag))) [ inl t ↦ rw (t, ne-eqb k x (λ e. h (sym e))) | inr t ↦ rw (t, ne-eqb k x (λ e. h (sym e))) ]
 
 -- equal flags that no further one follows are one run
 pub runs-run : (n k : ℕ) (ys : List ℕ) → NotFirst k ys → runs (replicate (suc n) k ++ ys) ≡ run k (suc n) ∷ runs ys
-unfolding runs joined
+unfolding runs withFrame
 runs-run zero k [] h = refl
 runs-run zero k (y ∷ ys) h = joined-new k y (runs ys) h
-runs-run (suc n) k ys h = ap (joined k) (runs-run n k ys h) ∙ joined-same k (suc n) (runs ys)
+runs-run (suc n) k ys h = ap (withFrame k) (runs-run n k ys h) ∙ joined-same k (suc n) (runs ys)
 
 -- one more of the same flag
 pub longer : (k n : ℕ) (t : List ℕ) → replicate n k ++ (k ∷ t) ≡ replicate (suc n) k ++ t
@@ -50,8 +50,8 @@ by-runs kind P base step xs = go xs 0
         split false e p q = step n y ys (eqb-false y kind e) q
 
 module _ (kind : ℕ) (v : ℕ → ℕ) where
-  other-joined : (y : ℕ) (rs : List Run) → (y ≡ kind → ⊥) → rewrittenAll kind v (joined y rs) ≡ y ∷ rewrittenAll kind v rs
-  unfolding rewrittenAll rewritten joined
+  other-joined : (y : ℕ) (rs : List Run) → (y ≡ kind → ⊥) → rewrittenAll kind v (withFrame y rs) ≡ y ∷ rewrittenAll kind v rs
+  unfolding rewrittenAll rewritten withFrame
   other-joined y [] h = rw (ne-eqb y kind h)
   other-joined y (r ∷ rs) h = elim (tested (eqb y (r .flag))) [ inl e ↦ rw (e, ← eqb-true y (r .flag) e, ne-eqb y kind h) | inr e ↦ rw (e, ne-eqb y kind h) ]
 
@@ -71,8 +71,8 @@ module _ (kind : ℕ) (v : ℕ → ℕ) where
   each-run zero ys h = refl
   each-run (suc n) ys h = rw (runs-run n kind ys h, eq-eqb kind kind refl)
 
-  joined-length : (x : ℕ) (rs : List Run) → length (rewrittenAll kind v (joined x rs)) ≡ suc (length (rewrittenAll kind v rs))
-  unfolding rewrittenAll rewritten joined
+  joined-length : (x : ℕ) (rs : List Run) → length (rewrittenAll kind v (withFrame x rs)) ≡ suc (length (rewrittenAll kind v rs))
+  unfolding rewrittenAll rewritten withFrame
   joined-length x [] = refl
   joined-length x (r ∷ rs) = elim (tested (eqb x (r .flag))) [ inl e ↦ rw e (simp (length-append, length-replicate) (omega arith)) | inr e ↦ rw e ]
 

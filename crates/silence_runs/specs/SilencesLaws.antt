@@ -14,7 +14,7 @@ use lib.Ieee.Fits.{and-l, and-r}
 use lib.ListN.{length, getD, replicate}
 use borrow.Author.Tests.{ne-eqb, eqb-true, lt-ltb, le-ltb, le-leb, lt-leb}
 use Rattle.base_laws.specs.Tests.{holds, or-r, or-split, tested}
-use Rattle.silence_runs.specs.Runs.{Run, joined, runs}
+use Rattle.silence_runs.specs.Runs.{Run, withFrame, runs}
 use Rattle.silence_runs.specs.RunsLaws.{runs-run, longer}
 use Rattle.silence_runs.specs.Silences.{silentRuns, silencesOf, startAt, endAt}
 
@@ -48,8 +48,8 @@ silentRunCount xs = startsAfter 1 xs
 pub one-on : (k n : ℕ) → k + suc n ≡ suc k + n
 one-on k n = omega arith
 
-other-joined : (k y : ℕ) (rs : List Run) → (y ≡ 0 → ⊥) → silentRuns k (joined y rs) ≡ silentRuns (suc k) rs
-unfolding silentRuns joined
+other-joined : (k y : ℕ) (rs : List Run) → (y ≡ 0 → ⊥) → silentRuns k (withFrame y rs) ≡ silentRuns (suc k) rs
+unfolding silentRuns withFrame
 other-joined k y [] h = rw (ne-eqb y 0 h)
 other-joined k y (r ∷ rs) h = elim (tested (eqb y (r .flag))) [
   | inl e ↦ rw (e, ← eqb-true y (r .flag) e, ne-eqb y 0 h, one-on k (r .frames))

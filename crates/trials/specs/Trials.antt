@@ -23,7 +23,7 @@ use Rattle.silence_levels.specs.Keys.{withSignal}
 use Rattle.silence_levels.specs.Threshold.{autoOf, resolveOf, thresholdOk}
 use Rattle.silence_levels.specs.Levels.{levelsOver, levelsOf}
 use Rattle.silence_runs.specs.Hysteresis.{reached, soundAt, soundsAfter, hysteresis}
-use Rattle.silence_runs.specs.Runs.{joined, runs, rewritten, rewrittenAll, eachRun}
+use Rattle.silence_runs.specs.Runs.{withFrame, runs, rewritten, rewrittenAll, eachRun}
 use Rattle.silence_runs.specs.Fill.{filledAs, fillShort}
 use Rattle.silence_runs.specs.Sounds.{isSilent, anySound, fillSilence, soundsOf}
 use Rattle.silence_runs.specs.Silences.{silentRuns, silencesOf}
@@ -45,7 +45,7 @@ use Rattle.path_tests.specs.Ends.{listsOk, endOk, endsFrom, endsOk}
 use Rattle.path_tests.specs.Costs.{isCost, isTarget, isMin, lengthsOk}
 use Rattle.path_tests.specs.Refusal.{isCount, countOk, firstRefusalOf}
 use Rattle.path_tests.specs.declared.refusal.Verdict.the-variants.{Fine}
-use Rattle.path_list.specs.Operation.{handedOf, soughtOf, endOf, pathOf}
+use Rattle.path_list.specs.Operation.{handedOutOf, soughtOf, endOf, pathOf}
 use Rattle.path_list.specs.declared.search.Answer.the-variants.{Found}
 
 -- ---- the path
@@ -148,7 +148,7 @@ pub record Trials (first last : Float) : Type 0 where
 
 -- all of them hold, whatever the costs at the two ends
 pub trials : (first last : Float) → Trials first last
-unfolding bestPath wayBack parentOf bestScore tableOf nextScore bestWith parentWith wayWith bestPathByCount bestScoreByCount predecessorOf withCutAt isWithin mayStart lowestLeast withPiece withCut overOf pieceLength lengthCostOf lengthCost square offOf short span climb size odd units round sum add neg sub mul div lt eq le ofInt ofBits silencesIn soundsIn framesIn levelsOf levelsOver withSignal resolveOf autoOf silencesOf silentRuns soundsOf fillSilence anySound isSilent allOf hysteresis soundsAfter soundAt reached fillShort filledAs eachRun rewrittenAll rewritten runs joined firstRefusalOf listsOk endsOk endsFrom endOk isCost lengthsOk isTarget isMin countOk isCount workOk pathOf soughtOf handedOf onto filled validityOf grid.isWithin framesOk grid.listsOk valuesOk lengthOk grid.frameStepOk covers startOf isScore isUnflagged silenceListOf silencesHandedOut silenceTests.firstRefusalOf durationsOk thresholdOk
+unfolding bestPath wayBack parentOf bestScore tableOf nextScore bestWith parentWith wayWith bestPathByCount bestScoreByCount predecessorOf withCutAt isWithin mayStart lowestLeast withPiece withCut overOf pieceLength lengthCostOf lengthCost square offOf short span climb size odd units round sum add neg sub mul div lt eq le ofInt ofBits silencesIn soundsIn framesIn levelsOf levelsOver withSignal resolveOf autoOf silencesOf silentRuns soundsOf fillSilence anySound isSilent allOf hysteresis soundsAfter soundAt reached fillShort filledAs eachRun rewrittenAll rewritten runs withFrame firstRefusalOf listsOk endsOk endsFrom endOk isCost lengthsOk isTarget isMin countOk isCount workOk pathOf soughtOf handedOutOf onto filled validityOf grid.isUpTo framesOk grid.listsOk valuesOk lengthOk grid.frameStepOk covers startOf isScore isUnflagged silenceListOf silencesHandedOut silenceTests.firstRefusalOf durationsOk thresholdOk
 trials first last = record {
   by-length = (refl, refl);
   dear-cuts = (refl, refl);

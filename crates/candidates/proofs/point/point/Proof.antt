@@ -19,13 +19,13 @@ shared-slice-read-cut-cost c = search needs
 cut-cost-requires : tie.Need-cut-cost-requires
 cut-cost-requires c κs = search needs
 
-reason-at-requires : tie.Need-reason-at-requires
-reason-at-requires c κs = search needs
+point-reason-requires : tie.Need-point-reason-requires
+point-reason-requires c κs = search needs
 
 returns : tie.Need-returns
 returns c =
     let s = c .before .before .before .before .before .before .before .before .before in
-    point-is (s .args .x) (s .args .silences .now) (s .args .levels .now) (s .args .runs .now) (s .args .k) (c .before .before .before .before .before .stretch-at .result) (c .before .before .before .before .secs-of .result) (c .before .cut-cost .result) (c .reason-at .result) (c .before .before .before .before .before .stretch-at .ensures) (c .before .before .before .before .secs-of .ensures) (c .before .cut-cost .ensures) (c .reason-at .ensures)
+    point-is (s .args .x) (s .args .silences .now) (s .args .levels .now) (s .args .runs .now) (s .args .k) (c .before .before .before .before .before .stretch-at .result) (c .before .before .before .before .secs-of .result) (c .before .cut-cost .result) (c .point-reason .result) (c .before .before .before .before .before .stretch-at .ensures) (c .before .before .before .before .secs-of .ensures) (c .before .cut-cost .ensures) (c .point-reason .ensures)
 
 pub point-spec : {M : Type 1} → statement M
 point-spec =
@@ -36,5 +36,5 @@ point-spec =
     mul-cut-cost
     shared-slice-read-cut-cost
     cut-cost-requires
-    reason-at-requires
+    point-reason-requires
     returns)

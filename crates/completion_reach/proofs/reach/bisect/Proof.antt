@@ -9,10 +9,10 @@ use Rattle.completion_reach.proofs.reach.bisect.Statement.{statement}
 use Rattle.completion_reach.proofs.reach.bisect.Tie as tie
 
 abbrev Inv-loop : tie.InvT-loop
-Inv-loop x silences asked pieces maximum enough low₀ high₀ low high = Bracket (x .grid) (spanIn (x .gap) (x .padding) (x .span) silences) asked maximum low high × (high ≤ enough)
+Inv-loop x silences count pieces maximum enough low₀ high₀ low high = Bracket (x .grid) (spanIn (x .gap) (x .padding) (x .span) silences) count maximum low high × (high ≤ enough)
 
 abbrev μ-loop : tie.MeasureT-loop
-μ-loop x silences asked pieces maximum enough low₀ high₀ low high = high - low
+μ-loop x silences count pieces maximum enough low₀ high₀ low high = high - low
 
 loop-holds : tie.Need-loop-holds Inv-loop μ-loop
 loop-holds c = (c .before .pre .1 .1, omega arith)
@@ -35,8 +35,8 @@ loop-again c =
     let p = c .before .before .before .before .before .pre in
     let l = c .before .before .before .loop in
     let middle = l .low + (l .high - l .low) / 2 in (
-      bracket-down (a .x .grid) _ (a .asked) (a .maximum) (l .low) (l .high) middle (l .inv .0) (omega arith) (omega (arith, c .before .before .loop-test .taken))
-          (told-feasible (a .x .grid) (p .0 .accepted) _ (p .0 .spread) middle (a .asked) (a .pieces) (p .1 .0) (c .before .fits2 .result) (c .before .fits2 .ensures) (c .if1 .taken)),
+      bracket-down (a .x .grid) _ (a .count) (a .maximum) (l .low) (l .high) middle (l .inv .0) (omega arith) (omega (arith, c .before .before .loop-test .taken))
+          (told-feasible (a .x .grid) (p .0 .accepted) _ (p .0 .spread) middle (a .count) (a .pieces) (p .1 .0) (c .before .fits2 .result) (c .before .fits2 .ensures) (c .if1 .taken)),
       omega (arith, c .before .before .loop-test .taken, l .inv .1),
     )
 
@@ -52,8 +52,8 @@ loop-again-2 c =
     let p = c .before .before .before .before .before .pre in
     let l = c .before .before .before .loop in
     let middle = l .low + (l .high - l .low) / 2 in (
-      bracket-up (a .x .grid) _ (a .asked) (a .maximum) (l .low) (l .high) middle (l .inv .0) (omega arith) (omega (arith, c .before .before .loop-test .taken))
-          (told-infeasible (a .x .grid) (p .0 .accepted) _ (p .0 .spread) middle (a .asked) (a .pieces) (p .1 .0) (c .before .fits2 .result) (c .before .fits2 .ensures) (c .if1 .left)),
+      bracket-up (a .x .grid) _ (a .count) (a .maximum) (l .low) (l .high) middle (l .inv .0) (omega arith) (omega (arith, c .before .before .loop-test .taken))
+          (told-infeasible (a .x .grid) (p .0 .accepted) _ (p .0 .spread) middle (a .count) (a .pieces) (p .1 .0) (c .before .fits2 .result) (c .before .fits2 .ensures) (c .if1 .left)),
       l .inv .1,
     )
 
@@ -61,7 +61,7 @@ returns : tie.Need-returns Inv-loop μ-loop
 returns c =
     let a = c .before .before .before .args in
     let l = c .before .loop in
-    bracket-done (a .x .grid) _ (a .asked) (a .maximum) (l .low) (l .high) (l .inv .0) (c .loop-test .left)
+    bracket-done (a .x .grid) _ (a .count) (a .maximum) (l .low) (l .high) (l .inv .0) (c .loop-test .left)
 
 pub bisect-spec : {M : Type 1} → statement M
 bisect-spec =

@@ -30,9 +30,9 @@ returns c =
     let a = c .before .before .before .before .before .before .args in
     let s = spanIn (a .x .gap) (a .x .padding) (a .x .span) (a .silences .now) in
     let p = c .before .before .before .before .before .before .pre in
-    sym (reach-of (a .x .grid) (p .accepted) s (p .spread) (a .asked) (a .maximum) (a .maximum)
-    (reach-maximum (a .x .grid) s (a .asked) (a .maximum)
-    (told-feasible (a .x .grid) (p .accepted) s (p .spread) (a .maximum) (a .asked) (c .before .before .lesser .result) (asked-pieces s (a .asked) (c .before .before .before .kept-frames .result) (c .before .before .lesser .result) (c .before .before .before .kept-frames .ensures) (c .before .before .lesser .ensures))
+    sym (reach-of (a .x .grid) (p .accepted) s (p .spread) (a .count) (a .maximum) (a .maximum)
+    (reach-maximum (a .x .grid) s (a .count) (a .maximum)
+    (told-feasible (a .x .grid) (p .accepted) s (p .spread) (a .maximum) (a .count) (c .before .before .lesser .result) (asked-pieces s (a .count) (c .before .before .before .kept-frames .result) (c .before .before .lesser .result) (c .before .before .before .kept-frames .ensures) (c .before .before .lesser .ensures))
     (c .before .fits2 .result) (c .before .fits2 .ensures) (c .if1 .taken))))
 
 position-requires : tie.Need-position-requires
@@ -56,17 +56,17 @@ bisect-requires c κs =
     let a = c .before .before .before .before .before .before .before .before .before .before .args in
     let s = spanIn (a .x .gap) (a .x .padding) (a .x .span) (a .silences .now) in
     let p = c .before .before .before .before .before .before .before .before .before .before .pre in
-    let e = asked-pieces s (a .asked) (c .before .before .before .before .before .before .before .kept-frames .result) (c .before .before .before .before .before .before .lesser .result) (c .before .before .before .before .before .before .before .kept-frames .ensures) (c .before .before .before .before .before .before .lesser .ensures) in
+    let e = asked-pieces s (a .count) (c .before .before .before .before .before .before .before .kept-frames .result) (c .before .before .before .before .before .before .lesser .result) (c .before .before .before .before .before .before .before .kept-frames .ensures) (c .before .before .before .before .before .before .lesser .ensures) in
     let whole = c .before .before .before .position .result - c .before .before .position2 .result in
-    let never = told-infeasible (a .x .grid) (p .accepted) s (p .spread) (a .maximum) (a .asked) (c .before .before .before .before .before .before .lesser .result) e (c .before .before .before .before .before .fits2 .result) (c .before .before .before .before .before .fits2 .ensures) (c .before .before .before .before .if1 .left) in
-    let enough = told-feasible (a .x .grid) (p .accepted) s (p .spread) whole (a .asked) (c .before .before .before .before .before .before .lesser .result) e (c .before .fits3 .result) (c .before .fits3 .ensures) (c .if2 .taken) in
-    (p, (e, bracket-start (a .x .grid) s (a .asked) (a .maximum) whole never enough))
+    let never = told-infeasible (a .x .grid) (p .accepted) s (p .spread) (a .maximum) (a .count) (c .before .before .before .before .before .before .lesser .result) e (c .before .before .before .before .before .fits2 .result) (c .before .before .before .before .before .fits2 .ensures) (c .before .before .before .before .if1 .left) in
+    let enough = told-feasible (a .x .grid) (p .accepted) s (p .spread) whole (a .count) (c .before .before .before .before .before .before .lesser .result) e (c .before .fits3 .result) (c .before .fits3 .ensures) (c .if2 .taken) in
+    (p, (e, bracket-start (a .x .grid) s (a .count) (a .maximum) whole never enough))
 
 returns-2 : tie.Need-returns-2
 returns-2 c =
     let a = c .before .before .before .before .before .before .before .before .before .before .before .args in
     let p = c .before .before .before .before .before .before .before .before .before .before .before .pre in
-    sym (reach-of (a .x .grid) (p .accepted) _ (p .spread) (a .asked) (a .maximum) (c .bisect .result) (c .bisect .ensures))
+    sym (reach-of (a .x .grid) (p .accepted) _ (p .spread) (a .count) (a .maximum) (c .bisect .result) (c .bisect .ensures))
 
 returns-3 : tie.Need-returns-3
 returns-3 c =
@@ -75,9 +75,9 @@ returns-3 c =
     let p = c .before .before .before .before .before .before .before .before .before .before .pre in
     let whole = c .before .before .before .position .result - c .before .before .position2 .result in
     let same : whole ≡ spanLength (a .x .grid) s = omega (arith, c .before .before .before .position .ensures, c .before .before .position2 .ensures) in
-    sym (of-no-reach (a .x .grid) (p .accepted) s (p .spread) (a .asked) (a .maximum)
-    (subst (λ (l : ℕ). Feasible (a .x .grid) s (a .asked) l → ⊥) same
-    (told-infeasible (a .x .grid) (p .accepted) s (p .spread) whole (a .asked) (c .before .before .before .before .before .before .lesser .result) (asked-pieces s (a .asked) (c .before .before .before .before .before .before .before .kept-frames .result) (c .before .before .before .before .before .before .lesser .result) (c .before .before .before .before .before .before .before .kept-frames .ensures) (c .before .before .before .before .before .before .lesser .ensures))
+    sym (of-no-reach (a .x .grid) (p .accepted) s (p .spread) (a .count) (a .maximum)
+    (subst (λ (l : ℕ). Feasible (a .x .grid) s (a .count) l → ⊥) same
+    (told-infeasible (a .x .grid) (p .accepted) s (p .spread) whole (a .count) (c .before .before .before .before .before .before .lesser .result) (asked-pieces s (a .count) (c .before .before .before .before .before .before .before .kept-frames .result) (c .before .before .before .before .before .before .lesser .result) (c .before .before .before .before .before .before .before .kept-frames .ensures) (c .before .before .before .before .before .before .lesser .ensures))
     (c .before .fits3 .result) (c .before .fits3 .ensures) (c .if2 .left))))
 
 pub reach-spec : {M : Type 1} → statement M

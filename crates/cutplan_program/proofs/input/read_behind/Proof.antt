@@ -4,7 +4,7 @@ use mathlib.Core.Path.{_≡_, ap, _∙_}
 use mir.Syntax.{w64}
 use mir.Val.{toZ, ofZ}
 use Rattle.cutplan_program.specs.Input.{stepOf}
-use Rattle.cutplan_program.specs.InputLaws.{behind}
+use Rattle.cutplan_program.specs.InputLaws.{reads-behind}
 use Rattle.cutplan_program.proofs.input.read_behind.Statement.{statement}
 use Rattle.cutplan_program.proofs.input.read_behind.Tie as tie
 
@@ -30,7 +30,7 @@ returns : tie.Need-returns
 returns c =
     let start = c .before .before .before .before .before .before in
     let back : toZ w64 (ofZ w64 (c .before .before .before .read .result)) ≡ c .before .before .before .read .result = search needs in
-    behind (start .args .done) (start .args .buf .now) (c .before .before .before .read .last .1 .0) (c .before .before .before .read .result) _ (start .pre) (c .before .before .buf .given .0) (c .before .before .before .read .ensures) (c .step-of .ensures ∙ ap stepOf back)
+    reads-behind (start .args .done) (start .args .buf .now) (c .before .before .before .read .last .1 .0) (c .before .before .before .read .result) _ (start .pre) (c .before .before .buf .given .0) (c .before .before .before .read .ensures) (c .step-of .ensures ∙ ap stepOf back)
 
 pub read-behind-spec : {M : Type 1} → statement M
 read-behind-spec =

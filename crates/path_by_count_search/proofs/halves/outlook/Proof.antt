@@ -18,8 +18,8 @@ returns c =
     outlook-none (start .args .query) (now (start .args .right)) (now (start .args .over)) (now (start .args .cost)) (start .args .node) (start .args .lo) (start .args .hi)
     (c .before .before .larger .result) (c .before .lesser .result) _ (c .before .before .larger .ensures) (c .before .lesser .ensures) (c .if1 .taken) refl
 
-lengths-of-requires : tie.Need-lengths-of-requires
-lengths-of-requires c κs = search needs
+query-lengths-requires : tie.Need-query-lengths-requires
+query-lengths-requires c κs = search needs
 
 bound-requires : tie.Need-bound-requires
 bound-requires c κs =
@@ -31,8 +31,8 @@ returns-2 c =
     let start = c .before .before .before .before .before .before .before .before in
     outlook-some (start .args .query) (now (start .args .right)) (now (start .args .over)) (now (start .args .cost)) (start .args .node) (start .args .lo) (start .args .hi)
     (c .before .before .before .before .larger .result) (c .before .before .before .lesser .result) (c .bound .result) (c .before .before .before .before .larger .ensures) (c .before .before .before .lesser .ensures) (c .before .before .if1 .left)
-    (rw (c .before .lengths-of .ensures) at (c .bound .ensures))
+    (rw (c .before .query-lengths .ensures) at (c .bound .ensures))
 
 pub outlook-spec : {M : Type 1} → statement M
 outlook-spec =
-    tie.close (tie.spec larger-requires lesser-requires returns lengths-of-requires bound-requires returns-2)
+    tie.close (tie.spec larger-requires lesser-requires returns query-lengths-requires bound-requires returns-2)

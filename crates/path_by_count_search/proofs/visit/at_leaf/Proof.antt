@@ -4,8 +4,8 @@ use native.Mathlib.Omega.{arith}
 use Rattle.path_by_count_search.proofs.visit.at_leaf.Statement.{statement}
 use Rattle.path_by_count_search.proofs.visit.at_leaf.Tie as tie
 
-lengths-of-requires : tie.Need-lengths-of-requires
-lengths-of-requires c κs = search needs
+query-lengths-requires : tie.Need-query-lengths-requires
+query-lengths-requires c κs = search needs
 
 add-score-from : tie.Need-add-score-from
 add-score-from c = let start = c .before .before .before .before .before in omega (arith, start .pre .in-over, start .good)
@@ -17,7 +17,7 @@ first-of-requires : tie.Need-first-of-requires
 first-of-requires c κs = search needs
 
 returns : tie.Need-returns
-returns c = rw (← c .before .before .before .lengths-of .ensures, ← c .before .score-from .ensures) (c .first-of .ensures)
+returns c = rw (← c .before .before .before .query-lengths .ensures, ← c .before .score-from .ensures) (c .first-of .ensures)
 
 pub at-leaf-spec : {M : Type 1} → statement M
-at-leaf-spec = tie.close (tie.spec lengths-of-requires add-score-from score-from-requires first-of-requires returns)
+at-leaf-spec = tie.close (tie.spec query-lengths-requires add-score-from score-from-requires first-of-requires returns)

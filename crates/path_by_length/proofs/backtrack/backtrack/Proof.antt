@@ -5,12 +5,12 @@ use Prim.Native.Nat.{_≤_, _<_}
 use lib.ListN.{length}
 use Rattle.path_by_length.specs.Table.{wayTo}
 use Rattle.path_by_length.specs.Solved.{parentAt}
-use Rattle.path_by_length.specs.WalkLaws.{Writing, writing-start, writing-room, writing-next, writing-done}
+use Rattle.path_by_length.specs.WalkLaws.{WritingBack, writing-back-start, writing-back-room, writing-back-next, writing-back-done}
 use Rattle.path_by_length.proofs.backtrack.backtrack.Statement.{statement}
 use Rattle.path_by_length.proofs.backtrack.backtrack.Tie as tie
 
 abbrev Inv-loop : tie.InvT-loop
-Inv-loop parent last len path₀ n₀ j₀ path n j = Writing (parentAt parent) last path₀ path n j
+Inv-loop parent last len path₀ n₀ j₀ path n j = WritingBack (parentAt parent) last path₀ path n j
 
 abbrev μ-loop : tie.MeasureT-loop
 μ-loop parent last len path₀ n₀ j₀ path n j = j
@@ -22,10 +22,10 @@ room c = omega (arith, c .pre .1 .0, c .pre .1 .1)
 -- at each turn there is a place for the candidate
 places : (c : tie.At-loop Inv-loop μ-loop) → (0 < c .loop .n) × (c .loop .n ≤ length (c .loop .path))
 places c = let start = c .before in
-    writing-room (start .pre .0 .falling) (start .args .path .now) (room start) (c .loop .path) (c .loop .n) (c .loop .j) (c .loop .inv)
+    writing-back-room (start .pre .0 .falling) (start .args .path .now) (room start) (c .loop .path) (c .loop .n) (c .loop .j) (c .loop .inv)
 
 loop-holds : tie.Need-loop-holds Inv-loop μ-loop
-loop-holds c = writing-start (c .pre .0 .falling) (c .args .path .now) (room c) (c .args .len) (c .pre .1 .0)
+loop-holds c = writing-back-start (c .pre .0 .falling) (c .args .path .now) (room c) (c .args .len) (c .pre .1 .0)
 
 sub-n : tie.Need-sub-n Inv-loop μ-loop
 sub-n c = omega (arith, places (c .before))
@@ -55,7 +55,7 @@ loop-again : tie.Need-loop-again Inv-loop μ-loop
 loop-again c =
     let start = c .before .before .before in
     let at = c .before .before .loop in
-    writing-next (start .pre .0 .falling) (start .args .path .now) (room start) (at .path) (at .n) (at .j) (c .before .loop-test .taken) (at .inv)
+    writing-back-next (start .pre .0 .falling) (start .args .path .now) (room start) (at .path) (at .n) (at .j) (c .before .loop-test .taken) (at .inv)
 
 slice-write-path-2 : tie.Need-slice-write-path-2 Inv-loop μ-loop
 slice-write-path-2 c = omega (arith, places (c .before))
@@ -67,7 +67,7 @@ returns : tie.Need-returns Inv-loop μ-loop
 returns c =
     let start = c .before .before in
     let at = c .before .loop in
-    writing-done (start .pre .0 .falling) (start .args .path .now) (room start) (at .path) (at .n) (at .j) (c .loop-test .left) (at .inv)
+    writing-back-done (start .pre .0 .falling) (start .args .path .now) (room start) (at .path) (at .n) (at .j) (c .loop-test .left) (at .inv)
 
 pub backtrack-spec : {M : Type 1} → statement M
 backtrack-spec =

@@ -2,12 +2,12 @@
 use borrow.Author.Needs.{needs}
 use native.Mathlib.Omega.{arith}
 use Rattle.path_by_length.specs.Solved.{parentAt}
-use Rattle.path_by_length.specs.WalkLaws.{Counting, counting-next, counting-done}
+use Rattle.path_by_length.specs.WalkLaws.{CountingBack, counting-back-next, counting-back-done}
 use Rattle.path_by_length.proofs.backtrack.path_len.Statement.{statement}
 use Rattle.path_by_length.proofs.backtrack.path_len.Tie as tie
 
 abbrev Inv-loop : tie.InvT-loop
-Inv-loop parent last len₀ j₀ len j = Counting (parentAt parent) last len j
+Inv-loop parent last len₀ j₀ len j = CountingBack (parentAt parent) last len j
 
 abbrev μ-loop : tie.MeasureT-loop
 μ-loop parent last len₀ j₀ len j = j
@@ -31,10 +31,10 @@ loop-less : tie.Need-loop-less Inv-loop μ-loop
 loop-less c = c .before .before .before .pre .falling (c .before .before .loop .j) (c .before .loop-test .taken) (c .before .before .loop .inv .0)
 
 loop-again : tie.Need-loop-again Inv-loop μ-loop
-loop-again c = counting-next (c .before .before .before .pre .falling) (c .before .before .loop .len) (c .before .before .loop .j) (c .before .loop-test .taken) (c .before .before .loop .inv)
+loop-again c = counting-back-next (c .before .before .before .pre .falling) (c .before .before .loop .len) (c .before .before .loop .j) (c .before .loop-test .taken) (c .before .before .loop .inv)
 
 returns : tie.Need-returns Inv-loop μ-loop
-returns c = counting-done (c .before .before .pre .falling) (c .before .loop .len) (c .before .loop .j) (c .loop-test .left) (c .before .loop .inv)
+returns c = counting-back-done (c .before .before .pre .falling) (c .before .loop .len) (c .before .loop .j) (c .loop-test .left) (c .before .loop .inv)
 
 pub path-len-spec : {M : Type 1} → statement M
 path-len-spec =

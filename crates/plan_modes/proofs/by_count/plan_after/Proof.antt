@@ -25,11 +25,11 @@ has-parents-requires : tie.Need-has-parents-requires
 has-parents-requires c κs =
     let s = c .before .before .before .before .before .before .before .before .before .before .before .before .before .before .before .before .before in
     let t =
-    subst (CompletedIs (s .args .x) (s .args .g) (c .before .before .before .before .before .before .before .before .before .before .maximum .result) (s .args .asked) (s .args .span) (s .args .work-u32 .now) (s .args .work-f64 .now) _ _)
+    subst (CompletedIs (s .args .x) (s .args .g) (c .before .before .before .before .before .before .before .before .before .before .maximum .result) (s .args .count) (s .args .span) (s .args .work-u32 .now) (s .args .work-f64 .now) _ _)
     (c .before .completed .given .1) (c .before .before .before .before .before .before .before .complete-by-count .ensures) .says in
     let out = outputOf (s .args .pieces .now) (s .args .cuts .now) in
-    let placed = after-placed (s .args .x) (s .args .g) (s .args .settings) (s .args .asked) (s .args .span) (s .args .work-u32 .now) (s .args .work-u64 .now) (s .args .work-f64 .now) (s .pre .0) (s .pre .1 .0) (s .pre .1 .1) (c .before .before .before .before .before .before .before .before .before .before .maximum .result) (c .before .before .before .before .before .before .before .before .before .before .maximum .ensures) 0 out _ (t .0) in
-    under-few (s .args .x) (s .args .g) (s .args .settings) (s .args .asked) (s .args .span) (s .args .work-u32 .now) (s .args .work-u64 .now) (s .args .work-f64 .now) (s .pre .0) (s .pre .1 .0) (s .pre .1 .1) _ placed _ _ _ (t .1) (c .before .before .before .before .before .before .work-u32 .given) (c .before .before .before .before .work-f64 .given)
+    let placed = after-placed (s .args .x) (s .args .g) (s .args .settings) (s .args .count) (s .args .span) (s .args .work-u32 .now) (s .args .work-u64 .now) (s .args .work-f64 .now) (s .pre .0) (s .pre .1 .0) (s .pre .1 .1) (c .before .before .before .before .before .before .before .before .before .before .maximum .result) (c .before .before .before .before .before .before .before .before .before .before .maximum .ensures) 0 out _ (t .0) in
+    under-few (s .args .x) (s .args .g) (s .args .settings) (s .args .count) (s .args .span) (s .args .work-u32 .now) (s .args .work-u64 .now) (s .args .work-f64 .now) (s .pre .0) (s .pre .1 .0) (s .pre .1 .1) _ placed _ _ _ (t .1) (c .before .before .before .before .before .before .work-u32 .given) (c .before .before .before .before .work-f64 .given)
 
 same-length : tie.Need-same-length
 same-length c = search needs
@@ -41,12 +41,12 @@ returns : tie.Need-returns
 returns c =
     let s = c .before .before .before .before .before .before .before .before .before .before .before .before .before .before .before .before .before .before .before in
     let t =
-    subst (CompletedIs (s .args .x) (s .args .g) (c .before .before .before .before .before .before .before .before .before .before .before .before .maximum .result) (s .args .asked) (s .args .span) (s .args .work-u32 .now) (s .args .work-f64 .now) _ _)
+    subst (CompletedIs (s .args .x) (s .args .g) (c .before .before .before .before .before .before .before .before .before .before .before .before .maximum .result) (s .args .count) (s .args .span) (s .args .work-u32 .now) (s .args .work-f64 .now) _ _)
     (c .before .before .before .completed .given .1) (c .before .before .before .before .before .before .before .before .before .complete-by-count .ensures) .says in
     let out = outputOf (s .args .pieces .now) (s .args .cuts .now) in
-    let placed = after-placed (s .args .x) (s .args .g) (s .args .settings) (s .args .asked) (s .args .span) (s .args .work-u32 .now) (s .args .work-u64 .now) (s .args .work-f64 .now) (s .pre .0) (s .pre .1 .0) (s .pre .1 .1) (c .before .before .before .before .before .before .before .before .before .before .before .before .maximum .result) (c .before .before .before .before .before .before .before .before .before .before .before .before .maximum .ensures) 0 out _ (t .0) in
-    let fails = under-parents (s .args .x) (s .args .g) (s .args .settings) (s .args .asked) (s .args .span) (s .args .work-u32 .now) (s .args .work-u64 .now) (s .args .work-f64 .now) (s .pre .0) (s .pre .1 .0) (s .pre .1 .1) _ placed _ _ _ (t .1) (c .before .before .before .before .before .before .before .before .work-u32 .given) (c .before .before .before .before .before .before .work-f64 .given) _ _ (c .before .has-parents .ensures) ∙ not-true (c .before .has-parents .result) (c .if1 .taken) in
-    after-short (s .args .x) (s .args .g) (s .args .settings) (s .args .asked) (s .args .span) (s .args .work-u32 .now) (s .args .work-u64 .now) (s .args .work-f64 .now) (s .pre .0) (s .pre .1 .0) (s .pre .1 .1) (c .before .before .before .before .before .before .before .before .before .before .before .before .maximum .result) (c .before .before .before .before .before .before .before .before .before .before .before .before .maximum .ensures) _ out _ (t .0) fails
+    let placed = after-placed (s .args .x) (s .args .g) (s .args .settings) (s .args .count) (s .args .span) (s .args .work-u32 .now) (s .args .work-u64 .now) (s .args .work-f64 .now) (s .pre .0) (s .pre .1 .0) (s .pre .1 .1) (c .before .before .before .before .before .before .before .before .before .before .before .before .maximum .result) (c .before .before .before .before .before .before .before .before .before .before .before .before .maximum .ensures) 0 out _ (t .0) in
+    let fails = under-parents (s .args .x) (s .args .g) (s .args .settings) (s .args .count) (s .args .span) (s .args .work-u32 .now) (s .args .work-u64 .now) (s .args .work-f64 .now) (s .pre .0) (s .pre .1 .0) (s .pre .1 .1) _ placed _ _ _ (t .1) (c .before .before .before .before .before .before .before .before .work-u32 .given) (c .before .before .before .before .before .before .work-f64 .given) _ _ (c .before .has-parents .ensures) ∙ not-true (c .before .has-parents .result) (c .if1 .taken) in
+    after-short (s .args .x) (s .args .g) (s .args .settings) (s .args .count) (s .args .span) (s .args .work-u32 .now) (s .args .work-u64 .now) (s .args .work-f64 .now) (s .pre .0) (s .pre .1 .0) (s .pre .1 .1) (c .before .before .before .before .before .before .before .before .before .before .before .before .maximum .result) (c .before .before .before .before .before .before .before .before .before .before .before .before .maximum .ensures) _ out _ (t .0) fails
 
 lengths-by-count-requires : tie.Need-lengths-by-count-requires
 lengths-by-count-requires c κs = let s = c .before .before .before .before .before .before .before .before .before .before .before .before .before .before .before .before .before .before .before in (s .pre .1 .1 .timed, s .pre .1 .1 .pieces)
@@ -55,23 +55,23 @@ search-by-count-requires : tie.Need-search-by-count-requires
 search-by-count-requires c κs =
     let s = c .before .before .before .before .before .before .before .before .before .before .before .before .before .before .before .before .before .before .before .before .before .before .before .before in
     let t =
-    subst (CompletedIs (s .args .x) (s .args .g) (c .before .before .before .before .before .before .before .before .before .before .before .before .before .before .before .before .before .maximum .result) (s .args .asked) (s .args .span) (s .args .work-u32 .now) (s .args .work-f64 .now) _ _)
+    subst (CompletedIs (s .args .x) (s .args .g) (c .before .before .before .before .before .before .before .before .before .before .before .before .before .before .before .before .before .maximum .result) (s .args .count) (s .args .span) (s .args .work-u32 .now) (s .args .work-f64 .now) _ _)
     (c .before .before .before .before .before .before .before .before .completed .given .1) (c .before .before .before .before .before .before .before .before .before .before .before .before .before .before .complete-by-count .ensures) .says in
     let out = outputOf (s .args .pieces .now) (s .args .cuts .now) in
-    let placed = after-placed (s .args .x) (s .args .g) (s .args .settings) (s .args .asked) (s .args .span) (s .args .work-u32 .now) (s .args .work-u64 .now) (s .args .work-f64 .now) (s .pre .0) (s .pre .1 .0) (s .pre .1 .1) (c .before .before .before .before .before .before .before .before .before .before .before .before .before .before .before .before .before .maximum .result) (c .before .before .before .before .before .before .before .before .before .before .before .before .before .before .before .before .before .maximum .ensures) 0 out _ (t .0) in (
-      under-asked (s .args .x) (s .args .g) (s .args .settings) (s .args .asked) (s .args .span) (s .args .work-u32 .now) (s .args .work-u64 .now) (s .args .work-f64 .now) (s .pre .0) (s .pre .1 .0) (s .pre .1 .1) _ placed _ _ _ (t .1) (c .before .before .before .before .before .before .before .before .before .before .before .before .before .work-u32 .given) (c .before .before .before .before .before .before .before .before .before .before .before .work-f64 .given) _ _ (c .before .before .before .before .lengths-by-count .ensures),
-      under-enough (s .args .x) (s .args .g) (s .args .settings) (s .args .asked) (s .args .span) (s .args .work-u32 .now) (s .args .work-u64 .now) (s .args .work-f64 .now) (s .pre .0) (s .pre .1 .0) (s .pre .1 .1) _ placed _ _ _ (t .1) (c .before .before .before .before .before .before .before .before .before .before .before .before .before .work-u32 .given) (c .before .before .before .before .before .before .before .before .before .before .before .work-f64 .given) _ _ (c .before .before .before .before .before .before .has-parents .ensures) (not-false (c .before .before .before .before .before .before .has-parents .result) (c .before .before .before .before .before .if1 .left)),
+    let placed = after-placed (s .args .x) (s .args .g) (s .args .settings) (s .args .count) (s .args .span) (s .args .work-u32 .now) (s .args .work-u64 .now) (s .args .work-f64 .now) (s .pre .0) (s .pre .1 .0) (s .pre .1 .1) (c .before .before .before .before .before .before .before .before .before .before .before .before .before .before .before .before .before .maximum .result) (c .before .before .before .before .before .before .before .before .before .before .before .before .before .before .before .before .before .maximum .ensures) 0 out _ (t .0) in (
+      under-asked (s .args .x) (s .args .g) (s .args .settings) (s .args .count) (s .args .span) (s .args .work-u32 .now) (s .args .work-u64 .now) (s .args .work-f64 .now) (s .pre .0) (s .pre .1 .0) (s .pre .1 .1) _ placed _ _ _ (t .1) (c .before .before .before .before .before .before .before .before .before .before .before .before .before .work-u32 .given) (c .before .before .before .before .before .before .before .before .before .before .before .work-f64 .given) _ _ (c .before .before .before .before .lengths-by-count .ensures),
+      under-enough (s .args .x) (s .args .g) (s .args .settings) (s .args .count) (s .args .span) (s .args .work-u32 .now) (s .args .work-u64 .now) (s .args .work-f64 .now) (s .pre .0) (s .pre .1 .0) (s .pre .1 .1) _ placed _ _ _ (t .1) (c .before .before .before .before .before .before .before .before .before .before .before .before .before .work-u32 .given) (c .before .before .before .before .before .before .before .before .before .before .before .work-f64 .given) _ _ (c .before .before .before .before .before .before .has-parents .ensures) (not-false (c .before .before .before .before .before .before .has-parents .result) (c .before .before .before .before .before .if1 .left)),
     )
 
 hand-out-held-requires : tie.Need-hand-out-held-requires
 hand-out-held-requires c κs =
     let s = c .before .before .before .before .before .before .before .before .before .before .before .before .before .before .before .before .before .before .before .before .before .before .before .before .before .before .before .before .before .before .before .before .before .before .before .before .before in
     let t =
-    subst (CompletedIs (s .args .x) (s .args .g) (c .before .before .before .before .before .before .before .before .before .before .before .before .before .before .before .before .before .before .before .before .before .before .before .before .before .before .before .before .before .before .maximum .result) (s .args .asked) (s .args .span) (s .args .work-u32 .now) (s .args .work-f64 .now) _ _)
+    subst (CompletedIs (s .args .x) (s .args .g) (c .before .before .before .before .before .before .before .before .before .before .before .before .before .before .before .before .before .before .before .before .before .before .before .before .before .before .before .before .before .before .maximum .result) (s .args .count) (s .args .span) (s .args .work-u32 .now) (s .args .work-f64 .now) _ _)
     (c .before .before .before .before .before .before .before .before .before .before .before .before .before .before .before .before .before .before .before .before .before .completed .given .1) (c .before .before .before .before .before .before .before .before .before .before .before .before .before .before .before .before .before .before .before .before .before .before .before .before .before .before .before .complete-by-count .ensures) .says in
     let out = outputOf (s .args .pieces .now) (s .args .cuts .now) in
-    let placed = after-placed (s .args .x) (s .args .g) (s .args .settings) (s .args .asked) (s .args .span) (s .args .work-u32 .now) (s .args .work-u64 .now) (s .args .work-f64 .now) (s .pre .0) (s .pre .1 .0) (s .pre .1 .1) (c .before .before .before .before .before .before .before .before .before .before .before .before .before .before .before .before .before .before .before .before .before .before .before .before .before .before .before .before .before .before .maximum .result) (c .before .before .before .before .before .before .before .before .before .before .before .before .before .before .before .before .before .before .before .before .before .before .before .before .before .before .before .before .before .before .maximum .ensures) 0 out _ (t .0) in
-    under-room (s .args .x) (s .args .g) (s .args .settings) (s .args .asked) (s .args .span) (s .args .work-u32 .now) (s .args .work-u64 .now) (s .args .work-f64 .now) (s .pre .0) (s .pre .1 .0) (s .pre .1 .1) _ placed _ _ _ (t .1) (c .before .before .before .before .before .before .before .before .before .before .before .before .before .before .before .before .before .before .before .before .before .before .before .before .before .before .work-u32 .given) (c .before .before .before .before .before .before .before .before .before .before .before .before .before .before .before .before .before .before .before .before .before .before .before .before .work-f64 .given) _ _ (c .before .before .before .before .before .before .before .before .before .before .before .before .before .before .before .before .before .lengths-by-count .ensures)
+    let placed = after-placed (s .args .x) (s .args .g) (s .args .settings) (s .args .count) (s .args .span) (s .args .work-u32 .now) (s .args .work-u64 .now) (s .args .work-f64 .now) (s .pre .0) (s .pre .1 .0) (s .pre .1 .1) (c .before .before .before .before .before .before .before .before .before .before .before .before .before .before .before .before .before .before .before .before .before .before .before .before .before .before .before .before .before .before .maximum .result) (c .before .before .before .before .before .before .before .before .before .before .before .before .before .before .before .before .before .before .before .before .before .before .before .before .before .before .before .before .before .before .maximum .ensures) 0 out _ (t .0) in
+    under-room (s .args .x) (s .args .g) (s .args .settings) (s .args .count) (s .args .span) (s .args .work-u32 .now) (s .args .work-u64 .now) (s .args .work-f64 .now) (s .pre .0) (s .pre .1 .0) (s .pre .1 .1) _ placed _ _ _ (t .1) (c .before .before .before .before .before .before .before .before .before .before .before .before .before .before .before .before .before .before .before .before .before .before .before .before .before .before .work-u32 .given) (c .before .before .before .before .before .before .before .before .before .before .before .before .before .before .before .before .before .before .before .before .before .before .before .before .work-f64 .given) _ _ (c .before .before .before .before .before .before .before .before .before .before .before .before .before .before .before .before .before .lengths-by-count .ensures)
     _ _ _ _ (c .before .before .before .before .before .before .before .before .before .before .before .before .search-by-count .ensures) (c .before .before .before .before .before .before .before .before .before .before .before .work-u322 .given) (c .before .before .before .before .before .before .before .before .before .work-u64 .given)
 
 same-length-3 : tie.Need-same-length-3
@@ -84,9 +84,9 @@ returns-2 : tie.Need-returns-2
 returns-2 c =
     let s = c .before .before .before .before .before .before .before .before .before .before .before .before .before .before .before .before in
     let t =
-    subst (CompletedIs (s .args .x) (s .args .g) (c .before .before .before .before .before .before .before .before .before .maximum .result) (s .args .asked) (s .args .span) (s .args .work-u32 .now) (s .args .work-f64 .now) _ _)
+    subst (CompletedIs (s .args .x) (s .args .g) (c .before .before .before .before .before .before .before .before .before .maximum .result) (s .args .count) (s .args .span) (s .args .work-u32 .now) (s .args .work-f64 .now) _ _)
     (c .enum-told .given .1) (c .before .before .before .before .before .before .complete-by-count .ensures) .says in
-    after-none (s .args .x) (s .args .g) (s .args .settings) (s .args .asked) (s .args .span) (s .args .work-u32 .now) (s .args .work-u64 .now) (s .args .work-f64 .now) (s .pre .0) (s .pre .1 .0) (s .pre .1 .1) (c .before .before .before .before .before .before .before .before .before .maximum .result) (c .before .before .before .before .before .before .before .before .before .maximum .ensures) _ _ t
+    after-none (s .args .x) (s .args .g) (s .args .settings) (s .args .count) (s .args .span) (s .args .work-u32 .now) (s .args .work-u64 .now) (s .args .work-f64 .now) (s .pre .0) (s .pre .1 .0) (s .pre .1 .1) (c .before .before .before .before .before .before .before .before .before .maximum .result) (c .before .before .before .before .before .before .before .before .before .maximum .ensures) _ _ t
 
 same-length-5 : tie.Need-same-length-5
 same-length-5 c = c .before .before .before .before .before .before .before .before .before .before .before .before .before .before .before .before .work-u322 .given ∙ c .before .before .before .before .before .before .before .before .before .before .before .before .before .before .before .before .before .before .before .before .before .before .before .before .before .before .before .before .before .before .before .work-u32 .given
@@ -110,13 +110,13 @@ returns-3 : tie.Need-returns-3
 returns-3 c =
     let s = c .before .before .before .before .before .before .before .before .before .before .before .before .before .before .before .before .before .before .before .before .before .before .before .before .before .before .before .before .before .before .before .before .before .before .before .before .before .before .before .before .before .before in
     let t =
-    subst (CompletedIs (s .args .x) (s .args .g) (c .before .before .before .before .before .before .before .before .before .before .before .before .before .before .before .before .before .before .before .before .before .before .before .before .before .before .before .before .before .before .before .before .before .before .before .maximum .result) (s .args .asked) (s .args .span) (s .args .work-u32 .now) (s .args .work-f64 .now) _ _)
+    subst (CompletedIs (s .args .x) (s .args .g) (c .before .before .before .before .before .before .before .before .before .before .before .before .before .before .before .before .before .before .before .before .before .before .before .before .before .before .before .before .before .before .before .before .before .before .before .maximum .result) (s .args .count) (s .args .span) (s .args .work-u32 .now) (s .args .work-f64 .now) _ _)
     (c .before .before .before .before .before .before .before .before .before .before .before .before .before .before .before .before .before .before .before .before .before .before .before .before .before .before .completed .given .1) (c .before .before .before .before .before .before .before .before .before .before .before .before .before .before .before .before .before .before .before .before .before .before .before .before .before .before .before .before .before .before .before .before .complete-by-count .ensures) .says in
     let out = outputOf (s .args .pieces .now) (s .args .cuts .now) in
-    let placed = after-placed (s .args .x) (s .args .g) (s .args .settings) (s .args .asked) (s .args .span) (s .args .work-u32 .now) (s .args .work-u64 .now) (s .args .work-f64 .now) (s .pre .0) (s .pre .1 .0) (s .pre .1 .1) (c .before .before .before .before .before .before .before .before .before .before .before .before .before .before .before .before .before .before .before .before .before .before .before .before .before .before .before .before .before .before .before .before .before .before .before .maximum .result) (c .before .before .before .before .before .before .before .before .before .before .before .before .before .before .before .before .before .before .before .before .before .before .before .before .before .before .before .before .before .before .before .before .before .before .before .maximum .ensures) 0 out _ (t .0) in
-    let fits = under-parents (s .args .x) (s .args .g) (s .args .settings) (s .args .asked) (s .args .span) (s .args .work-u32 .now) (s .args .work-u64 .now) (s .args .work-f64 .now) (s .pre .0) (s .pre .1 .0) (s .pre .1 .1) _ placed _ _ _ (t .1) (c .before .before .before .before .before .before .before .before .before .before .before .before .before .before .before .before .before .before .before .before .before .before .before .before .before .before .before .before .before .before .before .work-u32 .given) (c .before .before .before .before .before .before .before .before .before .before .before .before .before .before .before .before .before .before .before .before .before .before .before .before .before .before .before .before .before .work-f64 .given) _ _ (c .before .before .before .before .before .before .before .before .before .before .before .before .before .before .before .before .before .before .before .before .before .before .before .before .has-parents .ensures) ∙ not-false (c .before .before .before .before .before .before .before .before .before .before .before .before .before .before .before .before .before .before .before .before .before .before .before .before .has-parents .result) (c .before .before .before .before .before .before .before .before .before .before .before .before .before .before .before .before .before .before .before .before .before .before .before .if1 .left) in
-    after-planned (s .args .x) (s .args .g) (s .args .settings) (s .args .asked) (s .args .span) (s .args .work-u32 .now) (s .args .work-u64 .now) (s .args .work-f64 .now) (s .pre .0) (s .pre .1 .0) (s .pre .1 .1) (c .before .before .before .before .before .before .before .before .before .before .before .before .before .before .before .before .before .before .before .before .before .before .before .before .before .before .before .before .before .before .before .before .before .before .before .maximum .result) (c .before .before .before .before .before .before .before .before .before .before .before .before .before .before .before .before .before .before .before .before .before .before .before .before .before .before .before .before .before .before .before .before .before .before .before .maximum .ensures) _ out _ (t .0) fits _
-    (under-handed (s .args .x) (s .args .g) (s .args .settings) (s .args .asked) (s .args .span) (s .args .work-u32 .now) (s .args .work-u64 .now) (s .args .work-f64 .now) (s .pre .0) (s .pre .1 .0) (s .pre .1 .1) _ placed _ _ _ (t .1) (c .before .before .before .before .before .before .before .before .before .before .before .before .before .before .before .before .before .before .before .before .before .before .before .before .before .before .before .before .before .before .before .work-u32 .given) (c .before .before .before .before .before .before .before .before .before .before .before .before .before .before .before .before .before .before .before .before .before .before .before .before .before .before .before .before .before .work-f64 .given) _ _ (c .before .before .before .before .before .before .before .before .before .before .before .before .before .before .before .before .before .before .before .before .before .before .lengths-by-count .ensures)
+    let placed = after-placed (s .args .x) (s .args .g) (s .args .settings) (s .args .count) (s .args .span) (s .args .work-u32 .now) (s .args .work-u64 .now) (s .args .work-f64 .now) (s .pre .0) (s .pre .1 .0) (s .pre .1 .1) (c .before .before .before .before .before .before .before .before .before .before .before .before .before .before .before .before .before .before .before .before .before .before .before .before .before .before .before .before .before .before .before .before .before .before .before .maximum .result) (c .before .before .before .before .before .before .before .before .before .before .before .before .before .before .before .before .before .before .before .before .before .before .before .before .before .before .before .before .before .before .before .before .before .before .before .maximum .ensures) 0 out _ (t .0) in
+    let fits = under-parents (s .args .x) (s .args .g) (s .args .settings) (s .args .count) (s .args .span) (s .args .work-u32 .now) (s .args .work-u64 .now) (s .args .work-f64 .now) (s .pre .0) (s .pre .1 .0) (s .pre .1 .1) _ placed _ _ _ (t .1) (c .before .before .before .before .before .before .before .before .before .before .before .before .before .before .before .before .before .before .before .before .before .before .before .before .before .before .before .before .before .before .before .work-u32 .given) (c .before .before .before .before .before .before .before .before .before .before .before .before .before .before .before .before .before .before .before .before .before .before .before .before .before .before .before .before .before .work-f64 .given) _ _ (c .before .before .before .before .before .before .before .before .before .before .before .before .before .before .before .before .before .before .before .before .before .before .before .before .has-parents .ensures) ∙ not-false (c .before .before .before .before .before .before .before .before .before .before .before .before .before .before .before .before .before .before .before .before .before .before .before .before .has-parents .result) (c .before .before .before .before .before .before .before .before .before .before .before .before .before .before .before .before .before .before .before .before .before .before .before .if1 .left) in
+    after-planned (s .args .x) (s .args .g) (s .args .settings) (s .args .count) (s .args .span) (s .args .work-u32 .now) (s .args .work-u64 .now) (s .args .work-f64 .now) (s .pre .0) (s .pre .1 .0) (s .pre .1 .1) (c .before .before .before .before .before .before .before .before .before .before .before .before .before .before .before .before .before .before .before .before .before .before .before .before .before .before .before .before .before .before .before .before .before .before .before .maximum .result) (c .before .before .before .before .before .before .before .before .before .before .before .before .before .before .before .before .before .before .before .before .before .before .before .before .before .before .before .before .before .before .before .before .before .before .before .maximum .ensures) _ out _ (t .0) fits _
+    (under-handed (s .args .x) (s .args .g) (s .args .settings) (s .args .count) (s .args .span) (s .args .work-u32 .now) (s .args .work-u64 .now) (s .args .work-f64 .now) (s .pre .0) (s .pre .1 .0) (s .pre .1 .1) _ placed _ _ _ (t .1) (c .before .before .before .before .before .before .before .before .before .before .before .before .before .before .before .before .before .before .before .before .before .before .before .before .before .before .before .before .before .before .before .work-u32 .given) (c .before .before .before .before .before .before .before .before .before .before .before .before .before .before .before .before .before .before .before .before .before .before .before .before .before .before .before .before .before .work-f64 .given) _ _ (c .before .before .before .before .before .before .before .before .before .before .before .before .before .before .before .before .before .before .before .before .before .before .lengths-by-count .ensures)
     _ _ _ _ (c .before .before .before .before .before .before .before .before .before .before .before .before .before .before .before .before .before .search-by-count .ensures) (c .before .before .before .before .before .before .before .before .before .before .before .before .before .before .before .before .work-u322 .given) (c .before .before .before .before .before .before .before .before .before .before .before .before .before .before .work-u64 .given) (c .before .before .before .before .before .before .before .before .before .before .before .before .before .before .before .before .before .before .before .before .before .before .before .before .before .before .before .before .before .before .before .before .before .before .before .maximum .result) (c .before .before .before .before .before .before .before .before .before .before .before .before .before .before .before .before .before .before .before .before .before .before .before .before .before .before .before .before .before .before .before .before .before .before .before .maximum .ensures) out _ (c .before .before .before .before .hand-out-held .ensures))
 
 pub plan-after-spec : {M : Type 1} → statement M

@@ -21,9 +21,9 @@ has-parents-requires c κs =
     let s = c .before .before .before .before .before .before .before .before .before .before .before .before .before .before in
     let e = c .before .before .before .before .collect .ensures in
     let f = collected-in (s .args .x) (s .args .g) (s .args .span) (s .args .work-u32 .now) (s .args .work-f64 .now) (s .pre .0) (room-collects (s .pre .1 .0)) _ _ _ (e .0) (e .1 .0) (e .1 .1) in
-    let placed = none-placed (s .args .x) (s .args .g) (s .args .settings) (s .args .asked) (s .args .span) (s .args .work-u32 .now) (s .args .work-u64 .now) (s .args .work-f64 .now) (s .pre .0) (s .pre .1 .0) (s .pre .1 .1) in
+    let placed = none-placed (s .args .x) (s .args .g) (s .args .settings) (s .args .count) (s .args .span) (s .args .work-u32 .now) (s .args .work-u64 .now) (s .args .work-f64 .now) (s .pre .0) (s .pre .1 .0) (s .pre .1 .1) in
     let out = outputOf (s .args .pieces .now) (s .args .cuts .now) in
-    under-few (s .args .x) (s .args .g) (s .args .settings) (s .args .asked) (s .args .span) (s .args .work-u32 .now) (s .args .work-u64 .now) (s .args .work-f64 .now) (s .pre .0) (s .pre .1 .0) (s .pre .1 .1) _ placed _ _ _ (f .stands) (c .before .before .before .work-u32 .given) (c .before .work-f64 .given)
+    under-few (s .args .x) (s .args .g) (s .args .settings) (s .args .count) (s .args .span) (s .args .work-u32 .now) (s .args .work-u64 .now) (s .args .work-f64 .now) (s .pre .0) (s .pre .1 .0) (s .pre .1 .1) _ placed _ _ _ (f .stands) (c .before .before .before .work-u32 .given) (c .before .work-f64 .given)
 
 same-length : tie.Need-same-length
 same-length c = search needs
@@ -36,10 +36,10 @@ returns c =
     let s = c .before .before .before .before .before .before .before .before .before .before .before .before .before .before .before .before in
     let e = c .before .before .before .before .before .before .collect .ensures in
     let f = collected-in (s .args .x) (s .args .g) (s .args .span) (s .args .work-u32 .now) (s .args .work-f64 .now) (s .pre .0) (room-collects (s .pre .1 .0)) _ _ _ (e .0) (e .1 .0) (e .1 .1) in
-    let placed = none-placed (s .args .x) (s .args .g) (s .args .settings) (s .args .asked) (s .args .span) (s .args .work-u32 .now) (s .args .work-u64 .now) (s .args .work-f64 .now) (s .pre .0) (s .pre .1 .0) (s .pre .1 .1) in
+    let placed = none-placed (s .args .x) (s .args .g) (s .args .settings) (s .args .count) (s .args .span) (s .args .work-u32 .now) (s .args .work-u64 .now) (s .args .work-f64 .now) (s .pre .0) (s .pre .1 .0) (s .pre .1 .1) in
     let out = outputOf (s .args .pieces .now) (s .args .cuts .now) in
-    count-short (s .args .x) (s .args .g) (s .args .settings) (s .args .asked) (s .args .span) (s .args .work-u32 .now) (s .args .work-u64 .now) (s .args .work-f64 .now) (s .pre .0) (s .pre .1 .0) (s .pre .1 .1) (c .before .before .before .before .before .before .before .before .before .maximum .result) (c .before .before .before .before .before .before .before .before .before .maximum .ensures) _ out
-    (under-parents (s .args .x) (s .args .g) (s .args .settings) (s .args .asked) (s .args .span) (s .args .work-u32 .now) (s .args .work-u64 .now) (s .args .work-f64 .now) (s .pre .0) (s .pre .1 .0) (s .pre .1 .1) _ placed _ _ _ (f .stands) (c .before .before .before .before .before .work-u32 .given) (c .before .before .before .work-f64 .given) _ _ (c .before .has-parents .ensures) ∙ not-true (c .before .has-parents .result) (c .if1 .taken))
+    count-short (s .args .x) (s .args .g) (s .args .settings) (s .args .count) (s .args .span) (s .args .work-u32 .now) (s .args .work-u64 .now) (s .args .work-f64 .now) (s .pre .0) (s .pre .1 .0) (s .pre .1 .1) (c .before .before .before .before .before .before .before .before .before .maximum .result) (c .before .before .before .before .before .before .before .before .before .maximum .ensures) _ out
+    (under-parents (s .args .x) (s .args .g) (s .args .settings) (s .args .count) (s .args .span) (s .args .work-u32 .now) (s .args .work-u64 .now) (s .args .work-f64 .now) (s .pre .0) (s .pre .1 .0) (s .pre .1 .1) _ placed _ _ _ (f .stands) (c .before .before .before .before .before .work-u32 .given) (c .before .before .before .work-f64 .given) _ _ (c .before .has-parents .ensures) ∙ not-true (c .before .has-parents .result) (c .if1 .taken))
 
 lengths-by-count-requires : tie.Need-lengths-by-count-requires
 lengths-by-count-requires c κs = let s = c .before .before .before .before .before .before .before .before .before .before .before .before .before .before .before .before in (s .pre .1 .1 .timed, s .pre .1 .1 .pieces)
@@ -49,10 +49,10 @@ search-by-count-requires c κs =
     let s = c .before .before .before .before .before .before .before .before .before .before .before .before .before .before .before .before .before .before .before .before .before in
     let e = c .before .before .before .before .before .before .before .before .before .before .before .collect .ensures in
     let f = collected-in (s .args .x) (s .args .g) (s .args .span) (s .args .work-u32 .now) (s .args .work-f64 .now) (s .pre .0) (room-collects (s .pre .1 .0)) _ _ _ (e .0) (e .1 .0) (e .1 .1) in
-    let placed = none-placed (s .args .x) (s .args .g) (s .args .settings) (s .args .asked) (s .args .span) (s .args .work-u32 .now) (s .args .work-u64 .now) (s .args .work-f64 .now) (s .pre .0) (s .pre .1 .0) (s .pre .1 .1) in
+    let placed = none-placed (s .args .x) (s .args .g) (s .args .settings) (s .args .count) (s .args .span) (s .args .work-u32 .now) (s .args .work-u64 .now) (s .args .work-f64 .now) (s .pre .0) (s .pre .1 .0) (s .pre .1 .1) in
     let out = outputOf (s .args .pieces .now) (s .args .cuts .now) in (
-      under-asked (s .args .x) (s .args .g) (s .args .settings) (s .args .asked) (s .args .span) (s .args .work-u32 .now) (s .args .work-u64 .now) (s .args .work-f64 .now) (s .pre .0) (s .pre .1 .0) (s .pre .1 .1) _ placed _ _ _ (f .stands) (c .before .before .before .before .before .before .before .before .before .before .work-u32 .given) (c .before .before .before .before .before .before .before .before .work-f64 .given) _ _ (c .before .before .before .before .lengths-by-count .ensures),
-      under-enough (s .args .x) (s .args .g) (s .args .settings) (s .args .asked) (s .args .span) (s .args .work-u32 .now) (s .args .work-u64 .now) (s .args .work-f64 .now) (s .pre .0) (s .pre .1 .0) (s .pre .1 .1) _ placed _ _ _ (f .stands) (c .before .before .before .before .before .before .before .before .before .before .work-u32 .given) (c .before .before .before .before .before .before .before .before .work-f64 .given) _ _ (c .before .before .before .before .before .before .has-parents .ensures) (not-false (c .before .before .before .before .before .before .has-parents .result) (c .before .before .before .before .before .if1 .left)),
+      under-asked (s .args .x) (s .args .g) (s .args .settings) (s .args .count) (s .args .span) (s .args .work-u32 .now) (s .args .work-u64 .now) (s .args .work-f64 .now) (s .pre .0) (s .pre .1 .0) (s .pre .1 .1) _ placed _ _ _ (f .stands) (c .before .before .before .before .before .before .before .before .before .before .work-u32 .given) (c .before .before .before .before .before .before .before .before .work-f64 .given) _ _ (c .before .before .before .before .lengths-by-count .ensures),
+      under-enough (s .args .x) (s .args .g) (s .args .settings) (s .args .count) (s .args .span) (s .args .work-u32 .now) (s .args .work-u64 .now) (s .args .work-f64 .now) (s .pre .0) (s .pre .1 .0) (s .pre .1 .1) _ placed _ _ _ (f .stands) (c .before .before .before .before .before .before .before .before .before .before .work-u32 .given) (c .before .before .before .before .before .before .before .before .work-f64 .given) _ _ (c .before .before .before .before .before .before .has-parents .ensures) (not-false (c .before .before .before .before .before .before .has-parents .result) (c .before .before .before .before .before .if1 .left)),
     )
 
 is-enough-requires : tie.Need-is-enough-requires
@@ -63,9 +63,9 @@ hand-out-held-requires c κs =
     let s = c .before .before .before .before .before .before .before .before .before .before .before .before .before .before .before .before .before .before .before .before .before .before .before .before .before .before .before .before .before .before .before .before .before .before .before .before in
     let e = c .before .before .before .before .before .before .before .before .before .before .before .before .before .before .before .before .before .before .before .before .before .before .before .before .before .before .collect .ensures in
     let f = collected-in (s .args .x) (s .args .g) (s .args .span) (s .args .work-u32 .now) (s .args .work-f64 .now) (s .pre .0) (room-collects (s .pre .1 .0)) _ _ _ (e .0) (e .1 .0) (e .1 .1) in
-    let placed = none-placed (s .args .x) (s .args .g) (s .args .settings) (s .args .asked) (s .args .span) (s .args .work-u32 .now) (s .args .work-u64 .now) (s .args .work-f64 .now) (s .pre .0) (s .pre .1 .0) (s .pre .1 .1) in
+    let placed = none-placed (s .args .x) (s .args .g) (s .args .settings) (s .args .count) (s .args .span) (s .args .work-u32 .now) (s .args .work-u64 .now) (s .args .work-f64 .now) (s .pre .0) (s .pre .1 .0) (s .pre .1 .1) in
     let out = outputOf (s .args .pieces .now) (s .args .cuts .now) in
-    under-room (s .args .x) (s .args .g) (s .args .settings) (s .args .asked) (s .args .span) (s .args .work-u32 .now) (s .args .work-u64 .now) (s .args .work-f64 .now) (s .pre .0) (s .pre .1 .0) (s .pre .1 .1) _ placed _ _ _ (f .stands) (c .before .before .before .before .before .before .before .before .before .before .before .before .before .before .before .before .before .before .before .before .before .before .before .before .before .work-u32 .given) (c .before .before .before .before .before .before .before .before .before .before .before .before .before .before .before .before .before .before .before .before .before .before .before .work-f64 .given) _ _ (c .before .before .before .before .before .before .before .before .before .before .before .before .before .before .before .before .before .before .before .lengths-by-count .ensures)
+    under-room (s .args .x) (s .args .g) (s .args .settings) (s .args .count) (s .args .span) (s .args .work-u32 .now) (s .args .work-u64 .now) (s .args .work-f64 .now) (s .pre .0) (s .pre .1 .0) (s .pre .1 .1) _ placed _ _ _ (f .stands) (c .before .before .before .before .before .before .before .before .before .before .before .before .before .before .before .before .before .before .before .before .before .before .before .before .before .work-u32 .given) (c .before .before .before .before .before .before .before .before .before .before .before .before .before .before .before .before .before .before .before .before .before .before .before .work-f64 .given) _ _ (c .before .before .before .before .before .before .before .before .before .before .before .before .before .before .before .before .before .before .before .lengths-by-count .ensures)
     _ _ _ _ (c .before .before .before .before .before .before .before .before .before .before .before .before .before .before .search-by-count .ensures) (c .before .before .before .before .before .before .before .before .before .before .before .before .before .work-u322 .given) (c .before .before .before .before .before .before .before .before .before .before .before .work-u64 .given)
 
 same-length-3 : tie.Need-same-length-3
@@ -91,13 +91,13 @@ returns-2 c =
     let s = c .before .before .before .before .before .before .before .before .before .before .before .before .before .before .before .before .before .before .before .before .before .before .before .before .before .before .before .before .before .before .before .before .before .before .before .before .before .before .before .before .before in
     let e = c .before .before .before .before .before .before .before .before .before .before .before .before .before .before .before .before .before .before .before .before .before .before .before .before .before .before .before .before .before .before .before .collect .ensures in
     let f = collected-in (s .args .x) (s .args .g) (s .args .span) (s .args .work-u32 .now) (s .args .work-f64 .now) (s .pre .0) (room-collects (s .pre .1 .0)) _ _ _ (e .0) (e .1 .0) (e .1 .1) in
-    let placed = none-placed (s .args .x) (s .args .g) (s .args .settings) (s .args .asked) (s .args .span) (s .args .work-u32 .now) (s .args .work-u64 .now) (s .args .work-f64 .now) (s .pre .0) (s .pre .1 .0) (s .pre .1 .1) in
+    let placed = none-placed (s .args .x) (s .args .g) (s .args .settings) (s .args .count) (s .args .span) (s .args .work-u32 .now) (s .args .work-u64 .now) (s .args .work-f64 .now) (s .pre .0) (s .pre .1 .0) (s .pre .1 .1) in
     let out = outputOf (s .args .pieces .now) (s .args .cuts .now) in
-    let fits = under-parents (s .args .x) (s .args .g) (s .args .settings) (s .args .asked) (s .args .span) (s .args .work-u32 .now) (s .args .work-u64 .now) (s .args .work-f64 .now) (s .pre .0) (s .pre .1 .0) (s .pre .1 .1) _ placed _ _ _ (f .stands) (c .before .before .before .before .before .before .before .before .before .before .before .before .before .before .before .before .before .before .before .before .before .before .before .before .before .before .before .before .before .before .work-u32 .given) (c .before .before .before .before .before .before .before .before .before .before .before .before .before .before .before .before .before .before .before .before .before .before .before .before .before .before .before .before .work-f64 .given) _ _ (c .before .before .before .before .before .before .before .before .before .before .before .before .before .before .before .before .before .before .before .before .before .before .before .before .before .before .has-parents .ensures) ∙ not-false (c .before .before .before .before .before .before .before .before .before .before .before .before .before .before .before .before .before .before .before .before .before .before .before .before .before .before .has-parents .result) (c .before .before .before .before .before .before .before .before .before .before .before .before .before .before .before .before .before .before .before .before .before .before .before .before .before .if1 .left) in
-    let enough = under-suffices (s .args .x) (s .args .g) (s .args .settings) (s .args .asked) (s .args .span) (s .args .work-u32 .now) (s .args .work-u64 .now) (s .args .work-f64 .now) (s .pre .0) (s .pre .1 .0) (s .pre .1 .1) _ placed _ _ _ (f .stands) (c .before .before .before .before .before .before .before .before .before .before .before .before .before .before .before .before .before .before .before .before .before .before .before .before .before .before .before .before .before .before .work-u32 .given) (c .before .before .before .before .before .before .before .before .before .before .before .before .before .before .before .before .before .before .before .before .before .before .before .before .before .before .before .before .work-f64 .given) _ _ (c .before .before .before .before .before .before .before .before .before .before .before .before .before .before .before .before .before .before .before .before .before .before .before .before .lengths-by-count .ensures)
+    let fits = under-parents (s .args .x) (s .args .g) (s .args .settings) (s .args .count) (s .args .span) (s .args .work-u32 .now) (s .args .work-u64 .now) (s .args .work-f64 .now) (s .pre .0) (s .pre .1 .0) (s .pre .1 .1) _ placed _ _ _ (f .stands) (c .before .before .before .before .before .before .before .before .before .before .before .before .before .before .before .before .before .before .before .before .before .before .before .before .before .before .before .before .before .before .work-u32 .given) (c .before .before .before .before .before .before .before .before .before .before .before .before .before .before .before .before .before .before .before .before .before .before .before .before .before .before .before .before .work-f64 .given) _ _ (c .before .before .before .before .before .before .before .before .before .before .before .before .before .before .before .before .before .before .before .before .before .before .before .before .before .before .has-parents .ensures) ∙ not-false (c .before .before .before .before .before .before .before .before .before .before .before .before .before .before .before .before .before .before .before .before .before .before .before .before .before .before .has-parents .result) (c .before .before .before .before .before .before .before .before .before .before .before .before .before .before .before .before .before .before .before .before .before .before .before .before .before .if1 .left) in
+    let enough = under-suffices (s .args .x) (s .args .g) (s .args .settings) (s .args .count) (s .args .span) (s .args .work-u32 .now) (s .args .work-u64 .now) (s .args .work-f64 .now) (s .pre .0) (s .pre .1 .0) (s .pre .1 .1) _ placed _ _ _ (f .stands) (c .before .before .before .before .before .before .before .before .before .before .before .before .before .before .before .before .before .before .before .before .before .before .before .before .before .before .before .before .before .before .work-u32 .given) (c .before .before .before .before .before .before .before .before .before .before .before .before .before .before .before .before .before .before .before .before .before .before .before .before .before .before .before .before .work-f64 .given) _ _ (c .before .before .before .before .before .before .before .before .before .before .before .before .before .before .before .before .before .before .before .before .before .before .before .before .lengths-by-count .ensures)
     _ _ _ _ (c .before .before .before .before .before .before .before .before .before .before .before .before .before .before .before .before .before .before .before .search-by-count .ensures) (c .before .before .before .before .before .before .before .before .before .before .before .before .before .before .before .before .before .before .work-u322 .given) (c .before .before .before .before .before .before .before .before .before .before .before .before .before .before .before .before .work-u64 .given) _ (c .before .before .before .before .before .before .before .before .before .before .is-enough .ensures) ∙ c .before .before .before .before .before .before .before .before .before .if2 .taken in
-    count-first (s .args .x) (s .args .g) (s .args .settings) (s .args .asked) (s .args .span) (s .args .work-u32 .now) (s .args .work-u64 .now) (s .args .work-f64 .now) (s .pre .0) (s .pre .1 .0) (s .pre .1 .1) (c .before .before .before .before .before .before .before .before .before .before .before .before .before .before .before .before .before .before .before .before .before .before .before .before .before .before .before .before .before .before .before .before .before .before .maximum .result) (c .before .before .before .before .before .before .before .before .before .before .before .before .before .before .before .before .before .before .before .before .before .before .before .before .before .before .before .before .before .before .before .before .before .before .maximum .ensures) _ out fits enough _
-    (under-handed (s .args .x) (s .args .g) (s .args .settings) (s .args .asked) (s .args .span) (s .args .work-u32 .now) (s .args .work-u64 .now) (s .args .work-f64 .now) (s .pre .0) (s .pre .1 .0) (s .pre .1 .1) _ placed _ _ _ (f .stands) (c .before .before .before .before .before .before .before .before .before .before .before .before .before .before .before .before .before .before .before .before .before .before .before .before .before .before .before .before .before .before .work-u32 .given) (c .before .before .before .before .before .before .before .before .before .before .before .before .before .before .before .before .before .before .before .before .before .before .before .before .before .before .before .before .work-f64 .given) _ _ (c .before .before .before .before .before .before .before .before .before .before .before .before .before .before .before .before .before .before .before .before .before .before .before .before .lengths-by-count .ensures)
+    count-first (s .args .x) (s .args .g) (s .args .settings) (s .args .count) (s .args .span) (s .args .work-u32 .now) (s .args .work-u64 .now) (s .args .work-f64 .now) (s .pre .0) (s .pre .1 .0) (s .pre .1 .1) (c .before .before .before .before .before .before .before .before .before .before .before .before .before .before .before .before .before .before .before .before .before .before .before .before .before .before .before .before .before .before .before .before .before .before .maximum .result) (c .before .before .before .before .before .before .before .before .before .before .before .before .before .before .before .before .before .before .before .before .before .before .before .before .before .before .before .before .before .before .before .before .before .before .maximum .ensures) _ out fits enough _
+    (under-handed (s .args .x) (s .args .g) (s .args .settings) (s .args .count) (s .args .span) (s .args .work-u32 .now) (s .args .work-u64 .now) (s .args .work-f64 .now) (s .pre .0) (s .pre .1 .0) (s .pre .1 .1) _ placed _ _ _ (f .stands) (c .before .before .before .before .before .before .before .before .before .before .before .before .before .before .before .before .before .before .before .before .before .before .before .before .before .before .before .before .before .before .work-u32 .given) (c .before .before .before .before .before .before .before .before .before .before .before .before .before .before .before .before .before .before .before .before .before .before .before .before .before .before .before .before .work-f64 .given) _ _ (c .before .before .before .before .before .before .before .before .before .before .before .before .before .before .before .before .before .before .before .before .before .before .before .before .lengths-by-count .ensures)
     _ _ _ _ (c .before .before .before .before .before .before .before .before .before .before .before .before .before .before .before .before .before .before .before .search-by-count .ensures) (c .before .before .before .before .before .before .before .before .before .before .before .before .before .before .before .before .before .before .work-u322 .given) (c .before .before .before .before .before .before .before .before .before .before .before .before .before .before .before .before .work-u64 .given) (c .before .before .before .before .before .before .before .before .before .before .before .before .before .before .before .before .before .before .before .before .before .before .before .before .before .before .before .before .before .before .before .before .before .before .maximum .result) (c .before .before .before .before .before .before .before .before .before .before .before .before .before .before .before .before .before .before .before .before .before .before .before .before .before .before .before .before .before .before .before .before .before .before .maximum .ensures) out _ (c .before .before .before .before .hand-out-held .ensures))
 
 plan-after-requires : tie.Need-plan-after-requires
@@ -105,9 +105,9 @@ plan-after-requires c κs =
     let s = c .before .before .before .before .before .before .before .before .before .before .before .before .before .before .before .before .before .before .before .before .before .before .before .before .before .before .before .before .before .before .before .before .before .before .before .before .before .before in
     let e = c .before .before .before .before .before .before .before .before .before .before .before .before .before .before .before .before .before .before .before .before .before .before .before .before .before .before .before .before .collect .ensures in
     let f = collected-in (s .args .x) (s .args .g) (s .args .span) (s .args .work-u32 .now) (s .args .work-f64 .now) (s .pre .0) (room-collects (s .pre .1 .0)) _ _ _ (e .0) (e .1 .0) (e .1 .1) in
-    let placed = none-placed (s .args .x) (s .args .g) (s .args .settings) (s .args .asked) (s .args .span) (s .args .work-u32 .now) (s .args .work-u64 .now) (s .args .work-f64 .now) (s .pre .0) (s .pre .1 .0) (s .pre .1 .1) in
+    let placed = none-placed (s .args .x) (s .args .g) (s .args .settings) (s .args .count) (s .args .span) (s .args .work-u32 .now) (s .args .work-u64 .now) (s .args .work-f64 .now) (s .pre .0) (s .pre .1 .0) (s .pre .1 .1) in
     let out = outputOf (s .args .pieces .now) (s .args .cuts .now) in (
-      kept-held (s .args .x) (s .args .g) (s .args .settings) (s .args .asked) (s .args .span) (s .args .work-u32 .now) (s .args .work-u64 .now) (s .args .work-f64 .now) (s .pre .0) (s .pre .1 .0) (s .pre .1 .1) _ _ (under-front (s .args .x) (s .args .g) (s .args .settings) (s .args .asked) (s .args .span) (s .args .work-u32 .now) (s .args .work-u64 .now) (s .args .work-f64 .now) (s .pre .0) (s .pre .1 .0) (s .pre .1 .1) _ placed _ _ _ (f .stands) (c .before .before .before .before .before .before .before .before .before .before .before .before .before .before .before .before .before .before .before .before .before .before .before .before .before .before .before .work-u32 .given) (c .before .before .before .before .before .before .before .before .before .before .before .before .before .before .before .before .before .before .before .before .before .before .before .before .before .work-f64 .given) _ _ (c .before .before .before .before .before .before .before .before .before .before .before .before .before .before .before .before .before .before .before .before .before .lengths-by-count .ensures) _ _ _ _ (c .before .before .before .before .before .before .before .before .before .before .before .before .before .before .before .before .search-by-count .ensures) (c .before .before .before .before .before .before .before .before .before .before .before .before .before .before .before .work-u322 .given) (c .before .before .before .before .before .before .before .before .before .before .before .before .before .work-u64 .given) ∙ f .front) (under-levels (s .args .x) (s .args .g) (s .args .settings) (s .args .asked) (s .args .span) (s .args .work-u32 .now) (s .args .work-u64 .now) (s .args .work-f64 .now) (s .pre .0) (s .pre .1 .0) (s .pre .1 .1) _ placed _ _ _ (f .stands) (c .before .before .before .before .before .before .before .before .before .before .before .before .before .before .before .before .before .before .before .before .before .before .before .before .before .before .before .work-u32 .given) (c .before .before .before .before .before .before .before .before .before .before .before .before .before .before .before .before .before .before .before .before .before .before .before .before .before .work-f64 .given) _ _ (c .before .before .before .before .before .before .before .before .before .before .before .before .before .before .before .before .before .before .before .before .before .lengths-by-count .ensures) _ _ _ _ (c .before .before .before .before .before .before .before .before .before .before .before .before .before .before .before .before .search-by-count .ensures) (c .before .before .before .before .before .before .before .before .before .before .before .before .before .before .before .work-u322 .given) (c .before .before .before .before .before .before .before .before .before .before .before .before .before .work-u64 .given) ∙ f .levels),
+      kept-held (s .args .x) (s .args .g) (s .args .settings) (s .args .count) (s .args .span) (s .args .work-u32 .now) (s .args .work-u64 .now) (s .args .work-f64 .now) (s .pre .0) (s .pre .1 .0) (s .pre .1 .1) _ _ (under-front (s .args .x) (s .args .g) (s .args .settings) (s .args .count) (s .args .span) (s .args .work-u32 .now) (s .args .work-u64 .now) (s .args .work-f64 .now) (s .pre .0) (s .pre .1 .0) (s .pre .1 .1) _ placed _ _ _ (f .stands) (c .before .before .before .before .before .before .before .before .before .before .before .before .before .before .before .before .before .before .before .before .before .before .before .before .before .before .before .work-u32 .given) (c .before .before .before .before .before .before .before .before .before .before .before .before .before .before .before .before .before .before .before .before .before .before .before .before .before .work-f64 .given) _ _ (c .before .before .before .before .before .before .before .before .before .before .before .before .before .before .before .before .before .before .before .before .before .lengths-by-count .ensures) _ _ _ _ (c .before .before .before .before .before .before .before .before .before .before .before .before .before .before .before .before .search-by-count .ensures) (c .before .before .before .before .before .before .before .before .before .before .before .before .before .before .before .work-u322 .given) (c .before .before .before .before .before .before .before .before .before .before .before .before .before .work-u64 .given) ∙ f .front) (under-levels (s .args .x) (s .args .g) (s .args .settings) (s .args .count) (s .args .span) (s .args .work-u32 .now) (s .args .work-u64 .now) (s .args .work-f64 .now) (s .pre .0) (s .pre .1 .0) (s .pre .1 .1) _ placed _ _ _ (f .stands) (c .before .before .before .before .before .before .before .before .before .before .before .before .before .before .before .before .before .before .before .before .before .before .before .before .before .before .before .work-u32 .given) (c .before .before .before .before .before .before .before .before .before .before .before .before .before .before .before .before .before .before .before .before .before .before .before .before .before .work-f64 .given) _ _ (c .before .before .before .before .before .before .before .before .before .before .before .before .before .before .before .before .before .before .before .before .before .lengths-by-count .ensures) _ _ _ _ (c .before .before .before .before .before .before .before .before .before .before .before .before .before .before .before .before .search-by-count .ensures) (c .before .before .before .before .before .before .before .before .before .before .before .before .before .before .before .work-u322 .given) (c .before .before .before .before .before .before .before .before .before .before .before .before .before .work-u64 .given) ∙ f .levels),
       (
         room-stays (s .pre .1 .0) (c .before .before .before .before .before .before .before .before .before .before .before .before .before .before .before .work-u322 .given ∙ c .before .before .before .before .before .before .before .before .before .before .before .before .before .before .before .before .before .before .before .before .before .before .before .before .before .before .before .work-u32 .given) (c .before .before .before .before .before .before .before .before .before .before .before .before .before .work-u64 .given) (c .before .before .before .before .before .before .before .before .before .before .before .work-f642 .given ∙ c .before .before .before .before .before .before .before .before .before .before .before .before .before .before .before .before .before .before .before .before .before .before .before .before .before .work-f64 .given),
         s .pre .1 .1,
@@ -137,12 +137,12 @@ returns-3 c =
     let s = c .before .before .before .before .before .before .before .before .before .before .before .before .before .before .before .before .before .before .before .before .before .before .before .before .before .before .before .before .before .before .before .before .before .before .before .before .before .before .before .before .before .before .before .before .before .before .before .before .before .before .before in
     let e = c .before .before .before .before .before .before .before .before .before .before .before .before .before .before .before .before .before .before .before .before .before .before .before .before .before .before .before .before .before .before .before .before .before .before .before .before .before .before .before .before .before .collect .ensures in
     let f = collected-in (s .args .x) (s .args .g) (s .args .span) (s .args .work-u32 .now) (s .args .work-f64 .now) (s .pre .0) (room-collects (s .pre .1 .0)) _ _ _ (e .0) (e .1 .0) (e .1 .1) in
-    let placed = none-placed (s .args .x) (s .args .g) (s .args .settings) (s .args .asked) (s .args .span) (s .args .work-u32 .now) (s .args .work-u64 .now) (s .args .work-f64 .now) (s .pre .0) (s .pre .1 .0) (s .pre .1 .1) in
+    let placed = none-placed (s .args .x) (s .args .g) (s .args .settings) (s .args .count) (s .args .span) (s .args .work-u32 .now) (s .args .work-u64 .now) (s .args .work-f64 .now) (s .pre .0) (s .pre .1 .0) (s .pre .1 .1) in
     let out = outputOf (s .args .pieces .now) (s .args .cuts .now) in
-    let fits = under-parents (s .args .x) (s .args .g) (s .args .settings) (s .args .asked) (s .args .span) (s .args .work-u32 .now) (s .args .work-u64 .now) (s .args .work-f64 .now) (s .pre .0) (s .pre .1 .0) (s .pre .1 .1) _ placed _ _ _ (f .stands) (c .before .before .before .before .before .before .before .before .before .before .before .before .before .before .before .before .before .before .before .before .before .before .before .before .before .before .before .before .before .before .before .before .before .before .before .before .before .before .before .before .work-u32 .given) (c .before .before .before .before .before .before .before .before .before .before .before .before .before .before .before .before .before .before .before .before .before .before .before .before .before .before .before .before .before .before .before .before .before .before .before .before .before .before .work-f64 .given) _ _ (c .before .before .before .before .before .before .before .before .before .before .before .before .before .before .before .before .before .before .before .before .before .before .before .before .before .before .before .before .before .before .before .before .before .before .before .before .has-parents .ensures) ∙ not-false (c .before .before .before .before .before .before .before .before .before .before .before .before .before .before .before .before .before .before .before .before .before .before .before .before .before .before .before .before .before .before .before .before .before .before .before .before .has-parents .result) (c .before .before .before .before .before .before .before .before .before .before .before .before .before .before .before .before .before .before .before .before .before .before .before .before .before .before .before .before .before .before .before .before .before .before .before .if1 .left) in
-    let enough = under-suffices (s .args .x) (s .args .g) (s .args .settings) (s .args .asked) (s .args .span) (s .args .work-u32 .now) (s .args .work-u64 .now) (s .args .work-f64 .now) (s .pre .0) (s .pre .1 .0) (s .pre .1 .1) _ placed _ _ _ (f .stands) (c .before .before .before .before .before .before .before .before .before .before .before .before .before .before .before .before .before .before .before .before .before .before .before .before .before .before .before .before .before .before .before .before .before .before .before .before .before .before .before .before .work-u32 .given) (c .before .before .before .before .before .before .before .before .before .before .before .before .before .before .before .before .before .before .before .before .before .before .before .before .before .before .before .before .before .before .before .before .before .before .before .before .before .before .work-f64 .given) _ _ (c .before .before .before .before .before .before .before .before .before .before .before .before .before .before .before .before .before .before .before .before .before .before .before .before .before .before .before .before .before .before .before .before .before .before .lengths-by-count .ensures) _ _ _ _ (c .before .before .before .before .before .before .before .before .before .before .before .before .before .before .before .before .before .before .before .before .before .before .before .before .before .before .before .before .before .search-by-count .ensures) (c .before .before .before .before .before .before .before .before .before .before .before .before .before .before .before .before .before .before .before .before .before .before .before .before .before .before .before .before .work-u322 .given) (c .before .before .before .before .before .before .before .before .before .before .before .before .before .before .before .before .before .before .before .before .before .before .before .before .before .before .work-u64 .given) _ (c .before .before .before .before .before .before .before .before .before .before .before .before .before .before .before .before .before .before .before .before .is-enough .ensures) ∙ c .before .before .before .before .before .before .before .before .before .before .before .before .before .before .before .before .before .before .before .if2 .left in
-    count-second (s .args .x) (s .args .g) (s .args .settings) (s .args .asked) (s .args .span) (s .args .work-u32 .now) (s .args .work-u64 .now) (s .args .work-f64 .now) (s .pre .0) (s .pre .1 .0) (s .pre .1 .1) (c .before .before .before .before .before .before .before .before .before .before .before .before .before .before .before .before .before .before .before .before .before .before .before .before .before .before .before .before .before .before .before .before .before .before .before .before .before .before .before .before .before .before .before .before .maximum .result) (c .before .before .before .before .before .before .before .before .before .before .before .before .before .before .before .before .before .before .before .before .before .before .before .before .before .before .before .before .before .before .before .before .before .before .before .before .before .before .before .before .before .before .before .before .maximum .ensures) _ out fits enough _
-    (kept-after (s .args .x) (s .args .g) (s .args .settings) (s .args .asked) (s .args .span) (s .args .work-u32 .now) (s .args .work-u64 .now) (s .args .work-f64 .now) (s .pre .0) (s .pre .1 .0) (s .pre .1 .1) _ _ (under-front (s .args .x) (s .args .g) (s .args .settings) (s .args .asked) (s .args .span) (s .args .work-u32 .now) (s .args .work-u64 .now) (s .args .work-f64 .now) (s .pre .0) (s .pre .1 .0) (s .pre .1 .1) _ placed _ _ _ (f .stands) (c .before .before .before .before .before .before .before .before .before .before .before .before .before .before .before .before .before .before .before .before .before .before .before .before .before .before .before .before .before .before .before .before .before .before .before .before .before .before .before .before .work-u32 .given) (c .before .before .before .before .before .before .before .before .before .before .before .before .before .before .before .before .before .before .before .before .before .before .before .before .before .before .before .before .before .before .before .before .before .before .before .before .before .before .work-f64 .given) _ _ (c .before .before .before .before .before .before .before .before .before .before .before .before .before .before .before .before .before .before .before .before .before .before .before .before .before .before .before .before .before .before .before .before .before .before .lengths-by-count .ensures) _ _ _ _ (c .before .before .before .before .before .before .before .before .before .before .before .before .before .before .before .before .before .before .before .before .before .before .before .before .before .before .before .before .before .search-by-count .ensures) (c .before .before .before .before .before .before .before .before .before .before .before .before .before .before .before .before .before .before .before .before .before .before .before .before .before .before .before .before .work-u322 .given) (c .before .before .before .before .before .before .before .before .before .before .before .before .before .before .before .before .before .before .before .before .before .before .before .before .before .before .work-u64 .given) ∙ f .front) (under-levels (s .args .x) (s .args .g) (s .args .settings) (s .args .asked) (s .args .span) (s .args .work-u32 .now) (s .args .work-u64 .now) (s .args .work-f64 .now) (s .pre .0) (s .pre .1 .0) (s .pre .1 .1) _ placed _ _ _ (f .stands) (c .before .before .before .before .before .before .before .before .before .before .before .before .before .before .before .before .before .before .before .before .before .before .before .before .before .before .before .before .before .before .before .before .before .before .before .before .before .before .before .before .work-u32 .given) (c .before .before .before .before .before .before .before .before .before .before .before .before .before .before .before .before .before .before .before .before .before .before .before .before .before .before .before .before .before .before .before .before .before .before .before .before .before .before .work-f64 .given) _ _ (c .before .before .before .before .before .before .before .before .before .before .before .before .before .before .before .before .before .before .before .before .before .before .before .before .before .before .before .before .before .before .before .before .before .before .lengths-by-count .ensures) _ _ _ _ (c .before .before .before .before .before .before .before .before .before .before .before .before .before .before .before .before .before .before .before .before .before .before .before .before .before .before .before .before .before .search-by-count .ensures) (c .before .before .before .before .before .before .before .before .before .before .before .before .before .before .before .before .before .before .before .before .before .before .before .before .before .before .before .before .work-u322 .given) (c .before .before .before .before .before .before .before .before .before .before .before .before .before .before .before .before .before .before .before .before .before .before .before .before .before .before .work-u64 .given) ∙ f .levels) _ _ (c .before .before .before .before .before .before .before .before .before .before .before .before .before .before .before .before .before .before .before .before .before .before .parent .given) out _ (c .before .before .before .before .before .before .before .before .before .before .before .before .plan-after .ensures))
+    let fits = under-parents (s .args .x) (s .args .g) (s .args .settings) (s .args .count) (s .args .span) (s .args .work-u32 .now) (s .args .work-u64 .now) (s .args .work-f64 .now) (s .pre .0) (s .pre .1 .0) (s .pre .1 .1) _ placed _ _ _ (f .stands) (c .before .before .before .before .before .before .before .before .before .before .before .before .before .before .before .before .before .before .before .before .before .before .before .before .before .before .before .before .before .before .before .before .before .before .before .before .before .before .before .before .work-u32 .given) (c .before .before .before .before .before .before .before .before .before .before .before .before .before .before .before .before .before .before .before .before .before .before .before .before .before .before .before .before .before .before .before .before .before .before .before .before .before .before .work-f64 .given) _ _ (c .before .before .before .before .before .before .before .before .before .before .before .before .before .before .before .before .before .before .before .before .before .before .before .before .before .before .before .before .before .before .before .before .before .before .before .before .has-parents .ensures) ∙ not-false (c .before .before .before .before .before .before .before .before .before .before .before .before .before .before .before .before .before .before .before .before .before .before .before .before .before .before .before .before .before .before .before .before .before .before .before .before .has-parents .result) (c .before .before .before .before .before .before .before .before .before .before .before .before .before .before .before .before .before .before .before .before .before .before .before .before .before .before .before .before .before .before .before .before .before .before .before .if1 .left) in
+    let enough = under-suffices (s .args .x) (s .args .g) (s .args .settings) (s .args .count) (s .args .span) (s .args .work-u32 .now) (s .args .work-u64 .now) (s .args .work-f64 .now) (s .pre .0) (s .pre .1 .0) (s .pre .1 .1) _ placed _ _ _ (f .stands) (c .before .before .before .before .before .before .before .before .before .before .before .before .before .before .before .before .before .before .before .before .before .before .before .before .before .before .before .before .before .before .before .before .before .before .before .before .before .before .before .before .work-u32 .given) (c .before .before .before .before .before .before .before .before .before .before .before .before .before .before .before .before .before .before .before .before .before .before .before .before .before .before .before .before .before .before .before .before .before .before .before .before .before .before .work-f64 .given) _ _ (c .before .before .before .before .before .before .before .before .before .before .before .before .before .before .before .before .before .before .before .before .before .before .before .before .before .before .before .before .before .before .before .before .before .before .lengths-by-count .ensures) _ _ _ _ (c .before .before .before .before .before .before .before .before .before .before .before .before .before .before .before .before .before .before .before .before .before .before .before .before .before .before .before .before .before .search-by-count .ensures) (c .before .before .before .before .before .before .before .before .before .before .before .before .before .before .before .before .before .before .before .before .before .before .before .before .before .before .before .before .work-u322 .given) (c .before .before .before .before .before .before .before .before .before .before .before .before .before .before .before .before .before .before .before .before .before .before .before .before .before .before .work-u64 .given) _ (c .before .before .before .before .before .before .before .before .before .before .before .before .before .before .before .before .before .before .before .before .is-enough .ensures) ∙ c .before .before .before .before .before .before .before .before .before .before .before .before .before .before .before .before .before .before .before .if2 .left in
+    count-second (s .args .x) (s .args .g) (s .args .settings) (s .args .count) (s .args .span) (s .args .work-u32 .now) (s .args .work-u64 .now) (s .args .work-f64 .now) (s .pre .0) (s .pre .1 .0) (s .pre .1 .1) (c .before .before .before .before .before .before .before .before .before .before .before .before .before .before .before .before .before .before .before .before .before .before .before .before .before .before .before .before .before .before .before .before .before .before .before .before .before .before .before .before .before .before .before .before .maximum .result) (c .before .before .before .before .before .before .before .before .before .before .before .before .before .before .before .before .before .before .before .before .before .before .before .before .before .before .before .before .before .before .before .before .before .before .before .before .before .before .before .before .before .before .before .before .maximum .ensures) _ out fits enough _
+    (kept-after (s .args .x) (s .args .g) (s .args .settings) (s .args .count) (s .args .span) (s .args .work-u32 .now) (s .args .work-u64 .now) (s .args .work-f64 .now) (s .pre .0) (s .pre .1 .0) (s .pre .1 .1) _ _ (under-front (s .args .x) (s .args .g) (s .args .settings) (s .args .count) (s .args .span) (s .args .work-u32 .now) (s .args .work-u64 .now) (s .args .work-f64 .now) (s .pre .0) (s .pre .1 .0) (s .pre .1 .1) _ placed _ _ _ (f .stands) (c .before .before .before .before .before .before .before .before .before .before .before .before .before .before .before .before .before .before .before .before .before .before .before .before .before .before .before .before .before .before .before .before .before .before .before .before .before .before .before .before .work-u32 .given) (c .before .before .before .before .before .before .before .before .before .before .before .before .before .before .before .before .before .before .before .before .before .before .before .before .before .before .before .before .before .before .before .before .before .before .before .before .before .before .work-f64 .given) _ _ (c .before .before .before .before .before .before .before .before .before .before .before .before .before .before .before .before .before .before .before .before .before .before .before .before .before .before .before .before .before .before .before .before .before .before .lengths-by-count .ensures) _ _ _ _ (c .before .before .before .before .before .before .before .before .before .before .before .before .before .before .before .before .before .before .before .before .before .before .before .before .before .before .before .before .before .search-by-count .ensures) (c .before .before .before .before .before .before .before .before .before .before .before .before .before .before .before .before .before .before .before .before .before .before .before .before .before .before .before .before .work-u322 .given) (c .before .before .before .before .before .before .before .before .before .before .before .before .before .before .before .before .before .before .before .before .before .before .before .before .before .before .work-u64 .given) ∙ f .front) (under-levels (s .args .x) (s .args .g) (s .args .settings) (s .args .count) (s .args .span) (s .args .work-u32 .now) (s .args .work-u64 .now) (s .args .work-f64 .now) (s .pre .0) (s .pre .1 .0) (s .pre .1 .1) _ placed _ _ _ (f .stands) (c .before .before .before .before .before .before .before .before .before .before .before .before .before .before .before .before .before .before .before .before .before .before .before .before .before .before .before .before .before .before .before .before .before .before .before .before .before .before .before .before .work-u32 .given) (c .before .before .before .before .before .before .before .before .before .before .before .before .before .before .before .before .before .before .before .before .before .before .before .before .before .before .before .before .before .before .before .before .before .before .before .before .before .before .work-f64 .given) _ _ (c .before .before .before .before .before .before .before .before .before .before .before .before .before .before .before .before .before .before .before .before .before .before .before .before .before .before .before .before .before .before .before .before .before .before .lengths-by-count .ensures) _ _ _ _ (c .before .before .before .before .before .before .before .before .before .before .before .before .before .before .before .before .before .before .before .before .before .before .before .before .before .before .before .before .before .search-by-count .ensures) (c .before .before .before .before .before .before .before .before .before .before .before .before .before .before .before .before .before .before .before .before .before .before .before .before .before .before .before .before .work-u322 .given) (c .before .before .before .before .before .before .before .before .before .before .before .before .before .before .before .before .before .before .before .before .before .before .before .before .before .before .work-u64 .given) ∙ f .levels) _ _ (c .before .before .before .before .before .before .before .before .before .before .before .before .before .before .before .before .before .before .before .before .before .before .parent .given) out _ (c .before .before .before .before .before .before .before .before .before .before .before .before .plan-after .ensures))
 
 pub plan-by-count-spec : {M : Type 1} → statement M
 plan-by-count-spec =

@@ -33,8 +33,8 @@ mark-cuts-requires c κs = let s = c .before .before .before .before .before .be
 collect-requires : tie.Need-collect-requires
 collect-requires c κs =
     let s = c .before .before .before .before .before .before .before .before .before .before .before .before .before .before .before in
-    let is = sought-is (s .args .x) (s .args .g) (s .args .span) (s .args .work-u32 .now) (s .args .work-f64 .now) (s .pre .0) (s .pre .1 .0) (s .args .max) (s .args .asked) _ _ (c .before .before .before .before .before .before .before .before .before .reach .ensures) (c .before .before .before .before .before .before .before .sought .given .1) in
-    collectable (s .args .x) (s .args .g) (s .args .span) _ _ (count-held (s .args .x) (s .args .g) (s .args .span) (s .args .work-u32 .now) (s .args .work-f64 .now) (s .pre .0) (s .pre .1 .0) (s .args .max) (s .args .asked) _ (s .pre .1 .1) is _ (c .before .before .before .before .mark-cuts .ensures))
+    let is = sought-is (s .args .x) (s .args .g) (s .args .span) (s .args .work-u32 .now) (s .args .work-f64 .now) (s .pre .0) (s .pre .1 .0) (s .args .max) (s .args .count) _ _ (c .before .before .before .before .before .before .before .before .before .reach .ensures) (c .before .before .before .before .before .before .before .sought .given .1) in
+    collectable (s .args .x) (s .args .g) (s .args .span) _ _ (count-held (s .args .x) (s .args .g) (s .args .span) (s .args .work-u32 .now) (s .args .work-f64 .now) (s .pre .0) (s .pre .1 .0) (s .args .max) (s .args .count) _ (s .pre .1 .1) is _ (c .before .before .before .before .mark-cuts .ensures))
     (record { u32s = omega (arith, s .pre .1 .0 .u32s, c .before .before .before .work-u32 .given); f64s = s .pre .1 .0 .f64s })
 
 same-length : tie.Need-same-length
@@ -43,7 +43,7 @@ same-length c = search needs
 returns : tie.Need-returns
 returns c =
     let s = c .before .before .before .before .before .before .before .before in
-    record { says = sought-is (s .args .x) (s .args .g) (s .args .span) (s .args .work-u32 .now) (s .args .work-f64 .now) (s .pre .0) (s .pre .1 .0) (s .args .max) (s .args .asked) _ _ (c .before .before .reach .ensures) (c .enum-told .given .1) }
+    record { says = sought-is (s .args .x) (s .args .g) (s .args .span) (s .args .work-u32 .now) (s .args .work-f64 .now) (s .pre .0) (s .pre .1 .0) (s .args .max) (s .args .count) _ _ (c .before .before .reach .ensures) (c .enum-told .given .1) }
 
 same-length-2 : tie.Need-same-length-2
 same-length-2 c = search needs
@@ -54,14 +54,14 @@ same-length-3 c = search needs
 returns-2 : tie.Need-returns-2
 returns-2 c =
     let s = c .before .before .before .before .before .before .before .before .before .before .before .before .before .before .before .before .before .before .before .before in
-    let is = sought-is (s .args .x) (s .args .g) (s .args .span) (s .args .work-u32 .now) (s .args .work-f64 .now) (s .pre .0) (s .pre .1 .0) (s .args .max) (s .args .asked) _ _ (c .before .before .before .before .before .before .before .before .before .before .before .before .before .before .reach .ensures) (c .before .before .before .before .before .before .before .before .before .before .before .before .sought .given .1) in
+    let is = sought-is (s .args .x) (s .args .g) (s .args .span) (s .args .work-u32 .now) (s .args .work-f64 .now) (s .pre .0) (s .pre .1 .0) (s .args .max) (s .args .count) _ _ (c .before .before .before .before .before .before .before .before .before .before .before .before .before .before .reach .ensures) (c .before .before .before .before .before .before .before .before .before .before .before .before .sought .given .1) in
     let e = c .before .before .before .before .collect .ensures in
     record {
       says = (
         is,
-        named-stands (s .args .x) (s .args .g) (s .args .span) _ _ (count-held (s .args .x) (s .args .g) (s .args .span) (s .args .work-u32 .now) (s .args .work-f64 .now) (s .pre .0) (s .pre .1 .0) (s .args .max) (s .args .asked) _ (s .pre .1 .1) is _ (c .before .before .before .before .before .before .before .before .before .mark-cuts .ensures))
+        named-stands (s .args .x) (s .args .g) (s .args .span) _ _ (count-held (s .args .x) (s .args .g) (s .args .span) (s .args .work-u32 .now) (s .args .work-f64 .now) (s .pre .0) (s .pre .1 .0) (s .args .max) (s .args .count) _ (s .pre .1 .1) is _ (c .before .before .before .before .before .before .before .before .before .mark-cuts .ensures))
             (record { u32s = omega (arith, s .pre .1 .0 .u32s, c .before .before .before .before .before .before .before .before .work-u32 .given); f64s = s .pre .1 .0 .f64s })
-            _ (count-with (s .args .x) (s .args .g) (s .args .span) (s .args .work-u32 .now) (s .args .work-f64 .now) (s .pre .0) (s .pre .1 .0) (s .args .max) (s .args .asked) _ (s .pre .1 .1) is _ (c .before .before .before .before .before .before .before .before .before .mark-cuts .ensures)) _ _ _ (e .0) (e .1 .0) (e .1 .1),
+            _ (count-with (s .args .x) (s .args .g) (s .args .span) (s .args .work-u32 .now) (s .args .work-f64 .now) (s .pre .0) (s .pre .1 .0) (s .args .max) (s .args .count) _ (s .pre .1 .1) is _ (c .before .before .before .before .before .before .before .before .before .mark-cuts .ensures)) _ _ _ (e .0) (e .1 .0) (e .1 .1),
       );
     }
 

@@ -31,7 +31,7 @@ mark-far-requires c κs = search needs
 mark-shares-requires : tie.Need-mark-shares-requires
 mark-shares-requires c κs =
     let s = c .before .before .before .before .before .before .before .before .before .before .before .before .before in
-    (shares-room (s .args .x) (s .args .asked) (s .args .limit) (s .args .work-u32 .now) (s .pre .0) _ (c .before .before .before .before .before .before .before .before .before .before .marks-at .ensures) (s .pre .1) _ _ (c .before .before .before .before .before .before .kept-frames .ensures) (c .before .before .before .before .before .lesser .ensures) _ (c .before .before .before .mark-far .ensures), sharable (s .args .x) (s .args .asked) (s .args .limit) (s .args .work-u32 .now) (s .pre .0) _ (c .before .before .before .before .before .before .before .before .before .before .marks-at .ensures) (s .pre .1) _ _ (c .before .before .before .before .before .before .kept-frames .ensures) (c .before .before .before .before .before .lesser .ensures) _ (c .before .before .before .mark-far .ensures))
+    (shares-room (s .args .x) (s .args .count) (s .args .limit) (s .args .work-u32 .now) (s .pre .0) _ (c .before .before .before .before .before .before .before .before .before .before .marks-at .ensures) (s .pre .1) _ _ (c .before .before .before .before .before .before .kept-frames .ensures) (c .before .before .before .before .before .lesser .ensures) _ (c .before .before .before .mark-far .ensures), sharable (s .args .x) (s .args .count) (s .args .limit) (s .args .work-u32 .now) (s .pre .0) _ (c .before .before .before .before .before .before .before .before .before .before .marks-at .ensures) (s .pre .1) _ _ (c .before .before .before .before .before .before .kept-frames .ensures) (c .before .before .before .before .before .lesser .ensures) _ (c .before .before .before .mark-far .ensures))
 
 same-length : tie.Need-same-length
 same-length c = search needs
@@ -39,7 +39,7 @@ same-length c = search needs
 returns : tie.Need-returns
 returns c =
     let s = c .before .before .before .before .before .before .before .before .before .before .before .before .before .before .before .before in
-    all-marked (s .args .x) (s .args .asked) (s .args .limit) (s .args .work-u32 .now) (s .pre .0) _ (c .before .before .before .before .before .before .before .before .before .before .before .before .before .marks-at .ensures) (s .pre .1) _ _ (c .before .before .before .before .before .before .before .before .before .kept-frames .ensures) (c .before .before .before .before .before .before .before .before .lesser .ensures) _ (c .before .before .before .before .before .before .mark-far .ensures) _ (c .before .before .mark-shares .ensures)
+    all-marked (s .args .x) (s .args .count) (s .args .limit) (s .args .work-u32 .now) (s .pre .0) _ (c .before .before .before .before .before .before .before .before .before .before .before .before .before .marks-at .ensures) (s .pre .1) _ _ (c .before .before .before .before .before .before .before .before .before .kept-frames .ensures) (c .before .before .before .before .before .before .before .before .lesser .ensures) _ (c .before .before .before .before .before .before .mark-far .ensures) _ (c .before .before .mark-shares .ensures)
 
 pub mark-cuts-spec : {M : Type 1} → statement M
 mark-cuts-spec =

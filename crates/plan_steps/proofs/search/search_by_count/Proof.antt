@@ -1,5 +1,5 @@
 -- `search::search_by_count`: once the positions are written, the search reads what is held of the candidates.
-use Rattle.plan_steps.specs.SearchLaws.{asked-positions, asked-room, asked-parents, found-by-count}
+use Rattle.plan_steps.specs.SearchLaws.{asked-positions, asked-room, asked-parents, searched-by-count}
 use borrow.Author.Needs.{needs}
 use Rattle.plan_steps.proofs.search.search_by_count.Statement.{statement}
 use Rattle.plan_steps.proofs.search.search_by_count.Tie as tie
@@ -15,7 +15,7 @@ search-by-count-requires c κs =
       asked-room (s .args .g) (s .args .k) (s .args .lengths) (s .args .work-u32 .now) (s .args .work-u64 .now) (s .args .work-f64 .now) _ (c .before .before .before .before .before .before .positions .ensures) (s .pre .0),
       (
         s .pre .1 .0,
-        asked-parents (s .args .g) (s .args .k) (s .args .lengths) (s .args .work-u32 .now) (s .args .work-u64 .now) (s .args .work-f64 .now) _ (c .before .before .before .before .before .before .positions .ensures) (s .pre .0) (s .args .asked) _ (s .pre .1 .1),
+        asked-parents (s .args .g) (s .args .k) (s .args .lengths) (s .args .work-u32 .now) (s .args .work-u64 .now) (s .args .work-f64 .now) _ (c .before .before .before .before .before .before .positions .ensures) (s .pre .0) (s .args .count) _ (s .pre .1 .1),
       ),
     )
 
@@ -35,7 +35,7 @@ returns : tie.Need-returns
 returns c =
     let s = c .before .before .before .before .before .before .before .before .before .before .before .before .before .before .before .before .before .before .before .before in
     let e = c .before .before .before .before .before .before .search-by-count .ensures in
-    found-by-count (s .args .g) (s .args .k) (s .args .lengths) (s .args .work-u32 .now) (s .args .work-u64 .now) (s .args .work-f64 .now) _ (c .before .before .before .before .before .before .before .before .before .before .before .before .before .positions .ensures) _ _ _ (e .1) (s .args .asked) (e .0)
+    searched-by-count (s .args .g) (s .args .k) (s .args .lengths) (s .args .work-u32 .now) (s .args .work-u64 .now) (s .args .work-f64 .now) _ (c .before .before .before .before .before .before .before .before .before .before .before .before .before .positions .ensures) _ _ _ (e .1) (s .args .count) (e .0)
 
 pub search-by-count-spec : {M : Type 1} → statement M
 search-by-count-spec =

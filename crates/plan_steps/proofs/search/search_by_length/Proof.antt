@@ -1,5 +1,5 @@
 -- `search::search_by_length`: once the positions are written, the search reads what is held of the candidates.
-use Rattle.plan_steps.specs.SearchLaws.{asked-positions, asked-room, found-by-length}
+use Rattle.plan_steps.specs.SearchLaws.{asked-positions, asked-room, searched-by-length}
 use borrow.Author.Needs.{needs}
 use Rattle.plan_steps.proofs.search.search_by_length.Statement.{statement}
 use Rattle.plan_steps.proofs.search.search_by_length.Tie as tie
@@ -27,7 +27,7 @@ returns : tie.Need-returns
 returns c =
     let s = c .before .before .before .before .before .before .before .before .before .before .before .before .before .before .before .before in
     let e = c .before .before .before .before .search-by-length .ensures in
-    found-by-length (s .args .g) (s .args .k) (s .args .lengths) (s .args .work-u32 .now) (s .args .work-u64 .now) (s .args .work-f64 .now) _ (c .before .before .before .before .before .before .before .before .before .before .positions .ensures) _ _ _ (e .1) (e .0)
+    searched-by-length (s .args .g) (s .args .k) (s .args .lengths) (s .args .work-u32 .now) (s .args .work-u64 .now) (s .args .work-f64 .now) _ (c .before .before .before .before .before .before .before .before .before .before .positions .ensures) _ _ _ (e .1) (e .0)
 
 pub search-by-length-spec : {M : Type 1} → statement M
 search-by-length-spec =
