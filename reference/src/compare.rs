@@ -123,7 +123,6 @@ fn report_in_order(reports: mpsc::Receiver<(usize, Tally)>) -> bool {
 }
 
 fn subjects() -> Vec<Subject> {
-    #[allow(unused_mut, reason = "a build without features adds none")]
     let mut all: Vec<Subject> = grid::subjects().chain(validate::subjects()).collect();
     #[cfg(feature = "silences")]
     all.extend(silences::subjects());
@@ -135,5 +134,7 @@ fn subjects() -> Vec<Subject> {
     all.extend(plan::subjects());
     #[cfg(feature = "jobs")]
     all.extend(jobs::subjects());
+    // From whole jobs down to the grid: the last ones are short, so that no core waits long.
+    all.reverse();
     all
 }

@@ -1,5 +1,3 @@
--- The program over its input and output: how input is read, and what it ends with.
-pub mod Input
-pub mod InputLaws
+-- The program over its input and output: what it makes of what it read, and what it ends with.
 pub mod Program
 pub mod ProgramLaws

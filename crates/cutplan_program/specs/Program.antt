@@ -8,9 +8,9 @@ use lib.ListN.{length, take}
 use Rattle.job.specs.Limits.{mostBytes}
 use Rattle.listing.specs.Listing.{refusalLine}
 use Rattle.cutplan.specs.Cutplan.{cutplanOf, refusedIn}
-use Rattle.cutplan_program.specs.Input.{Reads}
-use Rattle.cutplan_program.specs.declared.input.Input.{Input}
-use Rattle.cutplan_program.specs.declared.input.Input.the-variants.{Read, Failed}
+use Rattle.input_reader.specs.Input.{Reads}
+use Rattle.input_reader.specs.declared.input.Input.{Input}
+use Rattle.input_reader.specs.declared.input.Input.the-variants.{Read, Failed}
 
 -- what is printed for a list that input was read to: `cutplanOf` of the bytes that were read, or 19 where a read failed
 abbrev pub printedAfter : Input → List ℕ → List ℕ

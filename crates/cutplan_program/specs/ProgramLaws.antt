@@ -13,10 +13,10 @@ use Rattle.job.specs.declared.answer.Reading.the-variants.{Refused}
 use Rattle.listing.specs.Listing.{refusalLine}
 use Rattle.cutplan.specs.Cutplan.{cutplanOf, refusedIn}
 use Rattle.cutplan.specs.CutplanLaws.{fault-printed, fault-refused}
-use Rattle.cutplan_program.specs.Input.{FitsIn, Reads}
+use Rattle.input_reader.specs.Input.{FitsIn, Reads}
 use Rattle.cutplan_program.specs.Program.{printedAfter, refusedAfter, IsStatus, Ran}
-use Rattle.cutplan_program.specs.declared.input.Input.{Input}
-use Rattle.cutplan_program.specs.declared.input.Input.the-variants.{Read, Failed}
+use Rattle.input_reader.specs.declared.input.Input.{Input}
+use Rattle.input_reader.specs.declared.input.Input.the-variants.{Read, Failed}
 
 module _ (got : Input) where
   -- so many bytes that were read lie in the list

@@ -1,10 +1,10 @@
 // One job from standard input, its listing to standard output.
-use crate::input;
-use crate::input::Input;
 use cutplan::answer;
 use cutplan::answer::Answered;
 use cutplan::plan;
 use cutplan::plan::LONGEST_LISTING;
+use input_reader::input;
+use input_reader::input::Input;
 ghost use Prim.Native.Nat.{_≤_, _<_};
 ghost use mathlib.Core.Path.{_≡_};
 ghost use lib.ListN.{length};
@@ -12,7 +12,7 @@ ghost use Rattle.base_terms.specs.Lists.{onto};
 ghost use Rattle.io.specs.Counts.{Counts};
 ghost use Rattle.job.specs.Limits.{mostBytes};
 ghost use Rattle.cutplan.specs.Lines.{longestListing};
-ghost use Rattle.cutplan_program.specs.Input.{FitsIn};
+ghost use Rattle.input_reader.specs.Input.{FitsIn};
 ghost use Rattle.cutplan_program.specs.Program.{printedAfter, refusedAfter, Ran};
 
 // One byte more than a job can have, so that a longer one is seen and not cut.

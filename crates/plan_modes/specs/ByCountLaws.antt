@@ -44,7 +44,8 @@ use Rattle.plan_steps.specs.Hand.{pathIn, HandRoom}
 use Rattle.plan_steps.specs.Held.{frontOf, heldWith, SpanHeld, SpanRoom}
 use Rattle.plan_modes.specs.Lengths.{AskedByCount}
 use Rattle.plan_steps.specs.Steps.{planAlong, cutsAdded}
-use Rattle.plan_modes.specs.Plan.{hasParents, pathByCount, suffices, plannedUnder, completedByCount, plannedAfter, planByCount}
+use Rattle.plan_lists.specs.Parents.{hasParents}
+use Rattle.plan_modes.specs.Plan.{pathByCount, suffices, plannedUnder, completedByCount, plannedAfter, planByCount}
 use Rattle.plan_steps.specs.Search.{AskedOver, PathOver, SearchedByCount}
 
 module _ (x : Context) (g : FrameGrid) (settings : PlanConfig) (count : ℕ) (span : HeldSpan) (work positions : List ℕ) (workf : List Float)

@@ -2,8 +2,8 @@
 -- `with` gives the candidates of a recording and settings with points added at the boundaries of some cuts; with none, they are the first ones.
 use mathlib.Core.Bool.{Bool, _&&_}
 use mathlib.Core.List.{List, []}
-use Prim.Native.Nat.{ℕ, suc, _-_, _*_, min}
-use lib.Dec.{leb, eqb}
+use Prim.Native.Nat.{ℕ, suc}
+use lib.Dec.{eqb}
 use lib.ListN.{length}
 use Rattle.grid.specs.declared.boundary.FrameGrid.{FrameGrid}
 use Rattle.path_pieces.specs.declared.mode.Mode.{Mode}
@@ -17,6 +17,7 @@ use Rattle.completion_reach.specs.declared.reach.Sought.the-variants.{Reach, No
 use Rattle.completion_reach.specs.Reach.{reachOf}
 use Rattle.plan_division.specs.Added.{addedByLength}
 use Rattle.plan_division.specs.Best.{bestPathOver, bestPathOverByCount, oversOf}
+use Rattle.plan_lists.specs.Parents.{hasParents}
 use Rattle.plan_lengths.specs.PlanLengths.{maximumIn, lengthsByLength, lengthsByCount}
 use Rattle.plan_pieces.specs.Output.{Output, Handed, handedOf, pick}
 use Rattle.plan_pieces.specs.declared.answer.Answer.the-variants.{ShortParent, NoReach}
@@ -38,10 +39,6 @@ module _ (g : FrameGrid) (settings : PlanConfig) (with : List Cut → List Candi
   planByLength out = planAlong g settings completedByLength pathByLength out
 
 -- ---- by count
-
--- 14: a parent list of this length has an entry for each piece and candidate of a path
-unfoldable pub hasParents : ℕ → ℕ → ℕ → Bool
-hasParents count candidates parents = leb (min count (candidates - 1) * candidates) parents
 
 module _ (g : FrameGrid) (settings : PlanConfig) (s : Span) where
   -- document 01's best path by count, of min(N, last index) pieces, under a limit

@@ -1,11 +1,11 @@
 // The plan by count of a span that work memory holds.
-use base_code::sizes;
 use candidate_span::held::HeldSpan;
 use candidate_walk::collect;
 use candidates::context::Context;
 use grid::FrameGrid;
 use path_rules::solved::Solved;
 use plan_lengths::lengths;
+use plan_lists::parents;
 use plan_pieces::answer::Answer;
 use plan_settings::config::PlanConfig;
 use plan_steps::complete;
@@ -17,7 +17,6 @@ ghost use Prim.Native.Nat.{suc, _≤_, _<_};
 ghost use mathlib.Core.Bool.{_&&_};
 ghost use lib.Dec.{eqb};
 ghost use lib.ListN.{length};
-ghost use Rattle.path_pieces.specs.Limits.{maxIndex};
 ghost use Rattle.candidate_span.specs.Span.{spanIn};
 ghost use Rattle.candidate_walk.specs.Held.{silencesHeld, levelsHeld};
 ghost use Rattle.plan_pieces.specs.Output.{outputOf, handedOf};
@@ -25,15 +24,7 @@ ghost use Rattle.completion_reach.specs.Reach.{reachOf};
 ghost use Rattle.plan_lengths.specs.PlanLengths.{maximumIn};
 ghost use Rattle.plan_steps.specs.Held.{frontOf, heldWith, SpanHeld, SpanRoom};
 ghost use Rattle.plan_modes.specs.Lengths.{AskedByCount};
-ghost use Rattle.plan_modes.specs.Plan.{hasParents, plannedAfter, planByCount};
-
-// 14: whether a parent list of this length has an entry for each piece and candidate of a path.
-fn has_parents(count: usize, candidates: usize, parents: usize) -> bool
-    requires { ⌜ (0 < candidates) × (candidates ≤ suc maxIndex) ⌝ }
-    ensures { λ r. ⌜ r ≡ hasParents count candidates parents ⌝ }
-{
-    sizes::lesser(count, candidates - 1) * candidates <= parents
-}
+ghost use Rattle.plan_modes.specs.Plan.{plannedAfter, planByCount};
 
 // Whether a path has as many pieces as are asked for, and none over its limit.
 fn is_enough(solved: Solved, count: usize) -> bool
@@ -88,7 +79,7 @@ fn plan_after(
     match completed {
         Completed::NoReach => Answer::NoReach,
         Completed::Under(limit, k) => {
-            if !has_parents(count, k, parent.len()) {
+            if !parents::has_parents(count, k, parent.len()) {
                 return Answer::ShortParent;
             }
             let l = lengths::lengths_by_count(g, settings, span.first, span.last, count, limit);
@@ -146,7 +137,7 @@ pub fn plan_by_count(
 {
     let max = lengths::maximum(g, settings);
     let k = collect::collect(x, span, &mut *work_u32, &mut *work_f64);
-    if !has_parents(count, k, parent.len()) {
+    if !parents::has_parents(count, k, parent.len()) {
         return Answer::ShortParent;
     }
     let l = lengths::lengths_by_count(g, settings, span.first, span.last, count, max);

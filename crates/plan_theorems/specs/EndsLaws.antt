@@ -27,7 +27,8 @@ use Rattle.plan_pieces.specs.OutputLaws.{room-parts}
 use Rattle.plan_pieces.specs.AnswerLaws.{Numbered}
 use Rattle.plan_pieces.specs.declared.answer.Answer.the-variants.{Planned, Refused, ShortParent, NoReach, ShortOutput}
 use Rattle.plan_steps.specs.Steps.{planAlong}
-use Rattle.plan_modes.specs.Plan.{completedByLength, pathByLength, planByLength, hasParents, pathByCount, suffices, plannedUnder, completedByCount, plannedAfter, planByCount, planBy}
+use Rattle.plan_lists.specs.Parents.{hasParents}
+use Rattle.plan_modes.specs.Plan.{completedByLength, pathByLength, planByLength, pathByCount, suffices, plannedUnder, completedByCount, plannedAfter, planByCount, planBy}
 use Rattle.plan_theorems.specs.Made.{HasRoom}
 
 -- ---- a plan along a path

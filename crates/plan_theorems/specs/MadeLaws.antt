@@ -73,7 +73,8 @@ use Rattle.plan_lengths.specs.PlanLengths.{minimumIn, maximumIn, lengthsWith, l
 use Rattle.plan_lengths.specs.PlanLengthsLaws.{ready-timed, by-length-preferred, by-count-preferred}
 use Rattle.plan_pieces.specs.Output.{Output, handedOf}
 use Rattle.plan_pieces.specs.declared.answer.Answer.the-variants.{ShortParent, NoReach}
-use Rattle.plan_modes.specs.Plan.{completedByLength, pathByLength, hasParents, suffices, completedByCount, planByCount}
+use Rattle.plan_lists.specs.Parents.{hasParents}
+use Rattle.plan_modes.specs.Plan.{completedByLength, pathByLength, suffices, completedByCount, planByCount}
 use Rattle.planner.specs.Operation.{candidatesWith}
 use Rattle.plan_theorems.specs.Made.{reasonAt, Fills, Flagged, Shows, InSpan, BestOverByCount, Suffices, PlanByLength, PlanAtFirst, FallsShort, PlanWithReach, SoughtOver, FewParents, ReachMissing}
 use Rattle.plan_theorems.specs.Made as made

@@ -65,7 +65,8 @@ use Rattle.plan_pieces.specs.Flags.{shortFlag, longFlag, flagsOf}
 use Rattle.plan_pieces.specs.Output.{Output, outputOf, hasRoom, handedOutOf}
 use Rattle.plan_pieces.specs.PlanAlong.{planPieces, planCuts}
 use Rattle.planner.specs.Operation.{End, endOf, candidatesWith, plannedOf, planOf}
-use Rattle.plan_modes.specs.Plan.{planByLength, hasParents, suffices, plannedUnder, planByCount, planBy}
+use Rattle.plan_lists.specs.Parents.{hasParents}
+use Rattle.plan_modes.specs.Plan.{planByLength, suffices, plannedUnder, planByCount, planBy}
 use Rattle.grid.specs.declared.boundary.FrameGrid.{FrameGrid}
 use Rattle.grid.specs.declared.validate.Recording.{Recording}
 use Rattle.grid.specs.declared.validate.Domain.the-variants.{Scores}

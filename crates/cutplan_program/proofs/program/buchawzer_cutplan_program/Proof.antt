@@ -3,7 +3,7 @@ use borrow.Author.Needs.{needs}
 use native.Mathlib.Omega.{arith}
 use mathlib.Core.Logic.{inl, inr}
 use mathlib.Core.Path.{refl}
-use Rattle.cutplan_program.specs.InputLaws.{reads-fit}
+use Rattle.input_reader.specs.InputLaws.{reads-fit}
 use Rattle.cutplan_program.specs.ProgramLaws.{ran}
 use Rattle.cutplan_program.proofs.program.buchawzer_cutplan_program.Statement.{statement}
 use Rattle.cutplan_program.proofs.program.buchawzer_cutplan_program.Tie as tie

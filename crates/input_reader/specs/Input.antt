@@ -7,10 +7,10 @@ use Prim.Native.Nat.{ℕ, zero, suc, _+_, _-_, _≤_, _<_}
 use lib.IntN.{ℤ, pos, negsuc}
 use lib.ListN.{length, take}
 use Rattle.libc.specs.Io.{Moved}
-use Rattle.cutplan_program.specs.declared.input.Input.{Input}
-use Rattle.cutplan_program.specs.declared.input.Input.the-variants.{Read, Failed}
-use Rattle.cutplan_program.specs.declared.input.Step.{Step}
-use Rattle.cutplan_program.specs.declared.input.Step.the-variants.{More, End, Broken}
+use Rattle.input_reader.specs.declared.input.Input.{Input}
+use Rattle.input_reader.specs.declared.input.Input.the-variants.{Read, Failed}
+use Rattle.input_reader.specs.declared.input.Step.{Step}
+use Rattle.input_reader.specs.declared.input.Step.the-variants.{More, End, Broken}
 
 -- what one answer says: above 0 so many bytes, 0 the end of the input, below 0 a failure
 abbrev pub stepOf : ℤ → Step

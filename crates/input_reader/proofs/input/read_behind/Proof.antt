@@ -3,10 +3,10 @@ use borrow.Author.Needs.{needs}
 use mathlib.Core.Path.{_≡_, ap, _∙_}
 use mir.Syntax.{w64}
 use mir.Val.{toZ, ofZ}
-use Rattle.cutplan_program.specs.Input.{stepOf}
-use Rattle.cutplan_program.specs.InputLaws.{reads-behind}
-use Rattle.cutplan_program.proofs.input.read_behind.Statement.{statement}
-use Rattle.cutplan_program.proofs.input.read_behind.Tie as tie
+use Rattle.input_reader.specs.Input.{stepOf}
+use Rattle.input_reader.specs.InputLaws.{reads-behind}
+use Rattle.input_reader.proofs.input.read_behind.Statement.{statement}
+use Rattle.input_reader.proofs.input.read_behind.Tie as tie
 
 sub-read : tie.Need-sub-read
 sub-read c = search needs

@@ -12,11 +12,11 @@ use lib.Signed.{ltZ, nonNeg}
 use borrow.Rule.Slice.PartMut.{midOf, putMid, mid-len, same-len-mid, take-put}
 use Rattle.libc.specs.Io.{Moved}
 use Rattle.base_laws.specs.Tests.{holds}
-use Rattle.cutplan_program.specs.Input.{stepOf, ReadBehind, Reads, full, ended, failed, more, FitsIn}
-use Rattle.cutplan_program.specs.declared.input.Input.{Input}
-use Rattle.cutplan_program.specs.declared.input.Input.the-variants.{Read, Failed}
-use Rattle.cutplan_program.specs.declared.input.Step.{Step}
-use Rattle.cutplan_program.specs.declared.input.Step.the-variants.{More, End, Broken}
+use Rattle.input_reader.specs.Input.{stepOf, ReadBehind, Reads, full, ended, failed, more, FitsIn}
+use Rattle.input_reader.specs.declared.input.Input.{Input}
+use Rattle.input_reader.specs.declared.input.Input.the-variants.{Read, Failed}
+use Rattle.input_reader.specs.declared.input.Step.{Step}
+use Rattle.input_reader.specs.declared.input.Step.the-variants.{More, End, Broken}
 
 -- a step's number, and whether it has one
 abbrev isMore : Step → Bool

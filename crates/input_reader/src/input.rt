@@ -2,7 +2,7 @@
 ghost use Prim.Native.Nat.{_<_};
 ghost use mathlib.Core.Path.{_≡_};
 ghost use lib.ListN.{length};
-ghost use Rattle.cutplan_program.specs.Input.{stepOf, ReadBehind, Reads};
+ghost use Rattle.input_reader.specs.Input.{stepOf, ReadBehind, Reads};
 
 // How many bytes were read, or that a read failed: the end of the input is no failure.
 pub enum Input {

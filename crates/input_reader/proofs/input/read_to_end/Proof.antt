@@ -3,9 +3,9 @@ use borrow.Author.Needs.{needs}
 use native.Mathlib.Omega.{arith}
 use Prim.Native.Nat.{_-_}
 use lib.ListN.{length}
-use Rattle.cutplan_program.specs.InputLaws.{SoFar, nothing-read, read-full, read-same-length, read-ended, read-failed, some-more, read-more}
-use Rattle.cutplan_program.proofs.input.read_to_end.Statement.{statement}
-use Rattle.cutplan_program.proofs.input.read_to_end.Tie as tie
+use Rattle.input_reader.specs.InputLaws.{SoFar, nothing-read, read-full, read-same-length, read-ended, read-failed, some-more, read-more}
+use Rattle.input_reader.proofs.input.read_to_end.Statement.{statement}
+use Rattle.input_reader.proofs.input.read_to_end.Tie as tie
 
 abbrev Inv-loop : tie.InvT-loop
 Inv-loop fd buf₀ done₀ buf done = SoFar buf₀ buf done

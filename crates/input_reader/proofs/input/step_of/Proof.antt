@@ -1,8 +1,8 @@
 -- Each end is one of the three kinds of answer.
 use mir.Facts.{toZ-ofZ, fits-natAbs}
-use Rattle.cutplan_program.specs.InputLaws.{told-more, told-broken, told-end}
-use Rattle.cutplan_program.proofs.input.step_of.Statement.{statement}
-use Rattle.cutplan_program.proofs.input.step_of.Tie as tie
+use Rattle.input_reader.specs.InputLaws.{told-more, told-broken, told-end}
+use Rattle.input_reader.proofs.input.step_of.Statement.{statement}
+use Rattle.input_reader.proofs.input.step_of.Tie as tie
 
 cast-t3 : tie.Need-cast-t3
 cast-t3 c = (told-more (toZ-ofZ (c .before .fits .got)) (c .if1 .taken) .0, rw (toZ-ofZ (c .before .fits .got)) (fits-natAbs tt (c .before .fits .got)))

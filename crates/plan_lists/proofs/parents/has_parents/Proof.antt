@@ -1,11 +1,11 @@
--- `by_count::has_parents`: 2^20 pieces times as many candidates fit in 64 bits.
+-- `parents::has_parents`: 2^20 pieces times as many candidates fit in 64 bits.
 use native.Mathlib.Nat.{mul-le-mul}
-use Rattle.plan_modes.specs.Plan.{hasParents}
+use Rattle.plan_lists.specs.Parents.{hasParents}
 use borrow.Author.Needs.{needs}
 use native.Mathlib.Omega.{arith}
 use Prim.Native.Nat.{_≤_}
-use Rattle.plan_modes.proofs.by_count.has_parents.Statement.{statement}
-use Rattle.plan_modes.proofs.by_count.has_parents.Tie as tie
+use Rattle.plan_lists.proofs.parents.has_parents.Statement.{statement}
+use Rattle.plan_lists.proofs.parents.has_parents.Tie as tie
 
 sub-lesser : tie.Need-sub-lesser
 sub-lesser c = search needs
