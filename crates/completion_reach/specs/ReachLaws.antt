@@ -47,6 +47,7 @@ pub record Bracket (g : FrameGrid) (s : Span) (count maximum low high : ℕ) : T
   pub feasible : Feasible g s count high
 
 module _ (g : FrameGrid) (s : Span) (count maximum : ℕ) where
+  -- between the maximum, which is too low, and a limit that is enough
   pub bracket-start : (enough : ℕ) → (Feasible g s count maximum → ⊥) → Feasible g s count enough → Bracket g s count maximum maximum enough
   bracket-start enough never f =
       record { above = omega arith; order = order; under = λ (l : ℕ) (h : maximum ≤ l) (e : Feasible g s count l). h; feasible = f }
@@ -55,15 +56,18 @@ module _ (g : FrameGrid) (s : Span) (count maximum : ℕ) where
       order = elim (lt-or-le enough maximum) [ inl h ↦ absurd (never (feasible-above g s count enough maximum (omega arith) f)) | inr h ↦ h ]
 
   module _ (low high middle : ℕ) (b : Bracket g s count maximum low high) (from : low ≤ middle) (below : middle < high) where
+    -- the middle is enough: the reach is no higher
     pub bracket-down : Feasible g s count middle → Bracket g s count maximum low middle
     bracket-down f = record { above = b .above; order = from; under = b .under; feasible = f }
 
+    -- the middle is too low: the reach is above it
     pub bracket-up : (Feasible g s count middle → ⊥) → Bracket g s count maximum (middle + 1) high
     bracket-up never = record { above = omega (arith, b .above); order = omega arith; under = under; feasible = b .feasible }
       where
         under : (l : ℕ) → maximum ≤ l → Feasible g s count l → middle + 1 ≤ l
         under l h f = elim (lt-or-le middle l) [ inl m ↦ omega arith | inr m ↦ absurd (never (feasible-above g s count l middle m f)) ]
 
+  -- where the two meet, that is the reach
   pub bracket-done : (low high : ℕ) → Bracket g s count maximum low high → high ≤ low → IsReach g s count maximum low
   bracket-done low high b h = record { above = b .above; feasible = feasible-above g s count high low h (b .feasible); least = b .under }
 

@@ -59,6 +59,7 @@ pub record Halving (g : FrameGrid) (limit a z low high : ℕ) : Type 0 where
 
 module _ (g : FrameGrid) (limit a z : ℕ) where
   module _ (low high middle : ℕ) (s : Halving g limit a z low high) (above : low < middle) (upto : middle ≤ high) where
+    -- the middle is within the limit: the search goes on from it
     pub halving-up : lengthOf g (pieceFrom a middle) ≤ limit → Halving g limit a z middle high
     halving-up w =
         record {
@@ -69,6 +70,7 @@ module _ (g : FrameGrid) (limit a z : ℕ) where
           beyond = λ (j : ℕ) (h : middle < j) (l : high < j) (m : j ≤ a + (z - a)). s .beyond j (omega arith) l m;
         }
 
+    -- the middle is beyond it: the search ends before it
     pub halving-down : Accepted g → limit < lengthOf g (pieceFrom a middle) → Halving g limit a z low (middle - 1)
     halving-down ok w =
         record {
@@ -79,6 +81,7 @@ module _ (g : FrameGrid) (limit a z : ℕ) where
           beyond = λ (j : ℕ) (h : low < j) (l : middle - 1 < j) (m : j ≤ a + (z - a)). omega (arith, w, boundary-mono g ok middle j (omega arith));
         }
 
+  -- where nothing is left between, `low` is as far as a piece reaches
   pub halving-done : (low high : ℕ) → Halving g limit a z low high → high ≤ low → low ≡ reachableOf g limit a z
   halving-done low high s h =
       reached-one g limit a (z - a) low (reachableOf g limit a z)

@@ -106,6 +106,7 @@ fitted-within job g h short e =
     equal : (m n : ℕ) → m ≤ n → n ≤ m → m ≡ n
     equal m n x y = omega arith
 
+-- it is within the limits, and ends where its lists do
 pub read-within : (job : List ℕ) (h : Head) → readOf job ≡ Job h → Within job h
 unfolding readOf
 read-within job h e =

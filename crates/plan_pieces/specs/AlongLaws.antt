@@ -19,23 +19,27 @@ use Rattle.plan_pieces.specs.declared.pieces.PieceEnds.{PieceEnds}
 -- ---- steps of a path
 
 module _ (left right : List ℕ) where
+  -- from step i on, the pieces are the one from there to the next candidate, and those from step i + 1 on
   pub pieces-step : (least : Float) (most : ℕ) (path : List ℕ) (i : ℕ) → suc i < length path → piecesAlongNumbers left right least most (drop i path)
       ≡ pieceNumbers left right least most (getD path i 0) (getD path (suc i) 0) ++ piecesAlongNumbers left right least most (drop (suc i) path)
   unfolding piecesAlongNumbers pieceNumbersFrom
   pieces-step least most path i h = rw (drop-cons path i 0 (omega (arith, h)), drop-cons path (suc i) 0 h)
 
+  -- a path of one candidate, or none, has no piece
   pub pieces-none : (least : Float) (most : ℕ) (path : List ℕ) → length path ≤ 1 → piecesAlongNumbers left right least most path ≡ []
   unfolding piecesAlongNumbers pieceNumbersFrom
   pieces-none least most [] h = refl
   pieces-none least most (i ∷ []) h = refl
   pieces-none least most (i ∷ (j ∷ rest)) h = absurd (omega arith)
 
+  -- from step i on, the cuts are the one at the candidate after it, and those from step i + 1 on
   pub cuts-step : (reasons path : List ℕ) (i : ℕ) → suc (suc i) < length path
       → cutsAlongNumbers left right reasons (drop i path) ≡ cutNumbers left right reasons (getD path (suc i) 0) ++ cutsAlongNumbers left right reasons (drop (suc i) path)
   unfolding cutsAlongNumbers cutNumbersFrom
   cuts-step reasons path i h =
       rw (drop-cons path i 0 (omega (arith, h)), drop-cons path (suc i) 0 (omega (arith, h)), drop-cons path (suc (suc i)) 0 h)
 
+  -- a path of one piece, or none, has no cut
   pub cuts-none : (reasons path : List ℕ) → length path ≤ 2 → cutsAlongNumbers left right reasons path ≡ []
   unfolding cutsAlongNumbers cutNumbersFrom
   cuts-none reasons [] h = refl
@@ -66,6 +70,7 @@ module _ (left right path : List ℕ) (d : Drawn left right path) (i : ℕ) (h :
 
 -- ---- a cut as the code reads it
 
+-- the reason of candidate j is the third of its three numbers
 pub reason-at : (entries : List ℕ) (j : ℕ) → 3 * suc j ≤ length entries → getD (reasonsIn entries) j 0 ≡ getD entries (3 * j + 2) 0
 unfolding reasonsIn
 reason-at [] j h = absurd (omega arith)
@@ -76,6 +81,7 @@ reason-at (l ∷ (r ∷ (c ∷ rest))) (suc j) h =
     let e : 3 * suc j + 2 ≡ suc (suc (suc (3 * j + 2))) = omega arith in
     reason-at rest j (omega arith) ∙ ap (λ (k : ℕ). getD (l ∷ (r ∷ (c ∷ rest))) k 0) (sym e)
 
+-- the cut at candidate j, by its two positions and that number, and then the others
 pub cut-next : (left right entries path : List ℕ) → Drawn left right path → 3 * length left ≤ length entries
     → (i : ℕ) → suc (suc i) < length path → (j : ℕ) → j ≡ getD path (suc i) 0
     → cutsAlongNumbers left right (reasonsIn entries) (drop i path)
@@ -88,6 +94,7 @@ cut-next left right entries path d room i h j e =
 
 -- ---- three more numbers
 
+-- they leave the length as it is
 pub put-length : (at a b c : ℕ) (xs : List ℕ) → length (putThree at a b c xs) ≡ length xs
 unfolding putThree
 put-length at a b c xs = length-set (set (set xs at a) (at + 1) b) (at + 2) c ∙ length-set (set xs at a) (at + 1) b ∙ length-set xs at a
@@ -116,10 +123,12 @@ pub record Writing (all : List ℕ → List ℕ) (path out₀ out : List ℕ) (i
   pub rest : all path ≡ written ++ all (drop i path)
 
 module _ (all : List ℕ → List ℕ) (path out₀ : List ℕ) where
+  -- before the first step nothing is written
   pub writing-start : Writing all path out₀ out₀ 0
   writing-start = record { upto = omega arith; written = []; size = refl; same = refl; is = sym (onto-nil out₀); rest = refl }
 
   module _ (out : List ℕ) (i : ℕ) (w : Writing all path out₀ out i) where
+    -- one step more, by three numbers that are those of the path
     pub writing-next : i < length path → (a b c : ℕ) (out′ : List ℕ) → all (drop i path) ≡ (a ∷ (b ∷ (c ∷ []))) ++ all (drop (suc i) path) → 3 * i + 3 ≤ length out₀
         → out′ ≡ putThree (3 * i) a b c out → Writing all path out₀ out′ (i + 1)
     writing-next more a b c out′ step h e =
@@ -133,6 +142,7 @@ module _ (all : List ℕ → List ℕ) (path out₀ : List ℕ) where
               (w .rest ∙ ap (λ (t : List ℕ). w .written ++ t) step ∙ sym (append-assoc (w .written) (a ∷ (b ∷ (c ∷ []))) (all (drop (suc i) path))));
         }
 
+    -- where the path has no more of them, all are written
     pub writing-done : all (drop i path) ≡ [] → out ≡ onto (all path) out₀
     writing-done e =
         w .is ∙ ap (λ (p : List ℕ). onto p out₀) (sym (w .rest ∙ ap (λ (t : List ℕ). w .written ++ t) e ∙ append-nil (w .written)))
