@@ -415,7 +415,11 @@ BUCHAWZER_NODISCARD uint32_t buchawzer_candidates(
  * With 0 `*length` candidates stand at the front of `path`, by their indices from the first candidate to the last; `*over`
  * is the number of pieces above the limit and `*score_cost` the cost. No path has a lower score, over first and then cost.
  * Each work list has at least 16 entries for each candidate, else 13; by count the parent list has pieces * candidates,
- * else 14, where pieces is the lesser of the count and candidates - 1. A path has at most one entry for each candidate. */
+ * else 14, where pieces is the lesser of the count and candidates - 1. A path has at most one entry for each candidate.
+ * A longer limit gives no worse a path: of two calls that differ in `limit` alone, and in what their lists hold, and both
+ * answer 0, the one with the longer limit has the lower score or the same, over first and then cost. Where the first
+ * answers 0, so does the second with a limit up to 2^40 and lists no shorter; by length the path may have more
+ * candidates, so lend an entry for each, else 12 may come. */
 BUCHAWZER_NODISCARD uint32_t buchawzer_path(
     const uint64_t *left,
     size_t left_len,
@@ -458,7 +462,9 @@ BUCHAWZER_NODISCARD uint32_t buchawzer_path(
  * By count, set the maximum well above length / count. The maximum comes before every cost. Near length / count it
  * allows pieces of nearly one length only; below, the longest piece is made as short as it can be (demand 3 in README.md),
  * which comes to the same. Cuts then fall where the lengths put them: the hour of examples/by_count.c in 60 pieces has 48
- * forced cuts of 59 under the default maximum of 30 s, 22 under 61 s, and none under 65 s. */
+ * forced cuts of 59 under the default maximum of 30 s, 22 under 61 s, and none under 65 s.
+ * Raising the maximum makes new candidates, so that the plan may cost more, by length and by count: what buchawzer_path
+ * promises of a longer limit is for the same candidates. */
 BUCHAWZER_NODISCARD uint32_t buchawzer_plan(
     uint32_t sample_rate,
     uint16_t channels,

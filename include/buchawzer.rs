@@ -479,7 +479,7 @@ pub struct Settings {
     /// The wanted length of a piece.
     pub target: u64,
     /// The longest piece. By count, set it well above length / count: near that, cuts go where they keep the pieces
-    /// short, in silence or not.
+    /// short, in silence or not. Raising it makes new candidates, so that the plan may cost more.
     pub max: u64,
     /// Whether exactly `count` pieces are wanted.
     pub by_count: bool,
@@ -948,6 +948,11 @@ pub fn candidates(
 /// The best path over lent candidates: none has a lower score, `over` first and then the cost. Refused by 15, 16, 17,
 /// 8 (by count), 13, 14 (by count), 12, in this order. By count the parent list needs [`path_parent_length`] entries,
 /// else none; `path` at most one for each candidate.
+///
+/// A longer limit gives no worse a path: of two calls that differ in the limit alone, and in what their lists hold, and
+/// both give a path, the one with the longer limit has the lower score or the same. Where the first does, so does the
+/// second with a limit up to 2^40 and lists no shorter; by length the path may have more candidates, so lend an entry for
+/// each, else 12 may come.
 pub fn find_path<'a>(
     c: &LentCandidates<'_>,
     p: &Preferences,

@@ -5,6 +5,7 @@ pub mod Silences
 pub mod SilencesTheorems
 pub mod Paths
 pub mod PathsTheorems
+pub mod RaisedTheorems
 pub mod Settings
 pub mod Candidates
 pub mod CandidatesTheorems

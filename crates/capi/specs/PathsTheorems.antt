@@ -25,7 +25,7 @@ abbrev pub solvedIn : PathCalled → Solved
 solvedIn p = record { score = record { over = p .over; cost = p .cost }; len = p .length }
 
 -- where a path was found they are the answer's
-solved-is : (e : End) (length over : ℕ) (cost : Float) (s : Solved) → e .answer ≡ Found s → s ≡ solvedIn (pathCalledOf e length over cost)
+pub solved-is : (e : End) (length over : ℕ) (cost : Float) (s : Solved) → e .answer ≡ Found s → s ≡ solvedIn (pathCalledOf e length over cost)
 unfolding pathCalledOf
 solved-is e length over cost s q = rw q
 

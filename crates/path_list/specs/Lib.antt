@@ -5,3 +5,6 @@ pub mod Search
 pub mod SearchLaws
 pub mod Found
 pub mod Theorems
+pub mod Raised
+pub mod RaisedLaws
+pub mod RaisedTheorems

@@ -64,16 +64,19 @@ handed-is way score path s e = go (leb (length way) (length path)) (leb-true (le
 
 module _ (l : Lengths) (left right : List ℕ) (cost : List Float) (path : List ℕ) (work : Work) (parent : List ℕ) (s : Solved) where
   -- an answer that was found is the search's, over candidates that no test refuses
-  record Searched (mode : Mode) : Type 0 where
-    accepted : AcceptedLists left right cost l mode (length (work .u32s)) (length (work .u64s)) (length (work .f64s))
-    answer : soughtOf l left right cost mode (length parent) path .answer ≡ Found s
-    output : pathOf l left right cost mode path work parent .path ≡ soughtOf l left right cost mode (length parent) path .path
+  pub record Searched (mode : Mode) : Type 0 where
+    pub fine : firstRefusalOf left right cost l mode (length (work .u32s)) (length (work .u64s)) (length (work .f64s)) ≡ Fine
+    pub accepted : AcceptedLists left right cost l mode (length (work .u32s)) (length (work .u64s)) (length (work .f64s))
+    pub answer : soughtOf l left right cost mode (length parent) path .answer ≡ Found s
+    pub output : pathOf l left right cost mode path work parent .path ≡ soughtOf l left right cost mode (length parent) path .path
 
-  searched : (mode : Mode) → pathOf l left right cost mode path work parent .answer ≡ Found s → Searched mode
+  -- every such answer is
+  pub searched : (mode : Mode) → pathOf l left right cost mode path work parent .answer ≡ Found s → Searched mode
   unfolding pathOf
   searched mode e =
       let p = go (firstRefusalOf left right cost l mode (length (work .u32s)) (length (work .u64s)) (length (work .f64s))) e in
       record {
+        fine = p .0;
         accepted = accepted-lists left right cost l mode (length (work .u32s)) (length (work .u64s)) (length (work .f64s)) (p .0);
         answer = p .1;
         output = p .2;

@@ -22,6 +22,10 @@ lengthWeights target short = let none = ofBits binary64 0 in record { cut = none
 
 -- ---- lengths
 
+-- the same preferences with another limit
+abbrev pub withLimit : Lengths → ℕ → Lengths
+withLimit l limit = record { min = l .min; target = l .target; limit = limit; weights = l .weights }
+
 -- the length of the piece from candidate i to candidate j, in samples
 unfoldable pub pieceLength : List ℕ → List ℕ → ℕ → ℕ → ℕ
 pieceLength left right i j = getD left j 0 - getD right i 0

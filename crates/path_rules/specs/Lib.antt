@@ -5,3 +5,5 @@ pub mod Ties
 pub mod TiesLaws
 pub mod TiesByCountLaws
 pub mod BestPath
+pub mod Raised
+pub mod RaisedLaws

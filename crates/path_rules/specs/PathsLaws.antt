@@ -1,11 +1,12 @@
--- Laws of paths and of their scores: one more piece at the end of a path is one more step of its score, a path by a rule is one by a weaker rule, and the score
--- counts the pieces over the limit.
+-- Laws of paths and of their scores: one more piece at the end of a path is one more step of its score, a path by a rule is one by a weaker rule, a path
+-- whose pieces rise has no more candidates than there are, and the score counts the pieces over the limit.
 use mathlib.Core.Path.{_≡_, refl, sym, ap, subst}
 use mathlib.Core.List.{List, [], _∷_, _++_}
-use Prim.Native.Nat.{ℕ, _+_, _≤_, _<_}
+use Prim.Native.Nat.{ℕ, suc, _+_, _≤_, _<_}
 use native.Mathlib.Nat.{le-of-eq}
 use native.Mathlib.Omega.{arith}
 use lib.Ieee.{Float}
+use lib.ListN.{length}
 use Rattle.path_pieces.specs.Pieces.{pieceLength, overOf, noScore, withPiece}
 use Rattle.path_pieces.specs.PiecesLaws.{cut-at-over}
 use Rattle.path_pieces.specs.declared.lengths.Lengths.{Lengths}
@@ -54,6 +55,15 @@ path-weaken rule rule' last rises w (i ∷ rest) (e, r) = (e, go i rest r)
     go : (i : ℕ) (rest : List ℕ) → Onward rule i rest last → Onward rule' i rest last
     go i [] e = e
     go i (j ∷ rest) (p, r) = (w i j (onward-rises rule rises j rest last r) p, go j rest r)
+
+-- a path whose pieces rise has a candidate at least, and no more than there are
+pub path-few : (rule : ℕ → ℕ → Type 0) → ((i j : ℕ) → rule i j → i < j) → (last : ℕ) (path : List ℕ) → Path rule path last → (0 < length path) × (length path ≤ suc last)
+path-few rule rising last [] p = absurd p
+path-few rule rising last (i ∷ rest) (e, o) = (omega arith, omega (arith, go i rest o))
+  where
+    go : (i : ℕ) (rest : List ℕ) → Onward rule i rest last → length rest + i ≤ last
+    go i [] e = omega (arith, e)
+    go i (j ∷ rest) (p, o) = omega (arith, rising i j p, go j rest o)
 
 -- ---- the pieces over the limit
 

@@ -115,3 +115,15 @@ ends-candidates left right costs limit a b =
       apart = λ (i : ℕ) (h : suc i < length left). ends-order left right limit b (suc i) h .0;
       bounded = λ (i : ℕ) (h : i < length left). ends-order left right limit b i h .2;
     }
+
+-- ---- another limit
+
+-- test 16 passes only limits within the bound
+pub limit-within : (left right : List ℕ) (limit : ℕ) → endsOk left right limit ≡ true → limit ≤ maxLen
+unfolding endsOk
+limit-within left right limit e = leb-true limit maxLen (both (leb limit maxLen) (endsFrom 0 left right) e .0)
+
+-- and of candidates that pass it with one limit it passes every other within the bound
+pub ends-any-limit : (left right : List ℕ) (one other : ℕ) → other ≤ maxLen → endsOk left right one ≡ true → endsOk left right other ≡ true
+unfolding endsOk
+ends-any-limit left right one other h e = rw (le-leb other maxLen h) (both (leb one maxLen) (endsFrom 0 left right) e .1)

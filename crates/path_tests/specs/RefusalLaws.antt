@@ -1,4 +1,4 @@
--- The chain of the tests: which verdict each end gives, and what the search is left with where no test fails.
+-- The chain of the tests: which verdict each end gives, what the search is left with where no test fails, and that the limit takes part in 16 alone.
 use mathlib.Core.Path.{_≡_, refl, sym, ap, _∙_}
 use mathlib.Core.Bool.{Bool, true, false}
 use mathlib.Core.List.{List}
@@ -10,14 +10,16 @@ use lib.Ieee.{Float}
 use lib.ListN.{length}
 use Rattle.base_laws.specs.Tests.{both}
 use Rattle.base_terms.specs.Lists.{allOf}
+use Rattle.base_terms.specs.Limits.{maxLen}
 use Rattle.base_terms.specs.Work.{workOk}
 use Rattle.base_code.specs.WorkLaws.{WorkIn, work-parts}
 use Rattle.path_pieces.specs.Domain.{Searchable}
+use Rattle.path_pieces.specs.Pieces.{withLimit}
 use Rattle.path_pieces.specs.declared.lengths.Lengths.{Lengths}
 use Rattle.path_pieces.specs.declared.mode.Mode.{Mode}
 use Rattle.path_pieces.specs.declared.mode.Mode.the-variants.{ByCount}
 use Rattle.path_tests.specs.Ends.{listsOk, endsOk}
-use Rattle.path_tests.specs.EndsLaws.{lists-parts, ends-candidates}
+use Rattle.path_tests.specs.EndsLaws.{lists-parts, ends-candidates, limit-within, ends-any-limit}
 use Rattle.path_tests.specs.Costs.{isCost, lengthsOk}
 use Rattle.path_tests.specs.CostsLaws.{costs-all, lengths-preferred}
 use Rattle.path_tests.specs.Refusal.{maxCount, isCount, countOk, orElse, firstRefusalOf}
@@ -119,3 +121,18 @@ accepted-lists left right cost l mode n32 n64 nf e =
       counted = λ (count : ℕ) (m : mode ≡ ByCount count). count-parts count (sym (ap countOk m) ∙ p .count);
       work = work-parts (length left) n32 n64 nf (p .work);
     }
+
+-- ---- another limit
+
+module _ (left right : List ℕ) (cost : List Float) (l : Lengths) (mode : Mode) (n32 n64 nf : ℕ) where
+  -- where no test fails the limit is within 16's bound
+  pub fine-limit : firstRefusalOf left right cost l mode n32 n64 nf ≡ Fine → l .limit ≤ maxLen
+  fine-limit e = limit-within left right (l .limit) (all-pass left right cost l mode n32 n64 nf e .ends)
+
+  -- and none fails with any other limit within that bound and any other work lists that are long enough
+  pub fine-any-limit : (limit m32 m64 mf : ℕ) → firstRefusalOf left right cost l mode n32 n64 nf ≡ Fine → limit ≤ maxLen → workOk (length left) m32 m64 mf ≡ true
+      → firstRefusalOf left right cost (withLimit l limit) mode m32 m64 mf ≡ Fine
+  unfolding lengthsOk
+  fine-any-limit limit m32 m64 mf e h w =
+      let p = all-pass left right cost l mode n32 n64 nf e in
+      sym (passes left right cost (withLimit l limit) mode m32 m64 mf (p .lists) (ends-any-limit left right (l .limit) limit h (p .ends)) (p .costs) (p .lengths) (p .count) w)

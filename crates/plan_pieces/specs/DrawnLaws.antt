@@ -1,6 +1,6 @@
 -- Candidates in order, and a path whose pieces all rise: so each piece ends where it starts or after.
 use mathlib.Core.List.{List, [], _∷_}
-use Prim.Native.Nat.{ℕ, zero, suc, _+_, _≤_, _<_}
+use Prim.Native.Nat.{ℕ, zero, suc, _≤_, _<_}
 use native.Mathlib.Omega.{arith}
 use lib.ListN.{length, getD}
 use Rattle.base_terms.specs.Limits.{maxLen}
@@ -47,12 +47,3 @@ module _ {left right : List ℕ} (ok : Candidates left right) where
       go : (i : ℕ) (rest : List ℕ) → Onward rule i rest (lastCandidate left) → Drawn left right (i ∷ rest)
       go i [] e = one-drawn i (omega (arith, e, ok .some))
       go i (j ∷ rest) (p, o) = more-drawn i j rest (rising i j p) (go j rest o)
-
--- a path whose pieces rise has a candidate at least, and no more than there are
-pub path-few : (rule : ℕ → ℕ → Type 0) → ((i j : ℕ) → rule i j → i < j) → (last : ℕ) (path : List ℕ) → Path rule path last → (0 < length path) × (length path ≤ suc last)
-path-few rule rising last [] p = absurd p
-path-few rule rising last (i ∷ rest) (e, o) = (omega arith, omega (arith, go i rest o))
-  where
-    go : (i : ℕ) (rest : List ℕ) → Onward rule i rest last → length rest + i ≤ last
-    go i [] e = omega (arith, e)
-    go i (j ∷ rest) (p, o) = omega (arith, rising i j p, go j rest o)

@@ -10,6 +10,7 @@ use Rattle.grid.specs.declared.boundary.FrameGrid.{FrameGrid}
 use Rattle.path_pieces.specs.Domain.{Preferred}
 use Rattle.path_pieces.specs.declared.lengths.Lengths.{Lengths}
 use Rattle.path_rules.specs.Paths.{Path, lastCandidate}
+use Rattle.path_rules.specs.PathsLaws.{path-few}
 use Rattle.path_rules.specs.declared.solved.Solved.{Solved}
 use Rattle.plan_settings.specs.declared.config.PlanConfig.{PlanConfig}
 use Rattle.candidate_span.specs.Gaps.{Cut}
@@ -27,7 +28,7 @@ use Rattle.candidate_finder.specs.FinderLaws.{Stands}
 use Rattle.completion_reach.specs.Cuts.{pointsIn}
 use Rattle.plan_lengths.specs.PlanLengths.{minimumIn, maximumIn}
 use Rattle.plan_pieces.specs.Along.{reasonsIn, piecesAlongNumbers, cutsAlongNumbers}
-use Rattle.plan_pieces.specs.DrawnLaws.{path-drawn, path-few}
+use Rattle.plan_pieces.specs.DrawnLaws.{path-drawn}
 use Rattle.plan_pieces.specs.Output.{Output, Handed, handedOutOf}
 use Rattle.plan_pieces.specs.PlanAlong.{reasonsOf, planPieces, planCuts}
 use Rattle.plan_pieces.specs.PlanAlongLaws.{reasons-entries}

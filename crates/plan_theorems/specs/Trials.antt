@@ -1,12 +1,12 @@
 -- The operation Plan at document 01's recording R, through its whole definition and whatever the lent lists held: the plan as printed, the two trials of R by count,
 -- a count that the first path meets, a dropped gap, an empty span, and 14, 12 and 13. So what Made claims of plans by length, at the first path and with the reach,
--- of dropped gaps and of these ends is claimed of something.
+-- of dropped gaps and of these ends is claimed of something. And two recordings whose plans cost more under a longer maximum.
 use mathlib.Core.Path.{_≡_, refl}
-use mathlib.Core.Bool.{true}
+use mathlib.Core.Bool.{Bool, true, false}
 use mathlib.Core.List.{List, [], _∷_}
-use Prim.Native.Nat.{ℕ}
+use Prim.Native.Nat.{ℕ, _*_}
 use lib.Ieee.{Float, binary32, binary64, span, climb, size, odd, units, round, sum, add, neg, sub, mul, div, lt, eq, le, isNan, ofInt, ofBits}
-use lib.ListN.{replicate}
+use lib.ListN.{length, replicate}
 use Rattle.base_terms.specs.Floats.{minOf, maxOf, clampOf}
 use Rattle.base_terms.specs.Lengths.{square, offOf, short, lengthCost}
 use Rattle.base_terms.specs.Lists.{filled, onto, tabulate, allOf}
@@ -28,12 +28,14 @@ use Rattle.silence_list.specs.Refusal.{durationsOk}
 use Rattle.silence_list.specs.Silences.{soundsIn, silencesIn}
 use Rattle.path_pieces.specs.Least.{lowestLeast, predecessorOf}
 use Rattle.path_pieces.specs.Pieces.{isWithin, pieceLength, lengthCostOf, overOf, mayStart, withPiece, withCut, withCutAt}
+use Rattle.path_pieces.specs.declared.score.Score.{Score}
+use Rattle.path_rules.specs.Paths.{scoreFrom, pathScore}
 use Rattle.path_by_length.specs.Table.{nextScore, tableOf, bestScore, parentOf, wayBack, bestPath}
 use Rattle.path_by_count.specs.Table.{bestWith, parentWith, wayWith, bestPathByCount, bestScoreByCount}
 use Rattle.path_tests.specs.Refusal.{isCount, countOk}
 use Rattle.plan_settings.specs.Tests.{ratioOk, isWeight, isCutCost, isReference, weightsOk}
 use Rattle.candidate_span.specs.Bounds.{lowOf, highOf, isInner}
-use Rattle.candidate_span.specs.Gaps.{isGap, innerGaps, gapsOf, dropped}
+use Rattle.candidate_span.specs.Gaps.{Cut, isGap, innerGaps, gapsOf, dropped}
 use Rattle.candidate_span.specs.Kept.{keptFrames, boundaries}
 use Rattle.candidate_span.specs.Spacing.{blockOf, paddingOf, edgeLimit, spacingOf}
 use Rattle.candidate_span.specs.Span.{isLeading, isTrailing, allSilent, emptySpan, firstOf, lastOf, Span, spanOf}
@@ -52,6 +54,8 @@ use Rattle.candidate_costs.specs.Window.{clipped, windowOf, widthOf, sumFrom, s
 use Rattle.plan_tests.specs.Refusal.{pieceLengthsOk, allDurationsOk, firstRefusalOf}
 use Rattle.candidates.specs.Candidates.{pausesBy, inPause, pointReason, pointAt, ownAt, ownFrom, allListed, withLeft, cheaper, cheapestOf, cheapest, survivors, candidatesOf}
 use Rattle.candidates.specs.Entries.{costsOf}
+use Rattle.candidates.specs.Samples.{leftsOf, rightsOf}
+use Rattle.candidates.specs.declared.candidate.Candidate.{Candidate}
 use Rattle.candidate_finder.specs.CandidatesIn.{runsIn, boundaryLevelsIn}
 use Rattle.completion.specs.Bridge.{bridgeFrom}
 use Rattle.completion_reach.specs.Cuts.{greedyCutsFrom, pointsIn}
@@ -59,14 +63,14 @@ use Rattle.completion_reach.specs.Next.{nextAt}
 use Rattle.completion_reach.specs.Place.{placeAt}
 use Rattle.completion_reach.specs.Reach.{leastLimitFrom, reachOf}
 use Rattle.completion_reach.specs.Reachable.{reachableIn}
-use Rattle.plan_lengths.specs.PlanLengths.{targetByCount, lengthsWith}
+use Rattle.plan_lengths.specs.PlanLengths.{targetByCount, lengthsWith, lengthsByLength, lengthsByCount}
 use Rattle.plan_pieces.specs.Along.{pieceNumbersFrom, cutNumbersFrom, piecesAlongNumbers, cutsAlongNumbers}
 use Rattle.plan_pieces.specs.Flags.{shortFlag, longFlag, flagsOf}
 use Rattle.plan_pieces.specs.Output.{Output, outputOf, hasRoom, handedOutOf}
 use Rattle.plan_pieces.specs.PlanAlong.{planPieces, planCuts}
 use Rattle.planner.specs.Operation.{End, endOf, candidatesWith, plannedOf, planOf}
 use Rattle.plan_lists.specs.Parents.{hasParents}
-use Rattle.plan_modes.specs.Plan.{planByLength, suffices, plannedUnder, planByCount, planBy}
+use Rattle.plan_modes.specs.Plan.{completedByLength, pathByLength, planByLength, pathByCount, suffices, plannedUnder, completedByCount, planByCount, planBy}
 use Rattle.grid.specs.declared.boundary.FrameGrid.{FrameGrid}
 use Rattle.grid.specs.declared.validate.Recording.{Recording}
 use Rattle.grid.specs.declared.validate.Domain.the-variants.{Scores}
@@ -133,6 +137,48 @@ grid2 = gridOf recording 7
 abbrev span2 : Span
 span2 = spanOf (plan2 .gap) (paddingIn recording defaults plan2 7) (silencesIn recording defaults scores (replicate 7 0))
 
+-- ---- document 02, S-12: of a whole plan nothing is said, since with another maximum it makes other candidates
+
+-- 1 Hz, 1 channel, frame rate 1, hop 1: frames of a second, one sample each
+abbrev seconds : ℕ → Recording
+seconds len = record { «sample_rate» = 1; channels = 1; «frame_rate» = 1; hop = 1; len = len; domain = Scores }
+
+-- no minimum, target 1 s, a maximum in seconds, gaps kept, and the default weights
+abbrev upTo : Mode → ℕ → PlanConfig
+upTo mode most = record { min = 0; target = 1000000000; max = most * 1000000000; mode = mode; gap = Keep; placement = Quietest; weights = plan2 .weights }
+
+-- the candidates, with points added at some cuts
+abbrev secondsWith : Mode → ℕ → List Float → List Cut → List Candidate
+secondsWith mode most values = candidatesWith (seconds (length values)) defaults (upTo mode most) values (replicate (length values) 0) []
+
+-- the score of the path that the plan by length goes along: a second of silence and a second of sound
+abbrev byLengthScore : ℕ → Score
+byLengthScore most =
+    let values = none ∷ one ∷ [] in
+    let g = gridOf (seconds 2) 2 in
+    let cs = completedByLength g (upTo ByLength most) (secondsWith ByLength most values) in
+    pathScore (lengthsByLength g (upTo ByLength most)) (leftsOf g cs) (rightsOf g cs) (costsOf cs) (pathByLength g (upTo ByLength most) (secondsWith ByLength most values))
+
+-- by count 2: a second of sound and two of silence, the grid and the span
+abbrev three : List Float
+three = one ∷ none ∷ none ∷ []
+
+abbrev grid3 : FrameGrid
+grid3 = gridOf (seconds 3) 3
+
+abbrev span3 : ℕ → Span
+span3 most = spanOf Keep (paddingIn (seconds 3) defaults (upTo (ByCount 2) most) 3) (silencesIn (seconds 3) defaults three (replicate 3 0))
+
+-- whether the first path suffices
+abbrev enough3 : ℕ → Bool
+enough3 most = suffices grid3 (upTo (ByCount 2) most) (span3 most) 2 most (secondsWith (ByCount 2) most three [])
+
+-- the score of the path over these candidates under the maximum
+abbrev byCountScore : ℕ → List Candidate → Score
+byCountScore most cs =
+    let under = lengthsByCount grid3 (upTo (ByCount 2) most) (span3 most .first) (span3 most .last) 2 most in
+    pathScore under (leftsOf grid3 cs) (rightsOf grid3 cs) (costsOf cs) (pathByCount grid3 (upTo (ByCount 2) most) (span3 most) 2 most cs)
+
 -- a is what the output held, b, c and x what the work lists held, and d what the parent list held; a work list has 128 entries, 16 for each of R's eight frame boundaries
 module _ (a b c d : ℕ) (x : Float) where
   abbrev output : ℕ → ℕ → Output
@@ -149,6 +195,16 @@ module _ (a b c d : ℕ) (x : Float) where
   -- an end after the tests: every work list zeroed
   abbrev later : Answer → Output → ℕ → End
   later answer out parents = endOf answer out (workOf (replicate 128 0) (replicate 128 0) (replicate 128 (ofBits binary64 0))) (replicate parents 0)
+
+  -- a call over frames of a second whose output has room for two pieces
+  abbrev callSeconds : PlanConfig → List Float → ℕ → End
+  callSeconds settings values parents =
+      planOf (seconds (length values)) defaults settings values (replicate (length values) 0) [] (output 6 3) (workOf (replicate 64 b) (replicate 64 c) (replicate 64 x)) (replicate parents d)
+
+  -- and what it leaves
+  abbrev laterSeconds : ℕ → List ℕ → List ℕ → ℕ → End
+  laterSeconds n pieces cuts parents =
+      endOf (Planned n) (outputOf pieces cuts) (workOf (replicate 64 0) (replicate 64 0) (replicate 64 (ofBits binary64 0))) (replicate parents 0)
 
   -- document 01's trials of plans, and beside them the other ends of a call: an empty plan, 12, 13 and 14
   pub record PlanTrials : Type 0 where
@@ -181,10 +237,22 @@ module _ (a b c d : ℕ) (x : Float) where
     -- 13: one entry fewer in a work list; every list is as it was
     pub work-short : planOf recording defaults (settings ByLength 400000000 Keep) scores (replicate 7 0) [] (output 6 3) (workOf (replicate 128 b) (replicate 128 c) (replicate 127 x)) (replicate 1 d)
         ≡ endOf (Refused ShortWork) (output 6 3) (workOf (replicate 128 b) (replicate 128 c) (replicate 127 x)) (replicate 1 d)
+    -- S-12 of a plan by length, of two frames: two pieces at 0.6 under 2 s, and one piece at 1 under 3 s
+    pub raised-from : callSeconds (upTo ByLength 2) (none ∷ one ∷ []) 0 ≡ laterSeconds 2 (0 ∷ 1 ∷ 0 ∷ 1 ∷ 2 ∷ 0 ∷ []) (1 ∷ 1 ∷ 0 ∷ []) 0
+    pub raised-to : callSeconds (upTo ByLength 3) (none ∷ one ∷ []) 0 ≡ laterSeconds 1 (0 ∷ 2 ∷ 0 ∷ a ∷ a ∷ a ∷ []) (a ∷ a ∷ a ∷ []) 0
+    pub score-from : byLengthScore 2 ≡ record { over = 0; cost = ofBits binary64 0x3fe3_3333_3333_3333 }
+    pub score-to : byLengthScore 3 ≡ record { over = 0; cost = ofBits binary64 0x3ff0_0000_0000_0000 }
+    -- and by count 2, of three frames: cut at 2 for 0.32 under 3 s, where the first path suffices, and at 1 for 0.82 under 4 s, over the completed candidates
+    pub count-raised-from : callSeconds (upTo (ByCount 2) 3) three 8 ≡ laterSeconds 2 (0 ∷ 2 ∷ 0 ∷ 2 ∷ 3 ∷ 0 ∷ []) (2 ∷ 2 ∷ 0 ∷ []) 8
+    pub count-raised-to : callSeconds (upTo (ByCount 2) 4) three 8 ≡ laterSeconds 2 (0 ∷ 1 ∷ 0 ∷ 1 ∷ 3 ∷ 0 ∷ []) (1 ∷ 1 ∷ 0 ∷ []) 8
+    pub count-enough : (enough3 3 ≡ true) × (enough3 4 ≡ false)
+    pub count-score-from : byCountScore 3 (secondsWith (ByCount 2) 3 three []) ≡ record { over = 0; cost = ofBits binary64 0x3fd4_9f49_f49f_49f4 }
+    pub count-score-to : byCountScore 4 (completedByCount grid3 (upTo (ByCount 2) 4) (span3 4) (secondsWith (ByCount 2) 4 three) 2 4)
+        ≡ record { over = 0; cost = ofBits binary64 0x3fea_4fa4_fa4f_a4fa }
 
   -- each by computation
   pub plan-trials : PlanTrials
-  unfolding minOf maxOf clampOf square offOf short lengthCost filled onto tabulate allOf workOk startOf boundaryOf covers framesIn framesCeil framesFloor samplesFloor samplesIn secondsOf frameSecs isUpTo frameStepOk framesOk listsOk valuesOk lengthOk validityOf isScore isFinite isUnflagged withSignal levelsOver levelsOf autoOf resolveOf thresholdOk filledAs fillShort reached soundAt soundsAfter hysteresis belowAt belowOff quietRuns withFrame runs rewritten rewrittenAll eachRun silentRuns silencesOf isSilent anySound fillSilence soundsOf durationsOk soundsIn silencesIn lowestLeast predecessorOf isWithin pieceLength lengthCostOf overOf mayStart withPiece withCut withCutAt nextScore tableOf bestScore parentOf wayBack bestPath bestWith parentWith wayWith bestPathByCount bestScoreByCount isCount countOk ratioOk isWeight isCutCost isReference weightsOk lowOf highOf isInner isGap innerGaps gapsOf dropped keptFrames boundaries blockOf paddingOf edgeLimit spacingOf isLeading isTrailing allSilent emptySpan firstOf lastOf divisionsOf keeps anyOf isFeasible getsGrid touches opens blocksAt blockedBy isBlocked openTo blockEnd pointsFrom gridPoints splitPoint leastLevelFrom leastLevel openCut silenceCut shareOf chosenBy pauseOf cutCost smoothedAt frameLevel levelAt boundaryLevels rangeOf normalizeOf quieter quietestIn quietestOf mostOf stretchAt secsOf clipped windowOf widthOf sumFrom sumOf meanOf pieceLengthsOk allDurationsOk firstRefusalOf pausesBy inPause pointReason pointAt ownAt ownFrom allListed withLeft cheaper cheapestOf cheapest survivors candidatesOf costsOf runsIn boundaryLevelsIn bridgeFrom greedyCutsFrom pointsIn nextAt placeAt leastLimitFrom reachOf reachableIn targetByCount lengthsWith cutNumbersFrom pieceNumbersFrom piecesAlongNumbers cutsAlongNumbers shortFlag longFlag flagsOf hasRoom handedOutOf planPieces planCuts plannedOf planOf planByLength hasParents suffices plannedUnder planByCount planBy span climb size odd units round sum add neg sub mul div lt eq le isNan ofInt ofBits
+  unfolding pathScore scoreFrom minOf maxOf clampOf square offOf short lengthCost filled onto tabulate allOf workOk startOf boundaryOf covers framesIn framesCeil framesFloor samplesFloor samplesIn secondsOf frameSecs isUpTo frameStepOk framesOk listsOk valuesOk lengthOk validityOf isScore isFinite isUnflagged withSignal levelsOver levelsOf autoOf resolveOf thresholdOk filledAs fillShort reached soundAt soundsAfter hysteresis belowAt belowOff quietRuns withFrame runs rewritten rewrittenAll eachRun silentRuns silencesOf isSilent anySound fillSilence soundsOf durationsOk soundsIn silencesIn lowestLeast predecessorOf isWithin pieceLength lengthCostOf overOf mayStart withPiece withCut withCutAt nextScore tableOf bestScore parentOf wayBack bestPath bestWith parentWith wayWith bestPathByCount bestScoreByCount isCount countOk ratioOk isWeight isCutCost isReference weightsOk lowOf highOf isInner isGap innerGaps gapsOf dropped keptFrames boundaries blockOf paddingOf edgeLimit spacingOf isLeading isTrailing allSilent emptySpan firstOf lastOf divisionsOf keeps anyOf isFeasible getsGrid touches opens blocksAt blockedBy isBlocked openTo blockEnd pointsFrom gridPoints splitPoint leastLevelFrom leastLevel openCut silenceCut shareOf chosenBy pauseOf cutCost smoothedAt frameLevel levelAt boundaryLevels rangeOf normalizeOf quieter quietestIn quietestOf mostOf stretchAt secsOf clipped windowOf widthOf sumFrom sumOf meanOf pieceLengthsOk allDurationsOk firstRefusalOf pausesBy inPause pointReason pointAt ownAt ownFrom allListed withLeft cheaper cheapestOf cheapest survivors candidatesOf costsOf runsIn boundaryLevelsIn bridgeFrom greedyCutsFrom pointsIn nextAt placeAt leastLimitFrom reachOf reachableIn targetByCount lengthsWith cutNumbersFrom pieceNumbersFrom piecesAlongNumbers cutsAlongNumbers shortFlag longFlag flagsOf hasRoom handedOutOf planPieces planCuts plannedOf planOf planByLength hasParents suffices plannedUnder planByCount planBy span climb size odd units round sum add neg sub mul div lt eq le isNan ofInt ofBits
   plan-trials = record {
     printed = refl;
     count-two = refl;
@@ -197,4 +265,13 @@ module _ (a b c d : ℕ) (x : Float) where
     parents-short = refl;
     output-short = refl;
     work-short = refl;
+    raised-from = refl;
+    raised-to = refl;
+    score-from = refl;
+    score-to = refl;
+    count-raised-from = refl;
+    count-raised-to = refl;
+    count-enough = (refl, refl);
+    count-score-from = refl;
+    count-score-to = refl;
   }

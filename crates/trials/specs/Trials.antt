@@ -46,7 +46,8 @@ use Rattle.path_tests.specs.Costs.{isCost, isTarget, isMin, lengthsOk}
 use Rattle.path_tests.specs.Refusal.{isCount, countOk, firstRefusalOf}
 use Rattle.path_tests.specs.declared.refusal.Verdict.the-variants.{Fine}
 use Rattle.path_list.specs.Operation.{handedOutOf, soughtOf, endOf, pathOf}
-use Rattle.path_list.specs.declared.search.Answer.the-variants.{Found}
+use Rattle.path_list.specs.declared.search.Answer.{Answer}
+use Rattle.path_list.specs.declared.search.Answer.the-variants.{Found, ShortPath}
 
 -- ---- the path
 
@@ -171,3 +172,25 @@ trials first last = record {
 pub before-the-cut : (first last : Float) → ByLength 200 (0 ∷ 100 ∷ 200 ∷ 400 ∷ []) (first ∷ halves 1 ∷ fin false 1 (pos 60) ∷ last ∷ []) (0 ∷ 1 ∷ 2 ∷ 3 ∷ []) 0 (fin false 1 (pos 60))
 unfolding bestPath wayBack parentOf bestScore tableOf nextScore predecessorOf withCutAt isWithin mayStart lowestLeast withPiece withCut overOf pieceLength lengthCostOf lengthCost square offOf short span climb size odd units round sum add neg sub mul div lt eq le ofInt
 before-the-cut first last = (refl, refl)
+
+-- ---- document 02, S-12: by length a longer limit may need a longer output
+
+-- five candidates, and a cut in the middle that is dear
+abbrev near : List ℕ
+near = 0 ∷ 25 ∷ 75 ∷ 125 ∷ 150 ∷ []
+
+abbrev dear : List Float
+dear = whole 0 ∷ whole 0 ∷ whole 2 ∷ whole 0 ∷ whole 0 ∷ []
+
+-- the operation's answer over these by length, with an output of three entries, whatever the lists held
+abbrev RoomForThree : ℕ → Answer → Type 0
+RoomForThree limit answer = (p a b : ℕ) (x : Float)
+    → pathOf (within limit) near near dear mode.ByLength (replicate 3 p) (workOf (replicate 80 a) (replicate 80 b) (replicate 80 x)) [] .answer ≡ answer
+
+-- limit 75: three candidates at 2.125. Limit 100: four at 1.125, which cost less and do not fit; counted against 75 their piece of 100 would be over-long, and the path after raising worse
+pub longer-limit : RoomForThree 75 (Found (record { score = record { over = 0; cost = fin false 17 (negsuc 2) }; len = 3 }))
+    × RoomForThree 100 ShortPath
+    × ByLength 75 near dear (0 ∷ 2 ∷ 4 ∷ []) 0 (fin false 17 (negsuc 2))
+    × ByLength 100 near dear (0 ∷ 1 ∷ 3 ∷ 4 ∷ []) 0 (fin false 9 (negsuc 2))
+unfolding bestPath wayBack parentOf bestScore tableOf nextScore predecessorOf withCutAt isWithin mayStart lowestLeast withPiece withCut overOf pieceLength lengthCostOf lengthCost square offOf short span climb size odd units round sum add neg sub mul div lt eq le ofInt firstRefusalOf listsOk endsOk endsFrom endOk isCost lengthsOk isTarget isMin countOk workOk pathOf soughtOf handedOutOf onto allOf filled ofBits
+longer-limit = (λ p a b x. refl, λ p a b x. refl, (refl, refl), (refl, refl))

@@ -2,6 +2,7 @@
 //! every lent list as document 01 leaves it.
 
 mod all;
+mod raised;
 mod refusals;
 
 use super::lists::{List, Work, enough};
@@ -16,11 +17,12 @@ use crate::tally::Tally;
 /// Entries of each work list for a candidate.
 const WORK: usize = 16;
 
-pub fn subjects() -> [Subject; 4] {
+pub fn subjects() -> [Subject; 5] {
     [
         Subject::new("path", path),
         Subject::new("path_large", path_large),
         Subject::new("path_all", all::all),
+        Subject::new("path_raised", raised::raised),
         Subject::new("path_refusals", refusals::refusals),
     ]
 }
@@ -106,6 +108,9 @@ struct Sizes {
     path: usize,
 }
 
+/// The library's answer: the path with its score, or a refusal.
+type Given = Result<(Vec<u32>, Score), u32>;
+
 /// The lent lists, kept from call to call.
 struct Caller {
     work: Work,
@@ -158,6 +163,15 @@ impl Caller {
         } else {
             self.ask_again(job, refusal, path)
         }
+    }
+
+    /// What the port answers, in lists that earlier work left full.
+    fn given(&mut self, job: &Job, sizes: &Sizes, rng: &mut Rng) -> Given {
+        self.soil(sizes, rng);
+        let (work, parent) = (self.work.lend(), self.parent.lend());
+        let found = ours::path::found(job, work, parent, self.path.lend())?;
+        let (over, cost) = (found.over, found.score_cost);
+        Ok((found.path.to_vec(), Score { over, cost }))
     }
 
     /// Asks once more, for the filled part of the output.

@@ -27,17 +27,30 @@ pub fn subjects() -> [Subject; 5] {
 }
 
 fn plan(amount: Amount, rng: &mut Rng, tally: &mut Tally) {
-    let trials = trials::planned();
+    let trials = first_inputs();
     let mut caller = Caller::new();
     for i in 0..amount.inputs {
         if let Some((job, planned)) = trials.get(i as usize) {
-            assert_eq!(&job.planned(), planned, "a trial cut of document 01");
+            assert_eq!(&job.planned(), planned, "a trial");
             ask_accepted(&mut caller, job, rng, tally);
             continue;
         }
         let job = small(rng);
         ask_accepted(&mut caller, &job, rng, tally);
     }
+}
+
+/// Document 01's trial cuts, and the plans that cost more under a longer maximum.
+fn first_inputs() -> Vec<(Job, Planned)> {
+    let raised = trials::raised();
+    for (job, _, score) in &raised {
+        assert_eq!(job.score().as_ref(), Some(score), "the score of a plan");
+    }
+    for pair in raised.chunks(2) {
+        assert!(pair[0].2 < pair[1].2, "more under the longer maximum");
+    }
+    let raised = raised.map(|(job, planned, _)| (job, planned));
+    trials::planned().into_iter().chain(raised).collect()
 }
 
 /// So few frames that every plan is held against all divisions.

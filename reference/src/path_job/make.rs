@@ -75,7 +75,8 @@ impl Job {
         count.max(1) as u32
     }
 
-    fn any_limit(&self, rng: &mut Rng) -> u64 {
+    /// A limit near the lengths of pieces, or at an end of what is accepted.
+    pub fn any_limit(&self, rng: &mut Rng) -> u64 {
         let last = self.last();
         let neighbours = (0..last).map(|i| self.len(i, i + 1));
         match rng.below(16) {

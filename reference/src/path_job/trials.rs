@@ -25,6 +25,20 @@ pub fn trials() -> Vec<Trial> {
     ]
 }
 
+/// Document 02's S-12 over five candidates, by length: the path before and after raising the limit
+/// from 75 to 100, which has one candidate more and costs less.
+pub fn raised_trial() -> (Trial, Trial) {
+    let mut before = list(&[0, 25, 75, 125, 150], 0.0);
+    before.cost[2] = 2.0;
+    before.preferences.max = 75;
+    let mut after = before.clone();
+    after.preferences.max = 100;
+    (
+        trial(before, &[0, 2, 4], 0, 2.125),
+        trial(after, &[0, 1, 3, 4], 0, 1.125),
+    )
+}
+
 fn trial(job: Job, path: &[u32], over: u32, cost: f64) -> Trial {
     (job, path.to_vec(), Score { over, cost })
 }

@@ -9,7 +9,7 @@ use silence_split::plan::{Cut, Plan, hook_completed, hook_found, plan};
 
 use super::places::Places;
 use super::{Job, reason};
-use crate::path_job;
+use crate::path_job::{self, Score};
 
 /// The Rust's plan, as the port gives it.
 #[derive(Clone, Debug, Default, PartialEq)]
@@ -92,7 +92,7 @@ impl Job {
         let (analysis, segment, config) = self.rust();
         let found = hook_found(&analysis, &segment, &config).candidates;
         let mut course = self.begun_with(&analysis, &found);
-        if !self.plan.by_count || !self.first_path_does(&course, &found) {
+        if !self.plan.by_count || !self.first_path_does(&analysis, &found) {
             let completed = hook_completed(&analysis, &segment, &config);
             course.completed = completed.map(|(list, limit)| Completed {
                 candidates: ends(&analysis, &list),
@@ -114,27 +114,52 @@ impl Job {
 
     /// Whether the first path by count has as many pieces as were asked for and none of them over
     /// the maximum.
-    fn first_path_does(&self, course: &Course, found: &[Shown]) -> bool {
-        let (left, right): (Vec<u64>, Vec<u64>) = course.found.iter().copied().unzip();
-        let Some(span) = left.last().map(|end| end - right[0]) else {
-            return true;
-        };
+    fn first_path_does(&self, analysis: &Analysis, found: &[Shown]) -> bool {
+        let maximum = analysis.hook_samples_floor(Duration::from_nanos(self.plan.max));
+        self.path_over(analysis, found, maximum).is_none_or(|path| {
+            let count = self.plan.count as usize;
+            path.pieces() == count && path.score(&path.path()).over == 0
+        })
+    }
+
+    /// What is asked for the path over these candidates under a limit; none without a span.
+    fn path_over(&self, analysis: &Analysis, list: &[Shown], limit: u64) -> Option<path_job::Job> {
+        let (left, right): (Vec<u64>, Vec<u64>) = ends(analysis, list).into_iter().unzip();
+        let span = left.last()? - right[0];
         let plan = &self.plan;
-        let path = path_job::Job {
+        let samples = |nanos| analysis.hook_samples_in(Duration::from_nanos(nanos));
+        let target = match plan.by_count {
+            true => span as f64 / f64::from(plan.count),
+            false => samples(plan.target),
+        };
+        Some(path_job::Job {
             left,
             right,
-            cost: found.iter().map(|c| c.cost).collect(),
+            cost: list.iter().map(|c| c.cost).collect(),
             preferences: Preferences {
-                min: course.minimum,
-                target: span as f64 / f64::from(plan.count),
-                max: course.maximum,
+                min: samples(plan.min),
+                target,
+                max: limit,
                 target_weight: plan.weights.target,
                 short_weight: plan.weights.short,
             },
-            by_count: true,
+            by_count: plan.by_count,
             count: plan.count,
+        })
+    }
+
+    /// The score of the path that the Rust's plan goes along; none where the plan is empty.
+    pub fn score(&self) -> Option<Score> {
+        let (analysis, segment, config) = self.rust();
+        let found = hook_found(&analysis, &segment, &config).candidates;
+        let (list, limit) = if self.plan.by_count && self.first_path_does(&analysis, &found) {
+            let maximum = Duration::from_nanos(self.plan.max);
+            (found, analysis.hook_samples_floor(maximum))
+        } else {
+            hook_completed(&analysis, &segment, &config)?
         };
-        path.pieces() == plan.count as usize && path.score(&path.path()).over == 0
+        let path = self.path_over(&analysis, &list, limit)?;
+        Some(path.score(&path.path()))
     }
 }
 

@@ -1,8 +1,11 @@
-//! The trial cuts of document 01 that a plan of recording R has.
+//! The trial cuts of document 01 that a plan of recording R has, and plans that cost more under a
+//! longer maximum.
 
 use super::planned::Planned;
 use super::{Job, Settings};
 use crate::case::Case;
+use crate::path_job::Score;
+use crate::recording::Recording;
 use crate::silence_job;
 
 /// A job with the boundary where document 01 has R's silence cut.
@@ -31,6 +34,57 @@ pub fn planned() -> [(Job, Planned); 3] {
     ];
     let mut plans = plans.into_iter();
     jobs.map(|job| (job, plans.next().expect("one for each job")))
+}
+
+/// Document 02 says nothing of a plan whose maximum is raised: two recordings, by length and by
+/// count, each with its plan and the score of that before and after.
+pub fn raised() -> [(Job, Planned, Score); 4] {
+    let score = |cost| Score { over: 0, cost };
+    [
+        (
+            seconds(&[0.0, 1.0], 2, None),
+            planned_of(&[0, 1, 2], &[0, 0], &[0]),
+            score(0.6),
+        ),
+        (
+            seconds(&[0.0, 1.0], 3, None),
+            planned_of(&[0, 2], &[0], &[]),
+            score(1.0),
+        ),
+        (
+            seconds(&[1.0, 0.0, 0.0], 3, Some(2)),
+            planned_of(&[0, 2, 3], &[0, 0], &[0]),
+            score(0.3222222222222222),
+        ),
+        (
+            seconds(&[1.0, 0.0, 0.0], 4, Some(2)),
+            planned_of(&[0, 1, 3], &[0, 0], &[0]),
+            score(0.8222222222222222),
+        ),
+    ]
+}
+
+/// Frames of a second, one sample each; no minimum, target 1 s, and a maximum in seconds.
+fn seconds(values: &[f32], max: u64, count: Option<u32>) -> Job {
+    let mut case = Case::silent_scores(&Recording {
+        sample_rate: 1,
+        frame_rate: 1,
+        hop: 1,
+        frames: values.len() as u64,
+        len: values.len() as u64,
+    });
+    case.values = values.to_vec();
+    let settings = silence_job::Settings::usual();
+    let plan = Settings {
+        min: 0,
+        target: 1_000_000_000,
+        max: 1_000_000_000 * max,
+        by_count: count.is_some(),
+        count: count.unwrap_or(0),
+        ..Settings::usual()
+    };
+    let recording = silence_job::Job { case, settings };
+    Job { recording, plan }
 }
 
 /// Pieces between these ends, with these flags, and cuts between them for these reasons.
