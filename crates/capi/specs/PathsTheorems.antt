@@ -1,9 +1,10 @@
--- What the number of the exported operation "path over lent candidates" means: 0 exactly where a path was found, which is then document 01's best path.
+-- What the number of the exported operation "path over lent candidates" means: 0 exactly where a path was found, which is then document 01's best path; and where 12 cannot come.
 use mathlib.Core.Path.{_≡_}
 use mathlib.Core.Logic.{_↔_}
 use mathlib.Core.List.{List}
-use Prim.Native.Nat.{ℕ}
+use Prim.Native.Nat.{ℕ, _≤_}
 use lib.Ieee.{Float}
+use lib.ListN.{length as listLength}
 use Rattle.base_terms.specs.Work.{Work}
 use Rattle.path_pieces.specs.declared.lengths.Lengths.{Lengths}
 use Rattle.path_pieces.specs.declared.mode.Mode.{Mode}
@@ -11,7 +12,8 @@ use Rattle.path_pieces.specs.declared.mode.Mode.the-variants.{ByLength, ByCount
 use Rattle.path_rules.specs.declared.solved.Solved.{Solved}
 use Rattle.path_list.specs.Operation.{End, pathOf}
 use Rattle.path_list.specs.Found.{FoundByLength, FoundByCount}
-use Rattle.path_list.specs.Theorems.{found-by-length, found-by-count, number-zero}
+use Rattle.path_list.specs.Theorems.{found-by-length, found-by-count, number-zero, number-short}
+use Rattle.path_list.specs.GivesLaws.{never-short}
 use Rattle.path_list.specs.declared.search.Answer.the-variants.{Found}
 use Rattle.capi.specs.Paths.{PathCalled, pathCalledOf}
 
@@ -48,3 +50,8 @@ module _ (l : Lengths) (left right : List ℕ) (cost : List Float) (path : List 
   called-by-count count z =
       let (s, e) = called-zero (pathOf l left right cost (ByCount count) path work parent) length over score .0 z in
       rw (solved-is (pathOf l left right cost (ByCount count) path work parent) length over score s e) at (found-by-count l left right cost path work parent s count e)
+
+  -- 12 does not come where the output has an entry for each candidate
+  pub called-roomy : (mode : Mode) → listLength left ≤ listLength path → called mode .number ≡ 12 → ⊥
+  unfolding pathCalledOf
+  called-roomy mode whole e = never-short l left right cost path whole mode work parent (number-short (pathOf l left right cost mode path work parent .answer) e)

@@ -12,7 +12,8 @@ use Rattle.base_terms.specs.Limits.{maxLen}
 use Rattle.base_terms.specs.Scores.{scoreLe}
 use Rattle.base_terms.specs.Work.{Work}
 use Rattle.path_list.specs.Operation.{End, pathOf}
-use Rattle.path_list.specs.Raised.{Gives, Enough, NoShorter}
+use Rattle.path_list.specs.Gives.{Gives, Enough}
+use Rattle.path_list.specs.Raised.{NoShorter}
 use Rattle.path_list.specs.RaisedTheorems.{raised, gives-exactly, gives-again}
 use Rattle.kinds.specs.Flagged.{modeOf}
 use Rattle.capi.specs.Paths.{PathCalled, lengthsOf, pathCalledOf}
@@ -25,10 +26,11 @@ module _ (min target targetWeight shortWeight : Float) (left right : List ℕ) (
 
   module _ (before after : ℕ) (path path' : List ℕ) (work work' : Work) (parent parent' : List ℕ)
       (length length' over over' : ℕ) (score score' : Float) where
-    -- the call with the limit `before`, and the one with the limit `after`
+    -- the call with the limit `before`
     abbrev first : PathCalled
     first = pathCalledOf (operation before path work parent) length over score
 
+    -- the call with the limit `after`
     abbrev second : PathCalled
     second = pathCalledOf (operation after path' work' parent') length' over' score'
 

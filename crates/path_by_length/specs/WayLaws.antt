@@ -38,21 +38,10 @@ module _ (parent : ℕ → ℕ) where
   pub way-length : (j : ℕ) → 0 < j → Falling parent j → length (wayTo parent j) ≡ suc (length (wayTo parent (parent j)))
   way-length j h f = ap length (way-step j h f) ∙ simp length-append (omega arith)
 
-  some-under : (n j : ℕ) → j < n → Falling parent j → (0 < length (wayTo parent j)) × (length (wayTo parent j) ≤ suc j)
-  some-under zero j h f = absurd (omega arith)
-  some-under (suc n) zero h f = rw way-first (omega arith, omega arith)
-  some-under (suc n) (suc j) h f =
-      let b : parent (suc j) < suc j = f (suc j) (omega arith) (le-refl (suc j)) in
-      let r = some-under n (parent (suc j)) (omega arith) (λ k u v. f k u (omega arith)) in
-      rw (way-length (suc j) (omega arith) f) (omega arith, omega arith)
-
-  -- it has a candidate
+  -- and at least one
   pub way-some : (j : ℕ) → Falling parent j → 0 < length (wayTo parent j)
-  way-some j f = some-under (suc j) j (omega arith) f .0
-
-  -- and no more candidates than there are up to its end
-  pub way-few : (j : ℕ) → Falling parent j → length (wayTo parent j) ≤ suc j
-  way-few j f = some-under (suc j) j (omega arith) f .1
+  way-some zero f = rw way-first (omega arith)
+  way-some (suc j) f = rw (way-length (suc j) (omega arith) f) (omega arith)
 
 -- ---- it looks at the parents on the way alone
 

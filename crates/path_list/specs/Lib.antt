@@ -5,6 +5,7 @@ pub mod Search
 pub mod SearchLaws
 pub mod Found
 pub mod Theorems
+pub mod Gives
+pub mod GivesLaws
 pub mod Raised
-pub mod RaisedLaws
 pub mod RaisedTheorems

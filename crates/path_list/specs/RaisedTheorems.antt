@@ -8,7 +8,6 @@ use mathlib.Core.Bool.{true}
 use mathlib.Core.List.{List}
 use Prim.Native.Nat.{ℕ, _≤_}
 use native.Mathlib.Nat.{le-trans}
-use native.Mathlib.Omega.{arith}
 use borrow.Author.Tests.{le-leb}
 use lib.Ieee.{Float}
 use lib.ListN.{length, take}
@@ -18,15 +17,16 @@ use Rattle.path_pieces.specs.Pieces.{withLimit}
 use Rattle.path_pieces.specs.declared.lengths.Lengths.{Lengths}
 use Rattle.path_pieces.specs.declared.mode.Mode.{Mode}
 use Rattle.path_pieces.specs.declared.mode.Mode.the-variants.{ByLength, ByCount}
-use Rattle.path_rules.specs.Paths.{Allowed, lastCandidate, pieceCount}
-use Rattle.path_rules.specs.PathsLaws.{path-few}
+use Rattle.path_rules.specs.Paths.{Allowed}
+use Rattle.path_rules.specs.PathsLaws.{candidates-few}
 use Rattle.path_rules.specs.RaisedLaws.{best-raised, best-raised-by-count}
 use Rattle.path_rules.specs.declared.solved.Solved.{Solved}
 use Rattle.path_tests.specs.RefusalLaws.{fine-any-limit}
 use Rattle.path_list.specs.declared.search.Answer.{Answer}
 use Rattle.path_list.specs.Operation.{pathOf}
-use Rattle.path_list.specs.Raised.{NoWorse, Gives, Enough, NoShorter}
-use Rattle.path_list.specs.RaisedLaws.{gives-enough, enough-gives}
+use Rattle.path_list.specs.Gives.{Gives, Enough}
+use Rattle.path_list.specs.GivesLaws.{gives-enough, enough-gives}
+use Rattle.path_list.specs.Raised.{NoWorse, NoShorter}
 use Rattle.path_list.specs.Theorems.{searched, found-by-length, found-by-count}
 
 -- ---- no worse
@@ -43,8 +43,7 @@ module _ (l : Lengths) (low high : ℕ) (up : low ≤ high) (left right : List �
       (best-raised l left right cost low high up
       (take (s .len) (pathOf (withLimit l low) left right cost ByLength path work parent .path))
       (take (t .len) (pathOf (withLimit l high) left right cost ByLength path' work' parent' .path))
-      (record { allowed = a .best .allowed; least = a .best .least })
-      (record { allowed = b .best .allowed; least = b .best .least }))
+      (a .best) (b .best))
 
   -- and by count
   raised-by-count : (count : ℕ)
@@ -57,8 +56,7 @@ module _ (l : Lengths) (low high : ℕ) (up : low ≤ high) (left right : List �
       (best-raised-by-count l left right cost low high up count
       (take (s .len) (pathOf (withLimit l low) left right cost (ByCount count) path work parent .path))
       (take (t .len) (pathOf (withLimit l high) left right cost (ByCount count) path' work' parent' .path))
-      (record { allowed = a .best .allowed; least = a .best .least })
-      (record { allowed = b .best .allowed; least = b .best .least }))
+      (a .best) (b .best))
 
   -- the score after raising the limit is at most the score before
   pub raised : (mode : Mode) → NoWorse (pathOf (withLimit l low) left right cost mode path work parent .answer)
@@ -108,8 +106,7 @@ module _ (l : Lengths) (one other : ℕ) (left right : List ℕ) (cost : List Fl
         f64s = le-trans (had .f64s) (same .f64s);
         parents = λ count m. le-trans (had .parents count m) (same .parents);
         room = λ m best b.
-            let few = path-few (Allowed other left right) (λ i j a. a .0) (lastCandidate left) best (b .allowed) .1 in
             let some = searched (withLimit l one) left right cost path work parent (given .0) mode (given .1) .accepted .domain .candidates .some in
-            omega (arith, few, some, same .whole m);
+            le-trans (candidates-few (Allowed other left right) (λ i j a. a .0) left best some (b .allowed)) (same .whole m);
         room-by-count = λ count m. le-trans (had .room-by-count count m) (same .paths);
       }

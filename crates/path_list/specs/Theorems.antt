@@ -1,6 +1,6 @@
 -- What an answer of the operation means, with no other hypothesis than the answer.
 --   found-by-length, found-by-count   the path that was found is document 01's best path, by length and by count
---   number-zero                       0 is its number, and of no other answer
+--   number-zero, number-short         0 is its number, and of no other answer; 12 that of an output that is too short
 use mathlib.Core.Path.{_≡_, refl, sym, ap, _∙_}
 use mathlib.Core.Logic.{_↔_}
 use mathlib.Core.Bool.{Bool, true, false, cond}
@@ -65,9 +65,13 @@ handed-is way score path s e = go (leb (length way) (length path)) (leb-true (le
 module _ (l : Lengths) (left right : List ℕ) (cost : List Float) (path : List ℕ) (work : Work) (parent : List ℕ) (s : Solved) where
   -- an answer that was found is the search's, over candidates that no test refuses
   pub record Searched (mode : Mode) : Type 0 where
+    -- no test fails
     pub fine : firstRefusalOf left right cost l mode (length (work .u32s)) (length (work .u64s)) (length (work .f64s)) ≡ Fine
+    -- so the candidates are of the search's domain, and the lists long enough
     pub accepted : AcceptedLists left right cost l mode (length (work .u32s)) (length (work .u64s)) (length (work .f64s))
+    -- the search found this
     pub answer : soughtOf l left right cost mode (length parent) path .answer ≡ Found s
+    -- and left this in the output
     pub output : pathOf l left right cost mode path work parent .path ≡ soughtOf l left right cost mode (length parent) path .path
 
   -- every such answer is
@@ -131,6 +135,17 @@ module _ (l : Lengths) (left right : List ℕ) (cost : List Float) (path : List 
       go false q = let z : _≡_ {A = ℕ} 0 1 = cc in absurd (omega arith)
 
 -- ---- the number
+
+-- 12 is that of the output that is too short, and of no other answer
+pub number-short : (a : Answer) → numberOf a ≡ 12 → a ≡ ShortPath
+number-short (Found s) e = absurd (omega arith)
+number-short (Refused BadLists) e = absurd (omega arith)
+number-short (Refused BadEnds) e = absurd (omega arith)
+number-short (Refused BadCosts) e = absurd (omega arith)
+number-short (Refused BadCount) e = absurd (omega arith)
+number-short (Refused ShortWork) e = absurd (omega arith)
+number-short ShortParent e = absurd (omega arith)
+number-short ShortPath e = refl
 
 -- 0 is the number exactly where a path was found
 pub number-zero : (a : Answer) → (numberOf a ≡ 0) ↔ ((s : Solved) × (a ≡ Found s))

@@ -11,7 +11,7 @@ use Rattle.path_pieces.specs.Pieces.{pieceLength, overOf, noScore, withPiece}
 use Rattle.path_pieces.specs.PiecesLaws.{cut-at-over}
 use Rattle.path_pieces.specs.declared.lengths.Lengths.{Lengths}
 use Rattle.path_pieces.specs.declared.score.Score.{Score}
-use Rattle.path_rules.specs.Paths.{Onward, Path, overFrom, overCount, step, scoreFrom, pathScore}
+use Rattle.path_rules.specs.Paths.{Onward, Path, lastCandidate, overFrom, overCount, step, scoreFrom, pathScore}
 
 -- ---- one more piece at the end
 
@@ -64,6 +64,11 @@ path-few rule rising last (i ∷ rest) (e, o) = (omega arith, omega (arith, go i
     go : (i : ℕ) (rest : List ℕ) → Onward rule i rest last → length rest + i ≤ last
     go i [] e = omega (arith, e)
     go i (j ∷ rest) (p, o) = omega (arith, rising i j p, go j rest o)
+
+-- so one to the last candidate has at most as many candidates as there are
+pub candidates-few : (rule : ℕ → ℕ → Type 0) → ((i j : ℕ) → rule i j → i < j) → (left path : List ℕ) → 0 < length left → Path rule path (lastCandidate left)
+    → length path ≤ length left
+candidates-few rule rising left path some p = omega (arith, some, path-few rule rising (lastCandidate left) path p .1)
 
 -- ---- the pieces over the limit
 

@@ -16,8 +16,9 @@ use Rattle.path_pieces.specs.PiecesLaws.{over-raised, start-raised}
 use Rattle.path_pieces.specs.DomainLaws.{at-most-trans}
 use Rattle.path_pieces.specs.declared.lengths.Lengths.{Lengths}
 use Rattle.path_pieces.specs.declared.score.Score.{Score}
-use Rattle.path_rules.specs.Paths.{Allowed, AllowedByCount, lastCandidate, PathByLength, PathByCount, overFrom, overCount, step, scoreFrom, pathScore, BestByLength, BestByCount}
+use Rattle.path_rules.specs.Paths.{Allowed, AllowedByCount, lastCandidate, PathByLength, PathByCount, overFrom, overCount, step, scoreFrom, pathScore}
 use Rattle.path_rules.specs.PathsLaws.{path-weaken, over-count}
+use Rattle.path_rules.specs.BestPath.{BestPathByLength, BestPathByCount}
 use Rattle.path_rules.specs.Raised.{NoWorsePath}
 
 -- ---- one path under both limits
@@ -104,12 +105,12 @@ module _ (l : Lengths) (left right : List ℕ) (cut : List Float) where
     raised path path' t best = at-most-trans (after path') (after path) (before path) best (same-path path t)
 
     -- the best path is no worse: by length
-    pub best-raised : (path path' : List ℕ) → BestByLength (withLimit l low) left right cut path → BestByLength (withLimit l high) left right cut path'
+    pub best-raised : (path path' : List ℕ) → BestPathByLength (withLimit l low) left right cut path → BestPathByLength (withLimit l high) left right cut path'
         → NoWorsePath l low high left right cut path path'
     best-raised path path' b b' = raised path path' (b .least path (b .allowed)) (b' .least path (allowed-raised low high up left right path (b .allowed)))
 
     -- and by count
-    pub best-raised-by-count : (count : ℕ) (path path' : List ℕ) → BestByCount (withLimit l low) left right cut count path
-        → BestByCount (withLimit l high) left right cut count path' → NoWorsePath l low high left right cut path path'
+    pub best-raised-by-count : (count : ℕ) (path path' : List ℕ) → BestPathByCount (withLimit l low) left right cut count path
+        → BestPathByCount (withLimit l high) left right cut count path' → NoWorsePath l low high left right cut path path'
     best-raised-by-count count path path' b b' =
         raised path path' (b .least path (b .allowed)) (b' .least path (allowed-raised-by-count low high up left right count path (b .allowed)))

@@ -59,9 +59,13 @@ module _ (left right : List ℕ) (limit : ℕ) where
 
 -- test 15, taken apart
 pub record EqualLists (lefts rights costs : ℕ) : Type 0 where
+  -- there is a candidate
   pub some : 0 < lefts
+  -- not too many
   pub few : lefts ≤ maxCandidates
+  -- a right end for each
   pub paired : rights ≡ lefts
+  -- and a cost for each
   pub priced : costs ≡ lefts
 
 -- lists that pass are equally long

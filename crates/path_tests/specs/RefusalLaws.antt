@@ -31,35 +31,42 @@ use Rattle.path_tests.specs.declared.refusal.Refusal.the-variants.{BadLi
 -- ---- the seven ends of the chain, each under what has passed before it
 
 module _ (left right : List ℕ) (cost : List Float) (l : Lengths) (mode : Mode) (n32 n64 nf : ℕ) where
+  -- 15 comes first
   pub fails-lists : listsOk (length left) (length right) (length cost) ≡ false → Fails BadLists ≡ firstRefusalOf left right cost l mode n32 n64 nf
   unfolding firstRefusalOf
   fails-lists n = rw n
 
   module _ (a : listsOk (length left) (length right) (length cost) ≡ true) where
+    -- 16, where 15 passed
     pub fails-ends : endsOk left right (l .limit) ≡ false → Fails BadEnds ≡ firstRefusalOf left right cost l mode n32 n64 nf
     unfolding firstRefusalOf
     fails-ends n = rw (a, n)
 
     module _ (b : endsOk left right (l .limit) ≡ true) where
+      -- 17 for a cut's cost, where 15 and 16 passed
       pub fails-costs : allOf isCost cost ≡ false → Fails BadCosts ≡ firstRefusalOf left right cost l mode n32 n64 nf
       unfolding firstRefusalOf
       fails-costs n = rw (a, b, n)
 
       module _ (c : allOf isCost cost ≡ true) where
+        -- 17 for weights, target or minimum, where the cuts' costs passed too
         pub fails-lengths : lengthsOk l ≡ false → Fails BadCosts ≡ firstRefusalOf left right cost l mode n32 n64 nf
         unfolding firstRefusalOf
         fails-lengths n = rw (a, b, c, n)
 
         module _ (d : lengthsOk l ≡ true) where
+          -- 8, where all up to 17 passed
           pub fails-count : countOk mode ≡ false → Fails BadCount ≡ firstRefusalOf left right cost l mode n32 n64 nf
           unfolding firstRefusalOf
           fails-count n = rw (a, b, c, d, n)
 
           module _ (e : countOk mode ≡ true) where
+            -- 13, where 8 passed too
             pub fails-work : workOk (length left) n32 n64 nf ≡ false → Fails ShortWork ≡ firstRefusalOf left right cost l mode n32 n64 nf
             unfolding firstRefusalOf
             fails-work n = rw (a, b, c, d, e, n)
 
+            -- no test fails, where 13 passes as well
             pub passes : workOk (length left) n32 n64 nf ≡ true → Fine ≡ firstRefusalOf left right cost l mode n32 n64 nf
             unfolding firstRefusalOf
             passes n = rw (a, b, c, d, e, n)
@@ -73,11 +80,17 @@ step false refusal e = let z : _≡_ {A = ℕ} 0 1 = cc in absurd (omega arith)
 
 -- every test passes: 15, 16, 17 (costs, lengths), 8 and 13
 record AllPass (left right : List ℕ) (cost : List Float) (l : Lengths) (mode : Mode) (n32 n64 nf : ℕ) : Type 0 where
+  -- 15
   pub lists : listsOk (length left) (length right) (length cost) ≡ true
+  -- 16
   pub ends : endsOk left right (l .limit) ≡ true
+  -- 17, the cuts' costs
   pub costs : allOf isCost cost ≡ true
+  -- 17, weights, target and minimum
   pub lengths : lengthsOk l ≡ true
+  -- 8
   pub count : countOk mode ≡ true
+  -- 13
   pub work : workOk (length left) n32 n64 nf ≡ true
 
 all-pass : (left right : List ℕ) (cost : List Float) (l : Lengths) (mode : Mode) (n32 n64 nf : ℕ)
@@ -103,8 +116,11 @@ count-parts count e =
 
 -- the domain of the search, a count within its limits, and work lists that are long enough
 pub record AcceptedLists (left right : List ℕ) (cost : List Float) (l : Lengths) (mode : Mode) (n32 n64 nf : ℕ) : Type 0 where
+  -- what the search asks of candidates, costs and preferences
   pub domain : Searchable l left right cost
+  -- by count, the count is above 0 and within its limit
   pub counted : (count : ℕ) → mode ≡ ByCount count → (0 < count) × (count ≤ maxCount)
+  -- every work list has its 16 entries for each candidate
   pub work : WorkIn (length left) n32 n64 nf
 
 -- where no test fails, all of that holds

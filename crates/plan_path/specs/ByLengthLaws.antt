@@ -12,9 +12,10 @@ use Rattle.candidate_points.specs.Placed.{placed}
 use Rattle.candidate_points.specs.PlacedLaws.{placed-length, placed-take}
 use Rattle.path_pieces.specs.declared.lengths.Lengths.{Lengths}
 use Rattle.path_rules.specs.declared.solved.Solved.{Solved}
-use Rattle.path_rules.specs.Paths.{lastCandidate}
+use Rattle.path_rules.specs.Paths.{Allowed, lastCandidate}
+use Rattle.path_rules.specs.PathsLaws.{candidates-few}
 use Rattle.path_by_length.specs.Table.{wayTo, bestPath, bestScore}
-use Rattle.path_by_length.specs.WayLaws.{way-few}
+use Rattle.path_by_length.specs.Theorems.{best-path-allowed}
 use Rattle.path_by_length.specs.Solved.{cutsIn, parentsIn, parentAt, Parents, TableRoom, Settled}
 use Rattle.path_by_length.specs.SolvedLaws.{filled-parents, filled-path}
 use Rattle.plan_lists.specs.Within.{partAt}
@@ -50,8 +51,8 @@ module _ {l : Lengths} {left right : List ℕ} (search at : ℕ) (work₀ : List
 
   few : length (bestPath l left right (cutsIn (length left) cost₀)) ≤ length left
   few =
-      let f = way-few (parentAt (partAt (search + behindTable (length left)) (length left) work₁)) (lastCandidate left) (leads .falling) in
-      omega (arith, f, ap length path, room .domain .candidates .some)
+      candidates-few (Allowed (l .limit) left right) (λ i j a. a .0) left (bestPath l left right (cutsIn (length left) cost₀)) (room .domain .candidates .some)
+      (best-path-allowed (room .domain))
 
   -- so the walk back can start
   pub length-way : WayRoom (search + behindTable (length left)) (length left) at work₁ (answer .len)

@@ -159,13 +159,15 @@ byLengthScore most =
     let cs = completedByLength g (upTo ByLength most) (secondsWith ByLength most values) in
     pathScore (lengthsByLength g (upTo ByLength most)) (leftsOf g cs) (rightsOf g cs) (costsOf cs) (pathByLength g (upTo ByLength most) (secondsWith ByLength most values))
 
--- by count 2: a second of sound and two of silence, the grid and the span
+-- by count 2: a second of sound and two of silence
 abbrev three : List Float
 three = one ∷ none ∷ none ∷ []
 
+-- their grid
 abbrev grid3 : FrameGrid
 grid3 = gridOf (seconds 3) 3
 
+-- and their span under a maximum
 abbrev span3 : ℕ → Span
 span3 most = spanOf Keep (paddingIn (seconds 3) defaults (upTo (ByCount 2) most) 3) (silencesIn (seconds 3) defaults three (replicate 3 0))
 
@@ -219,8 +221,9 @@ module _ (a b c d : ℕ) (x : Float) where
         ≡ later (Planned 7)
         (outputOf (0 ∷ 100 ∷ 0 ∷ 100 ∷ 200 ∷ 0 ∷ 200 ∷ 300 ∷ 0 ∷ 300 ∷ 400 ∷ 0 ∷ 400 ∷ 500 ∷ 0 ∷ 500 ∷ 600 ∷ 0 ∷ 600 ∷ 700 ∷ 0 ∷ [])
         (100 ∷ 100 ∷ 2 ∷ 200 ∷ 200 ∷ 1 ∷ 300 ∷ 300 ∷ 1 ∷ 400 ∷ 400 ∷ 0 ∷ 500 ∷ 500 ∷ 2 ∷ 600 ∷ 600 ∷ 2 ∷ [])) 56
-    -- count 2 under 400 ms: the first path suffices, with two parents for each of five candidates
+    -- count 2 under 400 ms: the first path suffices
     pub sufficient : suffices grid2 plan2 span2 2 400 (candidatesWith recording defaults plan2 scores (replicate 7 0) [] []) ≡ true
+    -- and is the plan's, with two parents for each of five candidates
     pub first-suffices : call plan2 scores 6 3 10
         ≡ later (Planned 2) (outputOf (0 ∷ 400 ∷ 0 ∷ 400 ∷ 700 ∷ 0 ∷ []) (400 ∷ 400 ∷ 0 ∷ [])) 10
     -- 14: one entry fewer, at the first path
@@ -237,16 +240,23 @@ module _ (a b c d : ℕ) (x : Float) where
     -- 13: one entry fewer in a work list; every list is as it was
     pub work-short : planOf recording defaults (settings ByLength 400000000 Keep) scores (replicate 7 0) [] (output 6 3) (workOf (replicate 128 b) (replicate 128 c) (replicate 127 x)) (replicate 1 d)
         ≡ endOf (Refused ShortWork) (output 6 3) (workOf (replicate 128 b) (replicate 128 c) (replicate 127 x)) (replicate 1 d)
-    -- S-12 of a plan by length, of two frames: two pieces at 0.6 under 2 s, and one piece at 1 under 3 s
+    -- S-12 of a plan by length, of two frames: two pieces under 2 s
     pub raised-from : callSeconds (upTo ByLength 2) (none ∷ one ∷ []) 0 ≡ laterSeconds 2 (0 ∷ 1 ∷ 0 ∷ 1 ∷ 2 ∷ 0 ∷ []) (1 ∷ 1 ∷ 0 ∷ []) 0
+    -- one piece under 3 s
     pub raised-to : callSeconds (upTo ByLength 3) (none ∷ one ∷ []) 0 ≡ laterSeconds 1 (0 ∷ 2 ∷ 0 ∷ a ∷ a ∷ a ∷ []) (a ∷ a ∷ a ∷ []) 0
+    -- the two cost 0.6
     pub score-from : byLengthScore 2 ≡ record { over = 0; cost = ofBits binary64 0x3fe3_3333_3333_3333 }
+    -- and the one costs 1
     pub score-to : byLengthScore 3 ≡ record { over = 0; cost = ofBits binary64 0x3ff0_0000_0000_0000 }
-    -- and by count 2, of three frames: cut at 2 for 0.32 under 3 s, where the first path suffices, and at 1 for 0.82 under 4 s, over the completed candidates
+    -- by count 2, of three frames: cut at 2 under 3 s
     pub count-raised-from : callSeconds (upTo (ByCount 2) 3) three 8 ≡ laterSeconds 2 (0 ∷ 2 ∷ 0 ∷ 2 ∷ 3 ∷ 0 ∷ []) (2 ∷ 2 ∷ 0 ∷ []) 8
+    -- and at 1 under 4 s
     pub count-raised-to : callSeconds (upTo (ByCount 2) 4) three 8 ≡ laterSeconds 2 (0 ∷ 1 ∷ 0 ∷ 1 ∷ 3 ∷ 0 ∷ []) (1 ∷ 1 ∷ 0 ∷ []) 8
+    -- the first path suffices under 3 s, and not under 4 s
     pub count-enough : (enough3 3 ≡ true) × (enough3 4 ≡ false)
+    -- so the score under 3 s is that over the first candidates, 0.32
     pub count-score-from : byCountScore 3 (secondsWith (ByCount 2) 3 three []) ≡ record { over = 0; cost = ofBits binary64 0x3fd4_9f49_f49f_49f4 }
+    -- and under 4 s that over the completed ones, 0.82
     pub count-score-to : byCountScore 4 (completedByCount grid3 (upTo (ByCount 2) 4) (span3 4) (secondsWith (ByCount 2) 4 three) 2 4)
         ≡ record { over = 0; cost = ofBits binary64 0x3fea_4fa4_fa4f_a4fa }
 

@@ -137,12 +137,15 @@ pub record Trials (first last : Float) : Type 0 where
   pub one-silence : SilencesAre 700 scores 7 (2 ∷ 5 ∷ [])
   -- "1 1 0 0 1 1: none"
   pub no-silence : SilencesAre 600 (one ∷ one ∷ none ∷ none ∷ one ∷ one ∷ []) 6 []
-  -- L passes the tests of its operation, 15 to 17 and the others; R passes 1 to 6
+  -- L passes the tests of its operation, 15 to 17 and the others
   pub lists-pass : firstRefusalOf ends ends cuts (within 200) mode.ByLength 64 64 64 ≡ Fine
+  -- R passes 1 to 6
   pub recording-passes : validityOf (recording 700) scores (replicate 7 0) [] ≡ Valid
-  -- whole calls: L by length and by count 2, and R's silence list
+  -- whole calls: L by length
   pub call-by-length : PathCall mode.ByLength [] (0 ∷ 1 ∷ 2 ∷ 3 ∷ []) 0 (whole 1)
+  -- L by count 2
   pub call-by-count : (q : ℕ) → PathCall (mode.ByCount 2) (replicate 9 q) (0 ∷ 1 ∷ 3 ∷ []) 0 (halves 3)
+  -- and R's silence list
   pub call-silences : (p a b : ℕ) (x : Float)
       → silenceListOf (recording 700) defaults scores (replicate 7 0) [] (replicate 3 p) (workOf (replicate 128 a) (replicate 128 b) (replicate 128 x))
       ≡ silenceList.endOf (silences.Found 1) (2 ∷ 5 ∷ p ∷ []) (workOf (replicate 128 0) (replicate 128 0) (replicate 128 (ofBits binary64 0)))
@@ -175,10 +178,11 @@ before-the-cut first last = (refl, refl)
 
 -- ---- document 02, S-12: by length a longer limit may need a longer output
 
--- five candidates, and a cut in the middle that is dear
+-- five candidates
 abbrev near : List ℕ
 near = 0 ∷ 25 ∷ 75 ∷ 125 ∷ 150 ∷ []
 
+-- the cut in the middle is dear
 abbrev dear : List Float
 dear = whole 0 ∷ whole 0 ∷ whole 2 ∷ whole 0 ∷ whole 0 ∷ []
 

@@ -8,6 +8,9 @@ use crate::path_job::Score;
 use crate::recording::Recording;
 use crate::silence_job;
 
+/// In nanoseconds.
+const SECOND: u64 = 1_000_000_000;
+
 /// A job with the boundary where document 01 has R's silence cut.
 pub type Trial = (Job, u32);
 
@@ -36,9 +39,9 @@ pub fn planned() -> [(Job, Planned); 3] {
     jobs.map(|job| (job, plans.next().expect("one for each job")))
 }
 
-/// Document 02 says nothing of a plan whose maximum is raised: two recordings, by length and by
-/// count, each with its plan and the score of that before and after.
-pub fn raised() -> [(Job, Planned, Score); 4] {
+/// Document 02 says nothing of a plan whose maximum is raised: recordings by length, by count, and
+/// by count with gaps dropped, each with its plan and the score of that before and after.
+pub fn raised() -> [(Job, Planned, Score); 6] {
     let score = |cost| Score { over: 0, cost };
     [
         (
@@ -61,7 +64,20 @@ pub fn raised() -> [(Job, Planned, Score); 4] {
             planned_of(&[0, 1, 3], &[0, 0], &[0]),
             score(0.8222222222222222),
         ),
+        (padded(2), planned_of(&[1, 2], &[1], &[]), score(3.0)),
+        (padded(3), planned_of(&[0, 1, 2], &[1, 1], &[2]), score(4.6)),
     ]
+}
+
+/// A second of silence and one of sound by count 2, gaps dropped, a second of silence kept before
+/// sound: the maximum decides whether there is room for it.
+fn padded(max: u64) -> Job {
+    let mut job = seconds(&[0.0, 1.0], max, Some(2));
+    job.recording.settings.pre = SECOND;
+    job.recording.settings.tail = 0;
+    (job.plan.min, job.plan.target) = (2 * SECOND, 2 * SECOND);
+    job.plan.drop_gaps = true;
+    job
 }
 
 /// Frames of a second, one sample each; no minimum, target 1 s, and a maximum in seconds.
@@ -77,8 +93,8 @@ fn seconds(values: &[f32], max: u64, count: Option<u32>) -> Job {
     let settings = silence_job::Settings::usual();
     let plan = Settings {
         min: 0,
-        target: 1_000_000_000,
-        max: 1_000_000_000 * max,
+        target: SECOND,
+        max: SECOND * max,
         by_count: count.is_some(),
         count: count.unwrap_or(0),
         ..Settings::usual()

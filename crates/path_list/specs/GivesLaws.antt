@@ -1,4 +1,5 @@
--- When a call gives a path: where no test refuses it, exactly where the parent list and the output are long enough.
+-- When a call gives a path: where no test refuses it, exactly where the parent list and the output are long enough. So 12 does not come where the output has an entry for
+-- each candidate.
 use mathlib.Core.Path.{_≡_, refl, ap, _∙_}
 use mathlib.Core.Logic.{_↔_}
 use mathlib.Core.Bool.{Bool, true, false, cond}
@@ -17,7 +18,8 @@ use Rattle.path_pieces.specs.declared.lengths.Lengths.{Lengths}
 use Rattle.path_pieces.specs.declared.mode.Mode.{Mode}
 use Rattle.path_pieces.specs.declared.mode.Mode.the-variants.{ByLength, ByCount}
 use Rattle.path_pieces.specs.declared.score.Score.{Score}
-use Rattle.path_rules.specs.Paths.{lastCandidate, pieceCount}
+use Rattle.path_rules.specs.Paths.{Allowed, AllowedByCount, lastCandidate, pieceCount}
+use Rattle.path_rules.specs.PathsLaws.{candidates-few}
 use Rattle.path_rules.specs.BestPath.{BestPathByLength}
 use Rattle.path_rules.specs.declared.solved.Solved.{Solved}
 use Rattle.path_by_length.specs.Table.{bestScore, bestPath}
@@ -26,10 +28,11 @@ use Rattle.path_by_count.specs.Table.{bestPathByCount, bestScoreByCount}
 use Rattle.path_by_count.specs.Theorems.{count-all}
 use Rattle.path_tests.specs.Refusal.{firstRefusalOf}
 use Rattle.path_tests.specs.RefusalLaws.{AcceptedLists, accepted-lists, fine-limit}
-use Rattle.path_tests.specs.declared.refusal.Verdict.the-variants.{Fine}
+use Rattle.path_tests.specs.declared.refusal.Verdict.{Verdict}
+use Rattle.path_tests.specs.declared.refusal.Verdict.the-variants.{Fine, Fails}
 use Rattle.path_list.specs.declared.search.Answer.the-variants.{Found, ShortParent, ShortPath}
 use Rattle.path_list.specs.Operation.{Outcome, outcomeOf, handedOutOf, handedByCount, soughtOf, endAfter, pathOf}
-use Rattle.path_list.specs.Raised.{Gives, Enough}
+use Rattle.path_list.specs.Gives.{Gives, Enough}
 use Rattle.path_list.specs.Theorems.{Searched, searched}
 
 -- ---- a path that is handed out
@@ -117,3 +120,43 @@ module _ (l : Lengths) (left right : List ℕ) (cost : List Float) (path : List 
       rw f
       (sought-gives l left right cost count (length parent) path .1
       (enough .parents count refl, omega (arith, pieces, enough .room-by-count count refl)))
+
+-- ---- an output with an entry for each candidate
+
+module _ (l : Lengths) (left right : List ℕ) (cost : List Float) (path : List ℕ) (whole : length left ≤ length path) where
+  -- a path that fits is not 12
+  fits-not-short : (way : List ℕ) (score : Score) → length way ≤ length left → handedOutOf way score path .answer ≡ ShortPath → ⊥
+  fits-not-short way score few e =
+      let (s, f) = handed-gives way score path .1 (le-trans few whole) in
+      let z : _≡_ {A = ℕ} 0 1 = cc in
+      omega arith
+
+  sought-not-short : (mode : Mode) (n32 n64 nf parents : ℕ) → AcceptedLists left right cost l mode n32 n64 nf
+      → soughtOf l left right cost mode parents path .answer ≡ ShortPath → ⊥
+  unfolding soughtOf
+  sought-not-short ByLength n32 n64 nf parents ok e =
+      fits-not-short (bestPath l left right cost) (bestScore l left right cost (lastCandidate left))
+      (candidates-few (Allowed (l .limit) left right) (λ i j a. a .0) left (bestPath l left right cost) (ok .domain .candidates .some)
+      (best-path-all (ok .domain) .allowed)) e
+  sought-not-short (ByCount count) n32 n64 nf parents ok e = go (leb (pieceCount left count * length left) parents) e
+    where
+      few : length (bestPathByCount l left right cost count) ≤ length left
+      few =
+          candidates-few (AllowedByCount (l .limit) left right) (λ i j a. a .0) left (bestPathByCount l left right cost count) (ok .domain .candidates .some)
+          (count-all (ok .domain) count (ok .counted count refl .0) .allowed .0)
+
+      go : (b : Bool) → cond b (handedByCount l left right cost count path) (outcomeOf ShortParent path) .answer ≡ ShortPath → ⊥
+      go true q = fits-not-short (bestPathByCount l left right cost count) (bestScoreByCount l left right cost count) few q
+      go false q = let z : _≡_ {A = ℕ} 0 1 = cc in omega arith
+
+  -- 12 does not come
+  pub never-short : (mode : Mode) (work : Work) (parent : List ℕ) → pathOf l left right cost mode path work parent .answer ≡ ShortPath → ⊥
+  unfolding pathOf
+  never-short mode work parent e =
+      go (firstRefusalOf left right cost l mode (length (work .u32s)) (length (work .u64s)) (length (work .f64s)))
+      (accepted-lists left right cost l mode (length (work .u32s)) (length (work .u64s)) (length (work .f64s))) e
+    where
+      go : (v : Verdict) → (v ≡ Fine → AcceptedLists left right cost l mode (length (work .u32s)) (length (work .u64s)) (length (work .f64s)))
+          → endAfter v (soughtOf l left right cost mode (length parent) path) path work parent .answer ≡ ShortPath → ⊥
+      go Fine ok q = sought-not-short mode (length (work .u32s)) (length (work .u64s)) (length (work .f64s)) (length parent) (ok refl) q
+      go (Fails r) ok q = let z : _≡_ {A = ℕ} 0 1 = cc in omega arith
