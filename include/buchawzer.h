@@ -27,7 +27,7 @@
  *   compiler warns where it is not looked at (BUCHAWZER_NODISCARD).
  * - Output lists and counts are as they were. So is output beyond the answer where the call is not refused.
  * - Work lists (work_u32, work_u64, work_f64, parent) may hold anything before a call. After a refusal by a test of the
- *   input (every number but 12, 14 and 18) they are as they were; after every other end, success too, they are all 0.
+ *   input (every number but 12 and 14) they are as they were; after every other end, success too, they are all 0.
  */
 #ifndef BUCHAWZER_H
 #define BUCHAWZER_H
@@ -73,7 +73,6 @@ enum buchawzer_refusal {
     BUCHAWZER_REFUSED_CANDIDATES = 15,
     BUCHAWZER_REFUSED_ENDS = 16,
     BUCHAWZER_REFUSED_COSTS = 17,
-    BUCHAWZER_REFUSED_REACH = 18,
     BUCHAWZER_REFUSED_JOB = 19
 };
 
@@ -120,8 +119,6 @@ static inline const char *buchawzer_refusal_meaning(uint32_t number)
     case BUCHAWZER_REFUSED_COSTS:
         return "a cost or length weight negative or not finite, target outside 2^−40 to 2^60, minimum outside 0 to "
             "2^60";
-    case BUCHAWZER_REFUSED_REACH:
-        return "by count, no limit leaves few enough pieces";
     case BUCHAWZER_REFUSED_JOB:
         return "no job: above 8,192 bytes or 511 frames, cut short, followed by bytes, or with an unknown bit or "
             "kind; or standard input could not be read";
@@ -176,8 +173,6 @@ static inline const char *buchawzer_refusal_advice(uint32_t number)
         return "sort the candidates, and join those that overlap; give the limit in samples";
     case BUCHAWZER_REFUSED_COSTS:
         return "look for a NaN in the costs; give target and minimum in samples, the target above 0";
-    case BUCHAWZER_REFUSED_REACH:
-        return "no input is known that gives it; ask for more pieces, or plan by length";
     case BUCHAWZER_REFUSED_JOB:
         return "look at it by tools/job --show, which names the field and offset where it stops being a job; for "
             "more frames use the library";
@@ -448,7 +443,7 @@ BUCHAWZER_NODISCARD uint32_t buchawzer_path(
     uint32_t *over,
     double *score_cost);
 
-/* The plan of a recording: its pieces and cuts. 0, or 1 to 11, 13, 14, 18, 12 in this order.
+/* The plan of a recording: its pieces and cuts. 0, or 1 to 11, 13, 14, 12 in this order.
  * With 0 `*found` is the number of pieces, n. Piece i has its start at pieces[3 i], its end at pieces[3 i + 1] and its
  * flags at pieces[3 i + 2]; the cut after it has the end of piece i at cuts[3 i], the start of the next at cuts[3 i + 1]
  * and its reason at cuts[3 i + 2]. There are n - 1 cuts, or none where the plan is empty. 3 * frames entries are enough
@@ -458,7 +453,8 @@ BUCHAWZER_NODISCARD uint32_t buchawzer_path(
  * for an hour at 100 frames a second by count 200. A path wants an entry for each piece and candidate, and as a rule there
  * are far fewer candidates than frames: the hour of examples/by_count.c, of 10 frames a second in 60 pieces, does with
  * 1 MB, where 8.6 MB are always enough. To lend less, start small and double the list on 14, as it does, up to the number
- * that is always enough: nothing is lost by a refusal but its time.
+ * that is always enough: nothing is lost by a refusal but its time. With lists of all these lengths a call is refused by
+ * a test of the recording or the settings alone, 1 to 11.
  * By count, set the maximum well above length / count. The maximum comes before every cost. Near length / count it
  * allows pieces of nearly one length only; below, the longest piece is made as short as it can be (demand 3 in README.md),
  * which comes to the same. Cuts then fall where the lengths put them: the hour of examples/by_count.c in 60 pieces has 48

@@ -12,7 +12,7 @@
 //! - A call that is not refused, and answers more than `()`, gives the fronts of the output lists, as far as they were
 //!   filled. What lies beyond is untouched.
 //! - Work lists and the parent list may hold anything before a call. After a refusal by a test of the input (every
-//!   number but 12, 14 and 18) they are as they were; after every other end, success too, they are all 0.
+//!   number but 12 and 14) they are as they were; after every other end, success too, they are all 0.
 //! - Lengths of sound are in samples of one channel, durations in nanoseconds.
 //! - [`cutplan`] keeps its lists on the stack, and wants 320 KB of it; the other operations want 64 KB.
 //!
@@ -68,8 +68,6 @@ impl Refusal {
     pub const ENDS: Self = Self(16);
     /// A cost, a weight, the target or the minimum of a path is outside its limits.
     pub const COSTS: Self = Self(17);
-    /// By count, no limit leaves few enough pieces.
-    pub const REACH: Self = Self(18);
     /// These bytes are no job. It stands in listings alone.
     pub const JOB: Self = Self(19);
 
@@ -1015,9 +1013,9 @@ pub fn path(
     })
 }
 
-/// The plan of a recording. Refused by 1 to 11, 13, 14, 18, 12, in this order. By length the parent list may be
+/// The plan of a recording. Refused by 1 to 11, 13, 14, 12, in this order. By length the parent list may be
 /// empty; by count [`parent_length`] entries are always enough. [`plan_length`] entries are enough for the pieces,
-/// and for the cuts.
+/// and for the cuts. With so many of each, and [`work_length`] of each work list, only 1 to 11 are left.
 pub fn make_plan<'a>(
     r: &Recording<'_>,
     s: &Settings,
@@ -1235,10 +1233,6 @@ impl Refusal {
                 "a cost or length weight negative or not finite, target outside 2^−40 to 2^60, \
                  minimum outside 0 to 2^60",
                 "look for a NaN in the costs; give target and minimum in samples, the target above 0",
-            ],
-            Self::REACH => [
-                "by count, no limit leaves few enough pieces",
-                "no input is known that gives it; ask for more pieces, or plan by length",
             ],
             Self::JOB => [
                 "no job: above 8,192 bytes or 511 frames, cut short, followed by bytes, or with an \

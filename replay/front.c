@@ -80,8 +80,7 @@ struct buchawzer_settings settings_in(const unsigned char *r)
 
 bool clears_work(uint32_t refusal)
 {
-    return refusal == BUCHAWZER_ACCEPTED || refusal == BUCHAWZER_REFUSED_OUTPUT || refusal == BUCHAWZER_REFUSED_PARENT
-        || refusal == BUCHAWZER_REFUSED_REACH;
+    return refusal == BUCHAWZER_ACCEPTED || refusal == BUCHAWZER_REFUSED_OUTPUT || refusal == BUCHAWZER_REFUSED_PARENT;
 }
 
 struct buchawzer_work work_lent(struct lent *l, size_t entries, bool cleared)

@@ -9,7 +9,6 @@ use Rattle.candidate_span.specs.Kept.{keptFrames}
 use Rattle.candidate_span.specs.Span.{Span}
 use Rattle.division.specs.Places.{cutAt}
 use Rattle.division.specs.Divisions.{divisionsOf, keeps, anyOf, isFeasible}
-use Rattle.completion_reach.specs.declared.reach.Sought.the-variants.{Reach, Nothing}
 use Rattle.completion_reach.specs.Reachable.{reachableIn}
 use Rattle.completion_reach.specs.Place.{placeAt}
 use Rattle.completion_reach.specs.Next.{nextAt}
@@ -40,19 +39,24 @@ unfolding grid boundaryOf startOf reachableIn placeAt nextAt greedyCutsFrom
 far-cut = refl
 
 -- the least limit over all divisions
-reach-two : reachOf grid whole 2 300 ≡ Reach 400
+reach-two : reachOf grid whole 2 300 ≡ 400
 unfolding grid boundaryOf startOf keptFrames dropped divisionsOf keeps anyOf isFeasible leastLimitFrom reachOf
 reach-two = refl
 
 -- it is never below the maximum
-reach-at-maximum : reachOf grid whole 2 500 ≡ Reach 500
+reach-at-maximum : reachOf grid whole 2 500 ≡ 500
 unfolding grid boundaryOf startOf keptFrames dropped divisionsOf keeps anyOf isFeasible leastLimitFrom reachOf
 reach-at-maximum = refl
 
--- for no pieces there is none
-reach-none : reachOf grid whole 0 699 ≡ Nothing
+-- one piece keeps the span's length, and nothing below it
+reach-one-piece : reachOf grid whole 1 650 ≡ 700
 unfolding grid boundaryOf startOf keptFrames dropped divisionsOf keeps anyOf isFeasible leastLimitFrom reachOf
-reach-none = refl
+reach-one-piece = refl
+
+-- with a maximum above the span the reach is the maximum
+reach-above-span : reachOf grid whole 1 701 ≡ 701
+unfolding grid boundaryOf startOf keptFrames dropped divisionsOf keeps anyOf isFeasible leastLimitFrom reachOf
+reach-above-span = refl
 
 -- by length 300 samples are bridged by two points
 bridged : bridgeOf grid 300 0 7 ≡ cutAt 3 ∷ cutAt 6 ∷ []

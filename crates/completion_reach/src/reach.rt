@@ -10,14 +10,9 @@ ghost use Rattle.completion_reach.specs.ReachLaws.{Bracket};
 ghost use Rattle.division.specs.Division.{piecesAsked};
 ghost use Rattle.division.specs.Reach.{IsReach};
 ghost use mathlib.Core.Path.{_≡_};
+ghost use Prim.Native.Nat.{_<_};
 
-// The reach, or that there is none.
-pub enum Sought {
-    Reach(u64),
-    Nothing,
-}
-
-// The reach from `maximum` to a limit that is known to be feasible.
+// The reach, between a maximum that is too low and a limit that is enough.
 fn bisect(
     x: Ground,
     silences: &[u32],
@@ -35,20 +30,21 @@ fn bisect(
 {
     let mut low = maximum;
     let mut high = enough;
-    while low < high {
+    while low + 1 < high {
         let middle = low + (high - low) / 2;
         if fits::fits(x, silences, pieces, middle) {
             high = middle;
         } else {
-            low = middle + 1;
+            low = middle;
         }
     }
-    low
+    high
 }
 
 // The reach for so many pieces as are asked for.
-pub fn reach(x: Ground, silences: &[u32], count: usize, maximum: u64) -> Sought
+pub fn reach(x: Ground, silences: &[u32], count: usize, maximum: u64) -> u64
     requires { ⌜ Founded x (now silences) ⌝ }
+    requires { ⌜ 0 < count ⌝ }
     ensures { λ r. ⌜ r
         ≡ reachOf (x .grid) (spanIn (x .gap) (x .padding) (x .span) (now (silences .entry))) count maximum ⌝ }
 {
@@ -57,12 +53,9 @@ pub fn reach(x: Ground, silences: &[u32], count: usize, maximum: u64) -> Sought
     let frames = kept::kept_frames(gap, x.padding, x.span.first, x.span.last, silences);
     let pieces = sizes::lesser(count, frames);
     if fits::fits(x, silences, pieces, maximum) {
-        return Sought::Reach(maximum);
+        return maximum;
     }
-    // one piece at most is as long as the span
+    // a limit as long as the span divides it, into one piece
     let whole = g.position(x.span.last) - g.position(x.span.first);
-    if fits::fits(x, silences, pieces, whole) {
-        return Sought::Reach(bisect(x, silences, count, pieces, maximum, whole));
-    }
-    Sought::Nothing
+    bisect(x, silences, count, pieces, maximum, whole)
 }

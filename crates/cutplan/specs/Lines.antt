@@ -9,7 +9,7 @@ use Rattle.plan_settings.specs.declared.config.PlanConfig.{PlanConfig}
 use Rattle.plan_pieces.specs.Answer.{numberOf}
 use Rattle.plan_pieces.specs.Output.{Output, outputOf}
 use Rattle.plan_pieces.specs.declared.answer.Answer.{Answer}
-use Rattle.plan_pieces.specs.declared.answer.Answer.the-variants.{Planned, Refused, ShortParent, NoReach, ShortOutput}
+use Rattle.plan_pieces.specs.declared.answer.Answer.the-variants.{Planned, Refused, ShortParent, ShortOutput}
 use Rattle.listing.specs.Listing.{listingOf, refusalLine}
 use Rattle.cutplan.specs.Memory.{handedWithin}
 
@@ -22,7 +22,6 @@ unfoldable pub linesFor : Answer → Output → List ℕ
 linesFor (Planned n) out = listingOf n (out .pieces) (out .cuts)
 linesFor (Refused v) out = refusalLine (numberOf (Refused v))
 linesFor ShortParent out = refusalLine (numberOf ShortParent)
-linesFor NoReach out = refusalLine (numberOf NoReach)
 linesFor ShortOutput out = refusalLine (numberOf ShortOutput)
 
 -- "its other lists are large enough": three numbers for a piece, and for a cut, at each of 511 frames

@@ -21,7 +21,7 @@ use Rattle.plan_pieces.specs.Answer.{numberOf}
 use Rattle.plan_pieces.specs.AnswerLaws.{answer-most}
 use Rattle.plan_pieces.specs.Output.{Output}
 use Rattle.plan_pieces.specs.declared.answer.Answer.{Answer}
-use Rattle.plan_pieces.specs.declared.answer.Answer.the-variants.{Planned, Refused, ShortParent, NoReach, ShortOutput}
+use Rattle.plan_pieces.specs.declared.answer.Answer.the-variants.{Planned, Refused, ShortParent, ShortOutput}
 use Rattle.plan_theorems.specs.Made.{pieceStart, pieceEnd, Shows, PlanWritten}
 use Rattle.plan_theorems.specs.Theorems.{plan-made, plan-ended}
 use Rattle.job.specs.Job.{Asked, JobOrFault, asks, fails, jobOf}
@@ -95,7 +95,6 @@ module _ (job : List ℕ) (a : Asked) (read : jobOf job ≡ asks a) where
   answer-short (Planned n) e = plan-short n e
   answer-short (Refused v) e = omega (arith, refusal-fits (numberOf (Refused v)) (omega (arith, answer-most (Refused v))))
   answer-short ShortParent e = omega (arith, refusal-fits 14 (omega arith))
-  answer-short NoReach e = omega (arith, refusal-fits 18 (omega arith))
   answer-short ShortOutput e = omega (arith, refusal-fits 12 (omega arith))
 
 -- whatever the input

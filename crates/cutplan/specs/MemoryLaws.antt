@@ -18,7 +18,7 @@ use Rattle.plan_pieces.specs.Answer.{numberOf}
 use Rattle.plan_pieces.specs.AnswerLaws.{number-output}
 use Rattle.plan_pieces.specs.Output.{Output}
 use Rattle.plan_pieces.specs.declared.answer.Answer.{Answer}
-use Rattle.plan_pieces.specs.declared.answer.Answer.the-variants.{Planned, Refused, ShortParent, NoReach, ShortOutput}
+use Rattle.plan_pieces.specs.declared.answer.Answer.the-variants.{Planned, Refused, ShortParent, ShortOutput}
 use Rattle.plan_theorems.specs.Made.{HasRoom}
 use Rattle.plan_theorems.specs.Theorems.{plan-made, plan-ended}
 use Rattle.job.specs.Limits.{mostFrames}
@@ -48,7 +48,6 @@ module _ (r : Recording) (segment : SegmentConfig) (settings : PlanConfig) (valu
             never-work r segment settings values flags levels (length (lentWork .u32s)) (length (lentWork .u64s)) (length (lentWork .f64s)) x (work-lent (length values) few)
             (plan-ended r segment settings values flags levels out lentWork lentParents .first-failed x e) f
         go ShortParent e f = omega (arith, f)
-        go NoReach e f = omega (arith, f)
         go ShortOutput e f = omega (arith, f)
 
   -- the output is, where it has room for a piece at each frame

@@ -11,7 +11,7 @@ use Rattle.plan_settings.specs.declared.config.PlanConfig.{PlanConfig}
 use Rattle.plan_pieces.specs.Answer.{numberOf}
 use Rattle.plan_pieces.specs.Output.{Output, Handed, handedOf}
 use Rattle.plan_pieces.specs.declared.answer.Answer.{Answer}
-use Rattle.plan_pieces.specs.declared.answer.Answer.the-variants.{Planned, Refused, ShortParent, NoReach, ShortOutput}
+use Rattle.plan_pieces.specs.declared.answer.Answer.the-variants.{Planned, Refused, ShortParent, ShortOutput}
 use Rattle.job.specs.Limits.{mostFrames}
 use Rattle.listing.specs.Listing.{listingOf, refusalLine}
 use Rattle.cutplan.specs.Memory.{handedWithin}
@@ -29,7 +29,6 @@ roomy r segment settings values flags levels (Planned n) out e p c =
     (omega (arith, room .0, p), omega (arith, room .1, c), omega (arith, room .0))
 roomy r segment settings values flags levels (Refused v) out e p c = tt
 roomy r segment settings values flags levels ShortParent out e p c = tt
-roomy r segment settings values flags levels NoReach out e p c = tt
 roomy r segment settings values flags levels ShortOutput out e p c = tt
 
 -- of a plan of n pieces
@@ -49,7 +48,6 @@ unfolding linesFor
 refused-lines (Planned n) out never = absurd (never n refl)
 refused-lines (Refused v) out never = refl
 refused-lines ShortParent out never = refl
-refused-lines NoReach out never = refl
 refused-lines ShortOutput out never = refl
 
 -- ---- of what was handed out

@@ -9,7 +9,6 @@ use lib.ListN.{length}
 use Rattle.grid.specs.BoundaryLaws.{Accepted}
 use Rattle.grid.specs.declared.boundary.FrameGrid.{FrameGrid}
 use Rattle.candidate_span.specs.Gaps.{Cut, Spread}
-use Rattle.candidate_span.specs.KeptLaws.{spread-some}
 use Rattle.candidate_span.specs.Span.{Span}
 use Rattle.division.specs.Division.{keptIn, piecesAsked, Division, Among}
 use Rattle.division.specs.Pieces.{Piece, pieceFrom, piecesFrom, piecesOf, IsSingle, lengthOf, longest}
@@ -20,7 +19,7 @@ use Rattle.division.specs.PlacesLaws.{at-most-kept}
 use Rattle.division.specs.Greedy.{Greedy}
 use Rattle.division.specs.GreedyLaws.{greedy-divides, greedy-within}
 use Rattle.division.specs.Reach.{IsReach}
-use Rattle.division.specs.ReachLaws.{feasible-greedy}
+use Rattle.division.specs.ReachLaws.{asked-some, feasible-greedy}
 use Rattle.division.specs.Shares.{sharesOf}
 use Rattle.division.specs.SharesLaws.{shares-divide, shares-count}
 use Rattle.division.specs.Demand.{HasPiece, DemandByCount, DemandByLength}
@@ -71,7 +70,7 @@ module _ (g : FrameGrid) (s : Span) where
 module _ (g : FrameGrid) (ok : Accepted g) (s : Span) (spread : Spread (s .first) (s .gaps) (s .last)) (count : ℕ) (some : 0 < count)
     (all : List Cut) (divides : Division s all) (shares : Among (sharesOf s (piecesAsked s count)) all) where
   pieces-some : 0 < piecesAsked s count
-  pieces-some = omega (arith, some, spread-some (s .first) (s .gaps) (s .last) spread)
+  pieces-some = asked-some s spread count some
 
   -- they suffice for min(N, kept frames) pieces
   pub shares-suffice : piecesAsked s count ≤ length (piecesOf s all)

@@ -1,21 +1,24 @@
 -- A limit above a feasible one is feasible, and the greedy division tells whether a limit is: so the feasible limits from the maximum up have a least one, if there is any.
+-- There is: a limit as long as the span is feasible, since one piece is a division and a piece at least is asked for.
 use mathlib.Core.Path.{_≡_, subst}
 use mathlib.Core.Logic.{_⊎_, inl, inr}
-use mathlib.Core.List.{List}
-use Prim.Native.Nat.{ℕ, zero, suc, _+_, _≤_, _<_}
+use mathlib.Core.List.{List, [], List·Memᴰ, List·Memᴰ·not-nil}
+use Prim.Native.Nat.{ℕ, zero, suc, _+_, _≤_, _<_, max}
 use native.Mathlib.Omega.{arith}
 use lib.ListN.{length}
 use Rattle.base_laws.specs.Tests.{lt-or-le}
 use Rattle.grid.specs.BoundaryLaws.{Accepted}
 use Rattle.grid.specs.declared.boundary.FrameGrid.{FrameGrid}
 use Rattle.candidate_span.specs.Gaps.{Cut, Spread}
+use Rattle.candidate_span.specs.GapsLaws.{spread-ends}
+use Rattle.candidate_span.specs.KeptLaws.{spread-some}
 use Rattle.candidate_span.specs.Span.{Span}
 use Rattle.division.specs.Division.{piecesAsked, Division}
 use Rattle.division.specs.Pieces.{piecesOf, longest}
 use Rattle.division.specs.Greedy.{Greedy}
 use Rattle.division.specs.GreedyLaws.{greedy-divides, greedy-within, greedy-fewest}
 use Rattle.division.specs.GreedyFound.{greedy-found}
-use Rattle.division.specs.Reach.{Feasible, IsReach}
+use Rattle.division.specs.Reach.{Feasible, IsReach, spanLength, HasReach}
 
 -- a limit above a feasible one is feasible
 pub feasible-above : (g : FrameGrid) (s : Span) (count l m : ℕ) → l ≤ m → Feasible g s count l → Feasible g s count m
@@ -28,6 +31,19 @@ reach-one g s count maximum l m r t = omega (arith, r .least m (t .above) (t .fe
 -- the maximum is the reach where it is feasible itself
 pub reach-maximum : (g : FrameGrid) (s : Span) (count maximum : ℕ) → Feasible g s count maximum → IsReach g s count maximum maximum
 reach-maximum g s count maximum f = record { above = omega arith; feasible = f; least = λ l h e. h }
+
+-- a piece at least is asked for: a span that is not empty keeps a frame (`spread-some`)
+pub asked-some : (s : Span) → Spread (s .first) (s .gaps) (s .last) → (count : ℕ) → 0 < count → 0 < piecesAsked s count
+asked-some s spread count some = omega (arith, some, spread-some (s .first) (s .gaps) (s .last) spread)
+
+-- document 02: "A limit as long as the whole span always divides it, into one piece."
+pub span-feasible : (g : FrameGrid) (s : Span) → Spread (s .first) (s .gaps) (s .last) → (count : ℕ) → 0 < count → (limit : ℕ) → spanLength g s ≤ limit → Feasible g s count limit
+span-feasible g s spread count some limit h = record {
+  cuts = [];
+  divides = record { rises = spread-ends (s .first) (s .gaps) (s .last) spread; placed = λ (k : Cut) (m : List·Memᴰ k []). absurd (List·Memᴰ·not-nil m) };
+  few = omega (arith, asked-some s spread count some);
+  within = omega (arith, h);
+}
 
 module _ (g : FrameGrid) (ok : Accepted g) (s : Span) (spread : Spread (s .first) (s .gaps) (s .last)) (count : ℕ) where
   -- the greedy division of a feasible limit has at most min(N, kept frames) pieces
@@ -67,3 +83,12 @@ module _ (g : FrameGrid) (ok : Accepted g) (s : Span) (spread : Spread (s .first
   -- where any limit is feasible, there is a reach
   pub reach-found : (maximum l : ℕ) → Feasible g s count l → (limit : ℕ) × IsReach g s count maximum limit
   reach-found maximum l f = reach-below maximum l (feasible-above g s count l (maximum + l) (omega arith) f)
+
+  -- and so there is one
+  pub reach-exists : 0 < count → (maximum : ℕ) → HasReach g s count maximum
+  reach-exists some maximum =
+      let longer = max (spanLength g s) maximum in
+      let f = span-feasible g s spread count some longer (omega arith) in
+      let t = reach-found maximum longer f in
+      let most = t .1 .least longer (omega arith) f in
+      record { limit = t .0; reach = t .1; most = most; long = λ h. omega (arith, h, most, t .1 .above) }

@@ -11,7 +11,6 @@ pub fn pieces_after(answer: Answer, before: u64) -> u64
         Answer::Planned(n) => n as u64,
         Answer::Refused(_) => before,
         Answer::ShortParent => before,
-        Answer::NoReach => before,
         Answer::ShortOutput => before,
     }
 }

@@ -7,13 +7,13 @@ use lib.Ieee.{Float}
 use Rattle.grid.specs.BoundaryLaws.{Accepted}
 use Rattle.grid.specs.declared.boundary.FrameGrid.{FrameGrid}
 use Rattle.candidate_span.specs.Gaps.{Cut, Spread}
-use Rattle.candidate_span.specs.KeptLaws.{spread-some}
 use Rattle.candidate_span.specs.Span.{Span, spanOf}
 use Rattle.division.specs.Division.{keptIn, piecesAsked, Place}
 use Rattle.division.specs.SpanLaws.{span-spread}
 use Rattle.division.specs.Greedy.{Greedy}
 use Rattle.division.specs.GreedyLaws.{greedy-divides}
 use Rattle.division.specs.Reach.{IsReach}
+use Rattle.division.specs.ReachLaws.{asked-some}
 use Rattle.division.specs.Shares.{sharesOf}
 use Rattle.division.specs.SharesLaws.{shares-divide}
 use Rattle.candidates.specs.declared.candidate.Candidate.{Candidate}
@@ -49,7 +49,7 @@ module _ (x : Context) (ss runs : List ℕ) (levels : List Float) (ks : List ℕ
         go (inl i) = greedy-divides g ok span spread reach far greedy .placed k i
         go (inr i) =
             let fit : piecesAsked span count ≤ keptIn span = omega arith in
-            let more : 0 < piecesAsked span count = omega (arith, some, spread-some (span .first) (span .gaps) (span .last) spread) in
+            let more = asked-some span spread count some in
             shares-divide span spread (piecesAsked span count) more fit .placed k i
 
     -- a plan's candidates, with the cuts that completion by count adds

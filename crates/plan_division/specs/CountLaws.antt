@@ -13,13 +13,13 @@ use Rattle.path_rules.specs.Paths.{Allowed, AllowedByCount, Path, PathByLength,
 use Rattle.path_rules.specs.PathsLaws.{over-count}
 use Rattle.path_rules.specs.PathsLaws.{path-weaken}
 use Rattle.candidate_span.specs.Gaps.{Cut, Spread}
-use Rattle.candidate_span.specs.KeptLaws.{spread-some}
 use Rattle.candidate_span.specs.Span.{Span}
 use Rattle.division.specs.Division.{keptIn, piecesAsked, Among}
 use Rattle.division.specs.Pieces.{piecesOf, longest, overs}
 use Rattle.division.specs.PiecesLaws.{overs-none, none-over}
 use Rattle.division.specs.Refine.{Refined}
 use Rattle.division.specs.GreedyLaws.{greedy-divides}
+use Rattle.division.specs.ReachLaws.{asked-some}
 use Rattle.division.specs.Shares.{sharesOf}
 use Rattle.division.specs.SharesLaws.{shares-divide}
 use Rattle.division.specs.DemandLaws.{pieces-asked, reach-kept}
@@ -63,7 +63,7 @@ module _ (g : FrameGrid) (ok : Accepted g) (s : Span) (spread : Spread (s .first
   shares-all : Among (sharesOf s (piecesAsked s count)) (allCuts cs)
   shares-all k m =
       let fit : piecesAsked s count ≤ keptIn s = omega arith in
-      let more : 0 < piecesAsked s count = omega (arith, some, spread-some (s .first) (s .gaps) (s .last) spread) in
+      let more = asked-some s spread count some in
       let d = shares-divide s spread (piecesAsked s count) more fit in
       has-all s cs (c .across) k (left-cut s cs (c .across) spread k (d .placed k m) (c .has-shares k m))
 

@@ -27,13 +27,11 @@ use Rattle.candidates.specs.declared.context.Context.{Context}
 use Rattle.candidates.specs.Samples.{leftsOf, rightsOf}
 use Rattle.candidate_walk.specs.Held.{silencesHeld, levelsHeld}
 use Rattle.candidate_finder.specs.FinderLaws.{Stands}
-use Rattle.completion_reach.specs.declared.reach.Sought.{Sought}
-use Rattle.completion_reach.specs.declared.reach.Sought.the-variants.{Reach, Nothing}
 use Rattle.completion_reach.specs.Reach.{reachOf}
 use Rattle.plan_lengths.specs.PlanLengths.{maximumIn, lengthsWith, lengthsByCount}
 use Rattle.plan_pieces.specs.Along.{reasonsIn, piecesAlongNumbers, cutsAlongNumbers}
 use Rattle.plan_pieces.specs.Output.{Output, Handed, handedOf, handedOutOf}
-use Rattle.plan_pieces.specs.declared.answer.Answer.the-variants.{ShortParent, NoReach}
+use Rattle.plan_pieces.specs.declared.answer.Answer.the-variants.{ShortParent}
 use Rattle.plan_lists.specs.Positions.{entriesIn}
 use Rattle.plan_path.specs.Search.{leftsIn, rightsIn}
 use Rattle.plan_division.specs.Best.{bestPathOverByCount, oversOf}
@@ -161,43 +159,39 @@ module _ (x : Context) (g : FrameGrid) (settings : PlanConfig) (count : ℕ) (sp
       pub kept-after : (parents parents₂ : ℕ) → parents₂ ≡ parents → (out : Output) (now : Handed)
           → now ≡ plannedAfter g settings (spanIn (x .gap) (x .padding) span (silencesHeld (span .silences) (frontOf (x .padding .frames) work₂)))
           (heldWith x span (frontOf (x .padding .frames) work₂) (levelsHeld (x .padding .frames) workf₂)) count parents₂ out
-          (reachOf g (spanIn (x .gap) (x .padding) span (silencesHeld (span .silences) (frontOf (x .padding .frames) work₂))) count (maximumIn g settings))
-          → now ≡ plannedAfter g settings s with count parents out (reachOf g s count (maximumIn g settings))
+          → now ≡ plannedAfter g settings s with count parents out
       kept-after parents parents₂ e out now d = rw (fronts, same-levels, e) at d
 
     -- no point is added to the first candidates
     pub none-placed : (k : Cut) → List·Memᴰ k [] → Place s k
     none-placed k m = absurd (List·Memᴰ·not-nil m)
 
-    -- ---- the ends of planning after the reach was sought
+    -- ---- the ends of planning under the reach
 
-    module _ (most : ℕ) (is : most ≡ maximumIn g settings) (parents : ℕ) (out : Output) where
-      sought : (r : Sought) → reachOf g s count most ≡ r → reachOf g s count (maximumIn g settings) ≡ r
-      sought r e = ap (reachOf g s count) (sym is) ∙ e
+    module _ (most : ℕ) (is : most ≡ maximumIn g settings) (limit : ℕ) (reach : limit ≡ reachOf g s count most) where
+      abbrev ds : List Candidate
+      ds = completedByCount g settings s with count limit
 
-      -- there is no reach: 18
-      pub after-none : reachOf g s count most ≡ Nothing → handedOf NoReach out ≡ plannedAfter g settings s with count parents out (reachOf g s count (maximumIn g settings))
-      after-none e = sym (ap (plannedAfter g settings s with count parents out) (sought Nothing e))
+      -- the cuts that are added are places
+      pub after-placed : (k : Cut) → List·Memᴰ k (cutsAdded g s count limit) → Place s k
+      after-placed = count-placed x g span work workf h (room-collects room) most count limit (q .some) reach
 
-      module _ (limit : ℕ) (e : reachOf g s count most ≡ Reach limit) where
-        abbrev ds : List Candidate
-        ds = completedByCount g settings s with count limit
-
-        -- the cuts that are added are places
-        pub after-placed : (k : Cut) → List·Memᴰ k (cutsAdded g s count limit) → Place s k
-        after-placed = count-placed x g span work workf h (room-collects room) most count limit (q .some) e
+      module _ (parents : ℕ) (out : Output) where
+        -- what is planned under the limit is what is planned under the reach
+        under-reach : plannedUnder g settings s count limit ds parents out ≡ plannedAfter g settings s with count parents out
+        under-reach =
+            ap (λ (l : ℕ). plannedUnder g settings s count l (completedByCount g settings s with count l) parents out) (reach ∙ ap (reachOf g s count) is)
 
         -- the parent list is too short: 14
-        pub after-short : hasParents count (length ds) parents ≡ false
-            → handedOf ShortParent out ≡ plannedAfter g settings s with count parents out (reachOf g s count (maximumIn g settings))
+        pub after-short : hasParents count (length ds) parents ≡ false → handedOf ShortParent out ≡ plannedAfter g settings s with count parents out
         unfolding plannedUnder
-        after-short b = sym (ap (plannedAfter g settings s with count parents out) (sought (Reach limit) e) ∙ rw b)
+        after-short b = sym (rw b) ∙ under-reach
 
         -- the plan along the second path
         pub after-planned : hasParents count (length ds) parents ≡ true → (now : Handed) → now ≡ planAlong g settings ds (pathByCount g settings s count limit ds) out
-            → now ≡ plannedAfter g settings s with count parents out (reachOf g s count (maximumIn g settings))
+            → now ≡ plannedAfter g settings s with count parents out
         unfolding plannedUnder
-        after-planned b now d = d ∙ sym (ap (plannedAfter g settings s with count parents out) (sought (Reach limit) e) ∙ rw b)
+        after-planned b now d = d ∙ sym (rw b) ∙ under-reach
 
     -- ---- the ends of the whole
 
@@ -218,6 +212,6 @@ module _ (x : Context) (g : FrameGrid) (settings : PlanConfig) (count : ℕ) (sp
 
         -- else what is planned once the reach was sought
         pub count-second : suffices g settings s count most (with []) ≡ false
-            → (now : Handed) → now ≡ plannedAfter g settings s with count parents out (reachOf g s count (maximumIn g settings)) → now ≡ planByCount g settings s with count parents out
+            → (now : Handed) → now ≡ plannedAfter g settings s with count parents out → now ≡ planByCount g settings s with count parents out
         unfolding planByCount
         count-second b now d = d ∙ sym (rw (fits, subst (λ (m : ℕ). suffices g settings s count m (with []) ≡ false) is b))

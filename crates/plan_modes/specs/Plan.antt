@@ -1,4 +1,4 @@
--- Document 01's plan of a span that is not empty, by length and by count, with the refusals that arise on the way: 14, 18 and 12.
+-- Document 01's plan of a span that is not empty, by length and by count, with the refusals that arise on the way: 14 and 12.
 -- `with` gives the candidates of a recording and settings with points added at the boundaries of some cuts; with none, they are the first ones.
 use mathlib.Core.Bool.{Bool, _&&_}
 use mathlib.Core.List.{List, []}
@@ -12,15 +12,13 @@ use Rattle.plan_settings.specs.declared.config.PlanConfig.{PlanConfig}
 use Rattle.candidate_span.specs.Gaps.{Cut}
 use Rattle.candidate_span.specs.Span.{Span}
 use Rattle.candidates.specs.declared.candidate.Candidate.{Candidate}
-use Rattle.completion_reach.specs.declared.reach.Sought.{Sought}
-use Rattle.completion_reach.specs.declared.reach.Sought.the-variants.{Reach, Nothing}
 use Rattle.completion_reach.specs.Reach.{reachOf}
 use Rattle.plan_division.specs.Added.{addedByLength}
 use Rattle.plan_division.specs.Best.{bestPathOver, bestPathOverByCount, oversOf}
 use Rattle.plan_lists.specs.Parents.{hasParents}
 use Rattle.plan_lengths.specs.PlanLengths.{maximumIn, lengthsByLength, lengthsByCount}
 use Rattle.plan_pieces.specs.Output.{Output, Handed, handedOf, pick}
-use Rattle.plan_pieces.specs.declared.answer.Answer.the-variants.{ShortParent, NoReach}
+use Rattle.plan_pieces.specs.declared.answer.Answer.the-variants.{ShortParent}
 use Rattle.plan_steps.specs.Steps.{planAlong, cutsAdded}
 
 -- ---- by length
@@ -60,10 +58,11 @@ module _ (g : FrameGrid) (settings : PlanConfig) (s : Span) where
     abbrev pub completedByCount : ℕ → ℕ → List Candidate
     completedByCount count limit = with (cutsAdded g s count limit)
 
-    -- once the reach was sought: 18, or the path over the completed candidates under the reach
-    abbrev pub plannedAfter : ℕ → ℕ → Output → Sought → Handed
-    plannedAfter count parents out Nothing = handedOf NoReach out
-    plannedAfter count parents out (Reach limit) = plannedUnder count limit (completedByCount count limit) parents out
+    -- once the first path falls short: the path over the completed candidates, under the reach
+    abbrev pub plannedAfter : ℕ → ℕ → Output → Handed
+    plannedAfter count parents out =
+        let reach = reachOf g s count (maximumIn g settings) in
+        plannedUnder count reach (completedByCount count reach) parents out
 
     -- document 01: "if the first path has fewer than N pieces or one over the maximum", the reach is sought; else the plan along the first path; 14 comes before both
     unfoldable pub planByCount : ℕ → ℕ → Output → Handed
@@ -71,7 +70,7 @@ module _ (g : FrameGrid) (settings : PlanConfig) (s : Span) where
         pick (hasParents count (length (with [])) parents)
         (pick (suffices count (maximumIn g settings) (with []))
         (planAlong g settings (with []) (pathByCount count (maximumIn g settings) (with [])) out)
-        (plannedAfter count parents out (reachOf g s count (maximumIn g settings))))
+        (plannedAfter count parents out))
         (handedOf ShortParent out)
 
     -- ---- either

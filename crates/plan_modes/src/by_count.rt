@@ -9,7 +9,6 @@ use plan_lists::parents;
 use plan_pieces::answer::Answer;
 use plan_settings::config::PlanConfig;
 use plan_steps::complete;
-use plan_steps::complete::Completed;
 use plan_steps::hand;
 use plan_steps::search;
 ghost use mathlib.Core.Path.{_≡_};
@@ -20,8 +19,6 @@ ghost use lib.ListN.{length};
 ghost use Rattle.candidate_span.specs.Span.{spanIn};
 ghost use Rattle.candidate_walk.specs.Held.{silencesHeld, levelsHeld};
 ghost use Rattle.plan_pieces.specs.Output.{outputOf, handedOf};
-ghost use Rattle.completion_reach.specs.Reach.{reachOf};
-ghost use Rattle.plan_lengths.specs.PlanLengths.{maximumIn};
 ghost use Rattle.plan_steps.specs.Held.{frontOf, heldWith, SpanHeld, SpanRoom};
 ghost use Rattle.plan_modes.specs.Lengths.{AskedByCount};
 ghost use Rattle.plan_modes.specs.Plan.{plannedAfter, planByCount};
@@ -61,10 +58,7 @@ fn plan_after(
         (silencesHeld (span .silences) (frontOf (x .padding .frames) (now («work_u32» .entry)))))
         (heldWith x span (frontOf (x .padding .frames) (now («work_u32» .entry)))
         (levelsHeld (x .padding .frames) (now («work_f64» .entry))))
-        count (length (now (parent .entry))) (outputOf (now (pieces .entry)) (now (cuts .entry)))
-        (reachOf g (spanIn (x .gap) (x .padding) span
-        (silencesHeld (span .silences) (frontOf (x .padding .frames) (now («work_u32» .entry)))))
-        count (maximumIn g settings)) ⌝ }
+        count (length (now (parent .entry))) (outputOf (now (pieces .entry)) (now (cuts .entry))) ⌝ }
 {
     let max = lengths::maximum(g, settings);
     let completed = complete::complete_by_count(
@@ -76,36 +70,24 @@ fn plan_after(
         &mut *work_u32,
         &mut *work_f64,
     );
-    match completed {
-        Completed::NoReach => Answer::NoReach,
-        Completed::Under(limit, k) => {
-            if !parents::has_parents(count, k, parent.len()) {
-                return Answer::ShortParent;
-            }
-            let l = lengths::lengths_by_count(g, settings, span.first, span.last, count, limit);
-            let solved = search::search_by_count(
-                g,
-                k,
-                l,
-                count,
-                &mut *work_u32,
-                &mut *work_u64,
-                work_f64,
-                parent,
-            );
-            hand::hand_out_held(
-                g,
-                k,
-                solved.len,
-                l.min,
-                max,
-                &*work_u32,
-                &*work_u64,
-                pieces,
-                cuts,
-            )
-        }
+    let k = completed.candidates;
+    if !parents::has_parents(count, k, parent.len()) {
+        return Answer::ShortParent;
     }
+    let limit = completed.limit;
+    let l = lengths::lengths_by_count(g, settings, span.first, span.last, count, limit);
+    let solved = search::search_by_count(
+        g,
+        k,
+        l,
+        count,
+        &mut *work_u32,
+        &mut *work_u64,
+        work_f64,
+        parent,
+    );
+    let len = solved.len;
+    hand::hand_out_held(g, k, len, l.min, max, &*work_u32, &*work_u64, pieces, cuts)
 }
 
 // The best path over the first candidates, if it suffices under the maximum; else over those that are completed under

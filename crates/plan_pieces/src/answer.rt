@@ -9,7 +9,6 @@ pub enum Answer {
     Planned(usize),
     Refused(Refusal),
     ShortParent,
-    NoReach,
     ShortOutput,
 }
 
@@ -21,7 +20,6 @@ pub fn number(a: Answer) -> u32
         Answer::Planned(_) => 0,
         Answer::Refused(r) => refusal::number(r),
         Answer::ShortParent => 14,
-        Answer::NoReach => 18,
         Answer::ShortOutput => 12,
     }
 }

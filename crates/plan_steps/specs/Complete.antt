@@ -10,11 +10,9 @@ use Rattle.candidates.specs.declared.candidate.Candidate.{Candidate}
 use Rattle.candidates.specs.declared.context.Context.{Context}
 use Rattle.candidate_walk.specs.Held.{silencesHeld, levelsHeld}
 use Rattle.plan_division.specs.Added.{addedByLength}
-use Rattle.completion_reach.specs.declared.reach.Sought.the-variants.{Reach, Nothing}
 use Rattle.completion_reach.specs.Reach.{reachOf}
 use Rattle.candidate_finder.specs.FinderLaws.{Stands}
 use Rattle.plan_steps.specs.declared.complete.Completed.{Completed}
-use Rattle.plan_steps.specs.declared.complete.Completed.the-variants.{Under, NoReach}
 use Rattle.plan_steps.specs.Held.{frontOf, heldWith}
 use Rattle.plan_steps.specs.Steps.{cutsAdded}
 
@@ -30,13 +28,10 @@ module _ (x : Context) (g : FrameGrid) (most count : ℕ) (span : HeldSpan) (wor
   abbrev s : Span
   s = spanIn (x .gap) (x .padding) span (silencesHeld (span .silences) (frontOf (x .padding .frames) work))
 
-  -- the reach and the candidates under it, or that there is no reach
-  abbrev Says : Completed → Type 0
-  Says NoReach = reachOf g s count most ≡ Nothing
-  Says (Under limit k) =
-      (reachOf g s count most ≡ Reach limit)
-      × Stands (x .padding .frames) k (heldWith x span (frontOf (x .padding .frames) work) (levelsHeld (x .padding .frames) workf) (cutsAdded g s count limit)) work′ workf′
-
-  -- what an answer says
+  -- the limit is the reach, and so many candidates stand under it
   pub record CompletedIs (r : Completed) : Type 0 where
-    pub says : Says r
+    -- document 01's reach
+    pub reach : r .limit ≡ reachOf g s count most
+    -- the candidates with what is added under it
+    pub stands : Stands (x .padding .frames) (r .candidates)
+        (heldWith x span (frontOf (x .padding .frames) work) (levelsHeld (x .padding .frames) workf) (cutsAdded g s count (r .limit))) work′ workf′

@@ -18,8 +18,6 @@ use Rattle.division.specs.SpanLaws.{span-spread}
 use Rattle.candidates.specs.declared.context.Context.{Context}
 use Rattle.candidate_walk.specs.Held.{silencesHeld, runsHeld, levelsHeld}
 use Rattle.completion_reach.specs.declared.ground.Ground.{Ground}
-use Rattle.completion_reach.specs.declared.reach.Sought.{Sought}
-use Rattle.completion_reach.specs.declared.reach.Sought.the-variants.{Reach}
 use Rattle.completion_reach.specs.GroundLaws.{Founded}
 use Rattle.completion_reach.specs.Cuts.{cutsOf, marking}
 use Rattle.completion.specs.CutsLaws.{MarkRoom}
@@ -80,13 +78,13 @@ module _ (x : Context) (g : FrameGrid) (span : HeldSpan) (work : List ℕ) (work
     pub ground-few : span .last ≤ maxFrames
     ground-few = omega (arith, span-order x g span front levels h .1, h .planned .prepared .few)
 
-    -- what the search for the reach answers
-    pub sought-is : (most count : ℕ) (r q : Sought) → r ≡ reachOf g (spanIn (x .gap) (x .padding) span (take (2 * span .silences) work)) count most → r ≡ q → reachOf g s count most ≡ q
-    sought-is most count r q e f = ap (λ (t : Span). reachOf g t count most) (sym ground-span) ∙ sym e ∙ f
+    -- what the search finds is the reach
+    pub sought-is : (most count limit : ℕ) → limit ≡ reachOf g (spanIn (x .gap) (x .padding) span (take (2 * span .silences) work)) count most → limit ≡ reachOf g s count most
+    sought-is most count limit e = e ∙ ap (λ (t : Span). reachOf g t count most) ground-span
 
     -- ---- under the reach
 
-    module _ (most count limit : ℕ) (some : 0 < count) (sought : reachOf g s count most ≡ Reach limit) where
+    module _ (most count limit : ℕ) (some : 0 < count) (sought : limit ≡ reachOf g s count most) where
       -- the cuts that are added are places
       pub count-placed : (k : Cut) → List·Memᴰ k (cutsAdded g s count limit) → Place s k
       count-placed =
@@ -107,7 +105,7 @@ module _ (x : Context) (g : FrameGrid) (span : HeldSpan) (work : List ℕ) (work
           spread = span-spread (x .gap) (x .padding) (silencesHeld (span .silences) front) (h .planned .prepared .spanned)
 
           reach : IsReach g whole count most limit
-          reach = is-reach g ok whole spread count most limit (subst (λ (t : Span). reachOf g t count most ≡ Reach limit) same sought)
+          reach = rw (sought ∙ ap (λ (t : Span). reachOf g t count most) same) (is-reach g whole spread count some most)
 
       module _ (work′ : List ℕ) (marks : work′ ≡ marking (marksAt (g .frames)) (cutsAdded g (spanIn (x .gap) (x .padding) span (take (2 * span .silences) work)) count limit) work) where
         front-is : frontOf n work′ ≡ marking (marksAt n) (cutsAdded g s count limit) front

@@ -10,7 +10,6 @@ use completion::far;
 use completion::shares;
 use completion_reach::ground::Ground;
 use completion_reach::reach;
-use completion_reach::reach::Sought;
 use grid::FrameGrid;
 ghost use mathlib.Core.Path.{_≡_};
 ghost use Prim.Native.Nat.{_*_, _≤_, _<_};
@@ -72,9 +71,9 @@ fn mark_cuts(x: Ground, count: usize, limit: u64, work_u32: &mut [u32])
 }
 
 // Under which limit the candidates are completed by count, and how many there are then.
-pub enum Completed {
-    Under(u64, usize),
-    NoReach,
+pub struct Completed {
+    pub limit: u64,
+    pub candidates: usize,
 }
 
 // By count: the reach is sought, and under it the cuts for as many pieces as are asked for.
@@ -102,13 +101,8 @@ pub fn complete_by_count(
         padding,
         span,
     };
-    let sought = reach::reach(ground, &work_u32[..2 * span.silences], count, max);
-    match sought {
-        Sought::Nothing => Completed::NoReach,
-        Sought::Reach(limit) => {
-            mark_cuts(ground, count, limit, &mut *work_u32);
-            let k = collect::collect(x, span, work_u32, work_f64);
-            Completed::Under(limit, k)
-        }
-    }
+    let limit = reach::reach(ground, &work_u32[..2 * span.silences], count, max);
+    mark_cuts(ground, count, limit, &mut *work_u32);
+    let candidates = collect::collect(x, span, work_u32, work_f64);
+    Completed { limit, candidates }
 }

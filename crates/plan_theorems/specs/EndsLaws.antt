@@ -18,14 +18,12 @@ use Rattle.candidates.specs.declared.candidate.Candidate.{Candidate}
 use Rattle.candidate_span.specs.Span.{Span}
 use Rattle.plan_tests.specs.declared.refusal.Refusal.{Refusal}
 use Rattle.completion_reach.specs.Reach.{reachOf}
-use Rattle.completion_reach.specs.declared.reach.Sought.{Sought}
-use Rattle.completion_reach.specs.declared.reach.Sought.the-variants.{Reach, Nothing}
 use Rattle.plan_lengths.specs.PlanLengths.{maximumIn}
 use Rattle.plan_pieces.specs.PlanAlong.{planPieces, planCuts}
 use Rattle.plan_pieces.specs.Output.{Output, outputOf, Handed, handedOf, pick, hasRoom, handedOutOf}
 use Rattle.plan_pieces.specs.OutputLaws.{room-parts}
 use Rattle.plan_pieces.specs.AnswerLaws.{Numbered}
-use Rattle.plan_pieces.specs.declared.answer.Answer.the-variants.{Planned, Refused, ShortParent, NoReach, ShortOutput}
+use Rattle.plan_pieces.specs.declared.answer.Answer.the-variants.{Planned, Refused, ShortParent, ShortOutput}
 use Rattle.plan_steps.specs.Steps.{planAlong}
 use Rattle.plan_lists.specs.Parents.{hasParents}
 use Rattle.plan_modes.specs.Plan.{completedByLength, pathByLength, planByLength, pathByCount, suffices, plannedUnder, completedByCount, plannedAfter, planByCount, planBy}
@@ -85,30 +83,29 @@ module _ (g : FrameGrid) (settings : PlanConfig) (cs : List Candidate) (path : L
 pub data PlanEnd : Type 0 where
   along : List Candidate → List ℕ → PlanEnd
   short-parent : PlanEnd
-  without-reach : PlanEnd
 
 -- what it hands out
 abbrev pub handedBy : FrameGrid → PlanConfig → PlanEnd → Output → Handed
 handedBy g settings (along cs path) out = planAlong g settings cs path out
 handedBy g settings short-parent out = handedOf ShortParent out
-handedBy g settings without-reach out = handedOf NoReach out
 
 module _ (g : FrameGrid) (settings : PlanConfig) (s : Span) (with : List Cut → List Candidate) (count parents : ℕ) where
   abbrev maximum : ℕ
   maximum = maximumIn g settings
 
-  abbrev second : ℕ → List Candidate
-  second limit = completedByCount g settings s with count limit
+  -- document 01's reach, and the candidates that are completed under it
+  abbrev reach : ℕ
+  reach = reachOf g s count maximum
+
+  abbrev second : List Candidate
+  second = completedByCount g settings s with count reach
 
   -- which end a plan by count has, by the tests that lead there
   pub data CountEnd : PlanEnd → Type 0 where
     first-short : hasParents count (length (with [])) parents ≡ false → CountEnd short-parent
     at-first : suffices g settings s count maximum (with []) ≡ true → CountEnd (along (with []) (pathByCount g settings s count maximum (with [])))
-    reach-none : suffices g settings s count maximum (with []) ≡ false → reachOf g s count maximum ≡ Nothing → CountEnd without-reach
-    second-short : suffices g settings s count maximum (with []) ≡ false → (limit : ℕ) → reachOf g s count maximum ≡ Reach limit
-        → hasParents count (length (second limit)) parents ≡ false → CountEnd short-parent
-    with-reach : suffices g settings s count maximum (with []) ≡ false → (limit : ℕ) → reachOf g s count maximum ≡ Reach limit
-        → CountEnd (along (second limit) (pathByCount g settings s count limit (second limit)))
+    second-short : suffices g settings s count maximum (with []) ≡ false → hasParents count (length second) parents ≡ false → CountEnd short-parent
+    with-reach : suffices g settings s count maximum (with []) ≡ false → CountEnd (along second (pathByCount g settings s count reach second))
 
   -- ---- what the tests give, whatever the output
 
@@ -118,16 +115,10 @@ module _ (g : FrameGrid) (settings : PlanConfig) (s : Span) (with : List Cut →
   short-at-first h out = rw h
 
   -- 14 at the second, or at the first before it
-  pub short-at-second : suffices g settings s count maximum (with []) ≡ false → (limit : ℕ) → reachOf g s count maximum ≡ Reach limit
-      → hasParents count (length (second limit)) parents ≡ false → (out : Output) → planByCount g settings s with count parents out ≡ handedOf ShortParent out
+  pub short-at-second : suffices g settings s count maximum (with []) ≡ false → hasParents count (length second) parents ≡ false
+      → (out : Output) → planByCount g settings s with count parents out ≡ handedOf ShortParent out
   unfolding planByCount plannedUnder
-  short-at-second e limit i h out = elim (tested (hasParents count (length (with [])) parents)) [ inl t ↦ rw (t, e, i, h) | inr t ↦ rw t ]
-
-  -- 18: the first path falls short, and there is no reach
-  pub none-at-second : hasParents count (length (with [])) parents ≡ true → suffices g settings s count maximum (with []) ≡ false → reachOf g s count maximum ≡ Nothing
-      → (out : Output) → planByCount g settings s with count parents out ≡ handedOf NoReach out
-  unfolding planByCount
-  none-at-second h e i out = rw (h, e, i)
+  short-at-second e h out = elim (tested (hasParents count (length (with [])) parents)) [ inl t ↦ rw (t, e, h) | inr t ↦ rw t ]
 
 -- one of them is reached, whatever the output
 pub record EndReached (Kind : PlanEnd → Type 0) (g : FrameGrid) (settings : PlanConfig) (f : Output → Handed) : Type 0 where
@@ -139,19 +130,20 @@ module _ (g : FrameGrid) (settings : PlanConfig) (s : Span) (with : List Cut →
   abbrev Ends : (Output → Handed) → Type 0
   Ends f = EndReached (CountEnd g settings s with count parents) g settings f
 
-  second-end : suffices g settings s count (maximumIn g settings) (with []) ≡ false → (t : Sought) → reachOf g s count (maximumIn g settings) ≡ t
-      → Ends (λ (out : Output). plannedAfter g settings s with count parents out t)
+  second-end : suffices g settings s count (maximumIn g settings) (with []) ≡ false → Ends (λ (out : Output). plannedAfter g settings s with count parents out)
   unfolding plannedUnder
-  second-end e Nothing i = record { end = without-reach; kind = reach-none e i; is = λ out. refl }
-  second-end e (Reach limit) i = go (hasParents count (length cs) parents) refl
+  second-end e = go (hasParents count (length cs) parents) refl
     where
+      limit : ℕ
+      limit = reachOf g s count (maximumIn g settings)
+
       cs : List Candidate
       cs = completedByCount g settings s with count limit
 
       go : (b : Bool) → hasParents count (length cs) parents ≡ b
           → Ends (λ (out : Output). pick (hasParents count (length cs) parents) (planAlong g settings cs (pathByCount g settings s count limit cs) out) (handedOf ShortParent out))
-      go true h = record { end = along cs (pathByCount g settings s count limit cs); kind = with-reach e limit i; is = λ out. rw h }
-      go false h = record { end = short-parent; kind = second-short e limit i h; is = λ out. rw h }
+      go true h = record { end = along cs (pathByCount g settings s count limit cs); kind = with-reach e; is = λ out. rw h }
+      go false h = record { end = short-parent; kind = second-short e h; is = λ out. rw h }
 
   -- by count one of the ends is reached
   pub count-end : Ends (λ (out : Output). planByCount g settings s with count parents out)
@@ -163,7 +155,7 @@ module _ (g : FrameGrid) (settings : PlanConfig) (s : Span) (with : List Cut →
       go false c h e = record { end = short-parent; kind = first-short h; is = λ out. rw h }
       go true true h e = record { end = along (with []) (pathByCount g settings s count (maximumIn g settings) (with [])); kind = at-first e; is = λ out. rw (h, e) }
       go true false h e =
-          let t = second-end e (reachOf g s count (maximumIn g settings)) refl in
+          let t = second-end e in
           record { end = t .end; kind = t .kind; is = λ out. rw (h, e) (t .is out) }
 
 -- by either way
@@ -200,7 +192,6 @@ along-ending n pieces cuts out = go (hasRoom n (length (out .pieces)) (length (o
 pub end-ending : (g : FrameGrid) (settings : PlanConfig) (e : PlanEnd) (out : Output) → AnswerEnds out (handedBy g settings e out)
 end-ending g settings (along cs path) out = along-ending (length path - 1) (planPieces g settings cs path) (planCuts g cs path) out
 end-ending g settings short-parent out = record { untouched = λ never. refl; numbered = tt; unrefused = λ x e. let z : _≡_ {A = ℕ} 0 1 = cc in omega arith }
-end-ending g settings without-reach out = record { untouched = λ never. refl; numbered = tt; unrefused = λ x e. let z : _≡_ {A = ℕ} 0 1 = cc in omega arith }
 
 -- ---- which end it was
 
@@ -215,38 +206,29 @@ pub record AlongSome (g : FrameGrid) (settings : PlanConfig) (e : PlanEnd) (k : 
 pub made-end : (g : FrameGrid) (settings : PlanConfig) (e : PlanEnd) (k : ℕ) (out : Output) → handedBy g settings e out .answer ≡ Planned k → AlongSome g settings e k out (handedBy g settings e out .out)
 made-end g settings (along cs path) k out q = record { candidates = cs; path = path; is = refl; handed = handed-along g settings cs path out k q }
 made-end g settings short-parent k out q = let z : _≡_ {A = ℕ} 0 1 = cc in absurd (omega arith)
-made-end g settings without-reach k out q = let z : _≡_ {A = ℕ} 0 1 = cc in absurd (omega arith)
 
 -- along a path, nothing but 12 refuses
-along-answer : (n : ℕ) (pieces cuts : List ℕ) (out : Output) → (handedOutOf n pieces cuts out .answer ≡ ShortParent → ⊥) × (handedOutOf n pieces cuts out .answer ≡ NoReach → ⊥)
+along-answer : (n : ℕ) (pieces cuts : List ℕ) (out : Output) → handedOutOf n pieces cuts out .answer ≡ ShortParent → ⊥
 unfolding handedOutOf
 along-answer n pieces cuts out = go (hasRoom n (length (out .pieces)) (length (out .cuts)))
   where
     answered : Bool → Handed
     answered b = pick b (handedOf (Planned n) (outputOf (onto pieces (out .pieces)) (onto cuts (out .cuts)))) (handedOf ShortOutput out)
 
-    go : (b : Bool) → (answered b .answer ≡ ShortParent → ⊥) × (answered b .answer ≡ NoReach → ⊥)
-    go true = (λ e. let z : _≡_ {A = ℕ} 0 1 = cc in omega arith, λ e. let z : _≡_ {A = ℕ} 0 1 = cc in omega arith)
-    go false = (λ e. let z : _≡_ {A = ℕ} 0 1 = cc in omega arith, λ e. let z : _≡_ {A = ℕ} 0 1 = cc in omega arith)
+    go : (b : Bool) → answered b .answer ≡ ShortParent → ⊥
+    go true e = let z : _≡_ {A = ℕ} 0 1 = cc in omega arith
+    go false e = let z : _≡_ {A = ℕ} 0 1 = cc in omega arith
 
 -- 14 is answered only where a parent list is too short
 pub parent-end : (g : FrameGrid) (settings : PlanConfig) (e : PlanEnd) (out : Output) → handedBy g settings e out .answer ≡ ShortParent → e ≡ short-parent
-parent-end g settings (along cs path) out q = absurd (along-answer (length path - 1) (planPieces g settings cs path) (planCuts g cs path) out .0 q)
+parent-end g settings (along cs path) out q = absurd (along-answer (length path - 1) (planPieces g settings cs path) (planCuts g cs path) out q)
 parent-end g settings short-parent out q = refl
-parent-end g settings without-reach out q = let z : _≡_ {A = ℕ} 0 1 = cc in absurd (omega arith)
-
--- 18 is answered only where there is no reach
-pub reach-end : (g : FrameGrid) (settings : PlanConfig) (e : PlanEnd) (out : Output) → handedBy g settings e out .answer ≡ NoReach → e ≡ without-reach
-reach-end g settings (along cs path) out q = absurd (along-answer (length path - 1) (planPieces g settings cs path) (planCuts g cs path) out .1 q)
-reach-end g settings short-parent out q = let z : _≡_ {A = ℕ} 0 1 = cc in absurd (omega arith)
-reach-end g settings without-reach out q = refl
 
 -- 12: the output has no room for so many pieces, and any that has gets them
 pub room-end : (g : FrameGrid) (settings : PlanConfig) (e : PlanEnd) (out : Output) → handedBy g settings e out .answer ≡ ShortOutput
     → (k : ℕ) × (HasRoom k out → ⊥) × ((room : Output) → HasRoom k room → handedBy g settings e room .answer ≡ Planned k)
 room-end g settings (along cs path) out q = (length path - 1, along-short g settings cs path out q, along-made g settings cs path)
 room-end g settings short-parent out q = let z : _≡_ {A = ℕ} 0 1 = cc in absurd (omega arith)
-room-end g settings without-reach out q = let z : _≡_ {A = ℕ} 0 1 = cc in absurd (omega arith)
 
 -- ---- the parent list
 

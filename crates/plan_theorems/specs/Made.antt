@@ -25,7 +25,7 @@ use Rattle.silence_list.specs.Silences.{silencesIn}
 use Rattle.division.specs.Pieces.{pieceFrom, piecesOf, lengthOf, IsSingle}
 use Rattle.division.specs.Places.{cutAt}
 use Rattle.division.specs.Greedy.{Greedy}
-use Rattle.division.specs.Reach.{IsReach}
+use Rattle.division.specs.Reach.{IsReach, HasReach}
 use Rattle.division.specs.Demand.{DemandByCount, DemandByLength}
 use Rattle.candidates.specs.Entries.{costsOf}
 use Rattle.candidates.specs.Samples.{leftsOf, rightsOf}
@@ -44,7 +44,7 @@ use Rattle.plan_pieces.specs.Flags.{hasLong, hasShort, isLonger, isShorter}
 use Rattle.plan_pieces.specs.PlanAlong.{planPieces, planCuts}
 use Rattle.plan_pieces.specs.Output.{Output}
 use Rattle.plan_pieces.specs.Answer.{numberOf}
-use Rattle.plan_pieces.specs.declared.answer.Answer.the-variants.{Planned, Refused, ShortParent, NoReach, ShortOutput}
+use Rattle.plan_pieces.specs.declared.answer.Answer.the-variants.{Planned, Refused, ShortParent, ShortOutput}
 use Rattle.planner.specs.Operation.{End, endOf, candidatesWith, planOf}
 
 -- ---- the output by its numbers
@@ -162,6 +162,10 @@ module _ (r : Recording) (segment : SegmentConfig) (settings : PlanConfig) (valu
   abbrev completed : List Cut → List Candidate
   completed added = candidatesWith r segment settings values flags levels added
 
+  -- document 02's S-8: for so many pieces there is a reach, at most the longer of the span and the maximum
+  abbrev pub ReachExists : ℕ → Type 0
+  ReachExists count = HasReach g s count maximum
+
   -- ---- demand 2: the plan is that of document 01's best path
 
   -- the best path by length: its limit is the maximum
@@ -257,13 +261,6 @@ module _ (r : Recording) (segment : SegmentConfig) (settings : PlanConfig) (valu
     pub sought : SoughtOver count candidates
     pub few : parents < min count (length candidates - 1) * length candidates
 
-  -- 18: "no reach exists", and one is sought, since the first path falls short
-  pub record ReachMissing : Type 0 where
-    pub count : ℕ
-    pub asked : settings .mode ≡ ByCount count
-    pub falls-short : Fitting values levels → FallsShort count
-    pub none : (limit : ℕ) → IsReach g s count maximum limit → ⊥
-
   -- ---- every end
 
   module _ (out : Output) (work : Work) (parent : List ℕ) where
@@ -283,17 +280,14 @@ module _ (r : Recording) (segment : SegmentConfig) (settings : PlanConfig) (valu
       pub zeroed : verdict ≡ Fine → (end .work ≡ cleared work) × (end .parent ≡ filled 0 parent)
       -- where no plan is made the output is as it was
       pub untouched : ((k : ℕ) → end .answer ≡ Planned k → ⊥) → end .out ≡ out
-      -- an empty span that passes the tests has the empty plan: no 14, 18 or 12
+      -- an empty span that passes the tests has the empty plan: no 14 or 12
       pub empty : verdict ≡ Fine → emptyIn r segment settings values flags ≡ true → (end .answer ≡ Planned 0) × (end .out ≡ out)
-      -- 14, 18 and 12, each under its condition only; at 12 the call makes its plan with any output that has room for it
+      -- 14 and 12, each under its condition only; at 12 the call makes its plan with any output that has room for it
       pub short-parent : end .answer ≡ ShortParent → FewParents (length parent)
-      pub no-reach : end .answer ≡ NoReach → ReachMissing
       pub short-output : end .answer ≡ ShortOutput
           → (k : ℕ) × (HasRoom k out → ⊥) × ((room : Output) → HasRoom k room → planOf r segment settings values flags levels room work parent .answer ≡ Planned k)
-      -- and each where its condition holds, 14 before 18
+      -- and each where its condition holds
       pub gives-short-parent : verdict ≡ Fine → emptyIn r segment settings values flags ≡ false → Fitting values levels → FewParents (length parent) → end .answer ≡ ShortParent
-      pub gives-no-reach : verdict ≡ Fine → emptyIn r segment settings values flags ≡ false → Fitting values levels → (FewParents (length parent) → ⊥) → ReachMissing
-          → end .answer ≡ NoReach
       pub gives-short-output : (k : ℕ) (room : Output) → planOf r segment settings values flags levels room work parent .answer ≡ Planned k → (HasRoom k out → ⊥)
           → end .answer ≡ ShortOutput
       -- 12 never comes where there is room for a piece at each frame

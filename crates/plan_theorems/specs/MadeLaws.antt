@@ -37,6 +37,7 @@ use Rattle.division.specs.SpanLaws.{span-spread, span-within}
 use Rattle.division.specs.Greedy.{Greedy}
 use Rattle.division.specs.GreedyLaws.{greedy-one}
 use Rattle.division.specs.Reach.{IsReach}
+use Rattle.division.specs.ReachLaws.{reach-exists}
 use Rattle.division.specs.Demand.{DemandByCount, DemandByLength}
 use Rattle.candidates.specs.Entries.{costsOf}
 use Rattle.candidates.specs.Candidates.{candidatesOf}
@@ -53,9 +54,7 @@ use Rattle.candidate_finder.specs.SpanIn.{emptyIn, firstIn, lastIn, paddingIn}
 use Rattle.candidate_finder.specs.Theorems as finder
 use Rattle.completion_reach.specs.Cuts.{cutsOf, pointsIn}
 use Rattle.completion_reach.specs.Reach.{reachOf}
-use Rattle.completion_reach.specs.ReachLaws.{is-reach, reach-of, no-reach}
-use Rattle.completion_reach.specs.declared.reach.Sought.{Sought}
-use Rattle.completion_reach.specs.declared.reach.Sought.the-variants.{Reach, Nothing}
+use Rattle.completion_reach.specs.ReachLaws.{is-reach, reach-of}
 use Rattle.plan_division.specs.Along.{cutsAlong, RisingPath}
 use Rattle.plan_division.specs.Across.{Across}
 use Rattle.plan_division.specs.AcrossLaws.{planned-across}
@@ -72,15 +71,15 @@ use Rattle.plan_division.specs.PlanTheorems.{plan-searchable, first-plan, secon
 use Rattle.plan_lengths.specs.PlanLengths.{minimumIn, maximumIn, lengthsWith, lengthsByLength, lengthsByCount}
 use Rattle.plan_lengths.specs.PlanLengthsLaws.{ready-timed, by-length-preferred, by-count-preferred}
 use Rattle.plan_pieces.specs.Output.{Output, handedOf}
-use Rattle.plan_pieces.specs.declared.answer.Answer.the-variants.{ShortParent, NoReach}
+use Rattle.plan_pieces.specs.declared.answer.Answer.the-variants.{ShortParent}
 use Rattle.plan_lists.specs.Parents.{hasParents}
 use Rattle.plan_modes.specs.Plan.{completedByLength, pathByLength, suffices, completedByCount, planByCount}
 use Rattle.planner.specs.Operation.{candidatesWith}
-use Rattle.plan_theorems.specs.Made.{reasonAt, Fills, Flagged, Shows, InSpan, BestOverByCount, Suffices, PlanByLength, PlanAtFirst, FallsShort, PlanWithReach, SoughtOver, FewParents, ReachMissing}
+use Rattle.plan_theorems.specs.Made.{reasonAt, Fills, Flagged, Shows, InSpan, BestOverByCount, Suffices, PlanByLength, PlanAtFirst, FallsShort, PlanWithReach, SoughtOver, FewParents, ReachExists}
 use Rattle.plan_theorems.specs.Made as made
 use Rattle.plan_theorems.specs.ShowsLaws.{shows-fills}
 use Rattle.plan_theorems.specs.FollowsLaws.{along-follows, along-shows, along-flagged, along-reasoned}
-use Rattle.plan_theorems.specs.EndsLaws.{HandedAlong, along, short-parent, without-reach, CountEnd, first-short, at-first, reach-none, second-short, with-reach, short-at-first, short-at-second, none-at-second, too-few, few-parents}
+use Rattle.plan_theorems.specs.EndsLaws.{HandedAlong, along, short-parent, CountEnd, first-short, at-first, second-short, with-reach, short-at-first, short-at-second, too-few, few-parents}
 
 module _ (r : Recording) (segment : SegmentConfig) (settings : PlanConfig) (values : List Float) (flags : List ℕ) (levels : List Float) (n32 n64 nf : ℕ)
     (p : PlanReady r segment settings values flags levels n32 n64 nf) (full : emptyIn r segment settings values flags ≡ false)
@@ -163,6 +162,10 @@ module _ (r : Recording) (segment : SegmentConfig) (settings : PlanConfig) (valu
     points-few js =
         let e = span-ends x ss runs boundary-levels ks first last planned in
         omega (arith, candidates-few x ss runs boundary-levels js first last (e .0), e .0, e .1)
+
+    -- for any number of pieces from 1 on there is a reach
+    pub reach-there : (count : ℕ) → 0 < count → ReachExists r segment settings values flags levels count
+    reach-there count some = reach-exists g (p .accepted) s spread count some maximum
 
     first-across : Across s ds
     first-across = subst (Across s) (sym are) (planned-across x ss runs boundary-levels ks first last planned)
@@ -414,8 +417,8 @@ module _ (r : Recording) (segment : SegmentConfig) (settings : PlanConfig) (valu
         made-by-count parents cs path k before after (at-first e) h =
             made-first k before after (sym (ap (suffices g settings s count maximum) none-added) ∙ e)
             (subst (λ (cs : List Candidate). HandedAlong g settings cs (bestPathOverByCount g (under maximum) cs count) k before after) none-added h)
-        made-by-count parents cs path k before after (with-reach e limit i) h =
-            made-second k before after (sym (ap (suffices g settings s count maximum) none-added) ∙ e) limit (is-reach g (p .accepted) s spread count maximum limit i) h
+        made-by-count parents cs path k before after (with-reach e) h =
+            made-second k before after (sym (ap (suffices g settings s count maximum) none-added) ∙ e) (reachOf g s count maximum) (is-reach g s spread count some maximum) h
 
     -- ---- the later refusals, whatever the lists hold
 
@@ -435,9 +438,10 @@ module _ (r : Recording) (segment : SegmentConfig) (settings : PlanConfig) (valu
       sought-first = rw none-added made.at-first
 
       -- and the completed ones, where it falls short
-      sought-second : isShort → (limit : ℕ) → reachOf g s count maximum ≡ Reach limit → SoughtOver r segment settings values flags levels count (completedByCount g settings s with count limit)
-      sought-second e limit i =
-          let reach = is-reach g (p .accepted) s spread count maximum limit i in
+      sought-second : isShort → SoughtOver r segment settings values flags levels count (completedByCount g settings s with count (reachOf g s count maximum))
+      sought-second e =
+          let limit = reachOf g s count maximum in
+          let reach = is-reach g s spread count (p .counted count asked .0) maximum in
           made.with-reach (short-falls e) limit (cutsOf g s limit (piecesAsked s count)) reach (far-greedy g (p .accepted) s spread count maximum limit reach)
 
       -- the candidates over which a path is sought are no more than the boundaries
@@ -450,13 +454,9 @@ module _ (r : Recording) (segment : SegmentConfig) (settings : PlanConfig) (valu
         pub few-made : CountEnd g settings s with count parents short-parent → FewParents r segment settings values flags levels parents
         few-made (first-short e) =
             record { count = count; asked = asked; candidates = with []; sought = sought-first; few = few-parents count (length (with [])) parents e }
-        few-made (second-short q limit i e) =
-            let cs = completedByCount g settings s with count limit in
-            record { count = count; asked = asked; candidates = cs; sought = sought-second q limit i; few = few-parents count (length cs) parents e }
-
-        -- 18: the first path falls short, and there is no reach
-        pub missing-made : CountEnd g settings s with count parents without-reach → ReachMissing r segment settings values flags levels
-        missing-made (reach-none q e) = record { count = count; asked = asked; falls-short = short-falls q; none = no-reach g (p .accepted) s spread count maximum e }
+        few-made (second-short q e) =
+            let cs = completedByCount g settings s with count (reachOf g s count maximum) in
+            record { count = count; asked = asked; candidates = cs; sought = sought-second q; few = few-parents count (length cs) parents e }
 
         -- 14 where its condition holds
         pub short-given : Fitting values levels → (cs : List Candidate) → SoughtOver r segment settings values flags levels count cs
@@ -466,22 +466,11 @@ module _ (r : Recording) (segment : SegmentConfig) (settings : PlanConfig) (valu
             (too-few count (length (with [])) parents (subst (λ (ds : List Candidate). parents < min count (length ds - 1) * length ds) (sym none-added) h)) out
         short-given f cs (made.with-reach t limit far reach greedy) h out =
             let same = greedy-one g (p .accepted) s spread limit far (cutsOf g s limit (piecesAsked s count)) greedy (far-greedy g (p .accepted) s spread count maximum limit reach) in
-            short-at-second g settings s with count parents (falls-is-short f (t f)) limit (reach-of g (p .accepted) s spread count maximum limit reach)
-            (too-few count (length (completedByCount g settings s with count limit)) parents
-            (subst (λ (cuts : List Cut). parents < min count (length (with (addedByCount s count cuts)) - 1) * length (with (addedByCount s count cuts))) same h)) out
-
-        -- 18 where its condition holds, and 14 is not given first
-        pub none-given : Fitting values levels → (FewParents r segment settings values flags levels parents → ⊥) → FallsShort r segment settings values flags levels count
-            → ((limit : ℕ) → IsReach g s count maximum limit → ⊥) → (out : Output) → planByCount g settings s with count parents out ≡ handedOf NoReach out
-        none-given f many t none out =
-            none-at-second g settings s with count parents enough (falls-is-short f t) (unreached (reachOf g s count maximum) refl) out
-          where
-            enough : hasParents count (length (with [])) parents ≡ true
-            enough = elim (tested (hasParents count (length (with [])) parents)) [ inl e ↦ e | inr e ↦ absurd (many (few-made (first-short e))) ]
-
-            unreached : (q : Sought) → reachOf g s count maximum ≡ q → reachOf g s count maximum ≡ Nothing
-            unreached Nothing e = e
-            unreached (Reach limit) e = absurd (none limit (is-reach g (p .accepted) s spread count maximum limit e))
+            let few = subst (λ (cuts : List Cut). parents < min count (length (with (addedByCount s count cuts)) - 1) * length (with (addedByCount s count cuts))) same h in
+            let is = reach-of g s spread count (p .counted count asked .0) maximum limit reach in
+            short-at-second g settings s with count parents (falls-is-short f (t f))
+            (subst (λ (l : ℕ). hasParents count (length (completedByCount g settings s with count l)) parents ≡ false) is
+            (too-few count (length (completedByCount g settings s with count limit)) parents few)) out
 
         -- (frames + 1) × min(N, frames) parents are never too few
         pub parents-sure : (cs : List Candidate) → SoughtOver r segment settings values flags levels count cs → (length values + 1) * min count (length values) ≤ parents

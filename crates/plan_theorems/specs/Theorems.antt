@@ -1,9 +1,11 @@
 -- The theorems of the operation Plan, in the words of Made.
 --   plan-made    of every answer `Planned`, with no hypothesis but the answer and, for a span that is not empty, what the types of the lists say (`Fitting`):
 --                demand 2, where the candidates lie, demand 3 by count and by length, pieces plus what lies between them, no more of them than frames, flags, the empty span
---   plan-ended   of every call: what is untouched, what is zeroed, that an empty span has the empty plan, that 14, 18 and 12 come under their conditions only and wherever they hold,
+--   plan-ended   of every call: what is untouched, what is zeroed, that an empty span has the empty plan, that 14 and 12 come under their conditions only and wherever they hold,
 --                12 never where there is room for a piece at each frame, 14 never where there are (frames + 1) × min(N, frames) parents,
 --                and that the number is 0 exactly where a plan was made
+--   plan-sure    that a plan is made wherever the tests up to 13 pass and parents and output have those lengths
+--   plan-reach   of every recording and settings that pass the tests up to 13, whose span is not empty: there is a reach, at most the longer of the span and the maximum
 -- Of the reach and the greedy division which they name, division has
 --   reach-one (division/specs/ReachLaws)       two limits that are the reach are one
 --   greedy-ahead (division/specs/GreedyLaws)   cut by cut the greedy division is nowhere behind any division that keeps its limit; by greedy-one there is only one
@@ -43,13 +45,13 @@ use Rattle.plan_pieces.specs.Answer.{numberOf}
 use Rattle.plan_pieces.specs.AnswerLaws.{Numbered, number-zero}
 use Rattle.plan_pieces.specs.Output.{Output, outputOf, Handed, handedOf, pick}
 use Rattle.plan_pieces.specs.declared.answer.Answer.{Answer}
-use Rattle.plan_pieces.specs.declared.answer.Answer.the-variants.{Planned, Refused, ShortParent, NoReach, ShortOutput}
+use Rattle.plan_pieces.specs.declared.answer.Answer.the-variants.{Planned, Refused, ShortParent, ShortOutput}
 use Rattle.plan_modes.specs.Plan.{planBy}
 use Rattle.planner.specs.Operation.{End, endAfter, candidatesWith, plannedOf, planOf}
-use Rattle.plan_theorems.specs.Made.{HasRoom, PlanWritten, MadeOfSpan, Made, FewParents, ReachMissing, Ended}
-use Rattle.plan_theorems.specs.EndsLaws.{HandedAlong, along-refused, PlanEnd, along, short-parent, without-reach, handedBy, EndReached, ModeEnd, by-length, by-count, mode-end, AnswerEnds, end-ending, AlongSome, made-end, parent-end, reach-end, room-end}
+use Rattle.plan_theorems.specs.Made.{HasRoom, PlanWritten, ReachExists, MadeOfSpan, Made, FewParents, Ended}
+use Rattle.plan_theorems.specs.EndsLaws.{HandedAlong, along-refused, PlanEnd, along, short-parent, handedBy, EndReached, ModeEnd, by-length, by-count, mode-end, AnswerEnds, end-ending, AlongSome, made-end, parent-end, room-end}
 use Rattle.plan_theorems.specs.FollowsLaws.{along-written}
-use Rattle.plan_theorems.specs.MadeLaws.{divided-few, few-made, missing-made, short-given, none-given, parents-sure, SpanFilled, MadeByLength, made-by-length, MadeByCount, made-by-count}
+use Rattle.plan_theorems.specs.MadeLaws.{divided-few, reach-there, few-made, short-given, parents-sure, SpanFilled, MadeByLength, made-by-length, MadeByCount, made-by-count}
 
 -- nothing is written for no piece
 none-written : (out : Output) → PlanWritten 0 out out
@@ -59,12 +61,11 @@ none-written out = record { fits = (omega arith, omega arith); pieces = sym (ont
 counted : {a b : ℕ} → ByCount a ≡ ByCount b → a ≡ b
 counted e = cc
 
--- 14, 18 and 12
+-- 14 and 12
 abbrev isLater : Answer → Bool
 isLater (Planned k) = false
 isLater (Refused v) = false
 isLater ShortParent = true
-isLater NoReach = true
 isLater ShortOutput = true
 
 module _ (r : Recording) (segment : SegmentConfig) (settings : PlanConfig) (values : List Float) (flags : List ℕ) (levels : List Float) (work : Work) (parent : List ℕ) where
@@ -181,12 +182,6 @@ module _ (r : Recording) (segment : SegmentConfig) (settings : PlanConfig) (valu
   few fine full (ByCount count) e (by-count c) =
       few-made r segment settings values flags levels (length (work .u32s)) (length (work .u64s)) (length (work .f64s)) (ready fine) full count e (length parent) c
 
-  -- 18
-  missing : (fine : verdict ≡ Fine) (full : isEmpty ≡ false) (m : Mode) → settings .mode ≡ m → ModeEnd g settings s with (length parent) m without-reach
-      → ReachMissing r segment settings values flags levels
-  missing fine full (ByCount count) e (by-count c) =
-      missing-made r segment settings values flags levels (length (work .u32s)) (length (work .u64s)) (length (work .f64s)) (ready fine) full count e (length parent) c
-
   -- where the tests pass and the span is not empty, the call is that of the mode
   mode-call : verdict ≡ Fine → isEmpty ≡ false → (m : Mode) → settings .mode ≡ m → (o : Output) → call o .answer ≡ planBy g settings s with m (length parent) o .answer
   unfolding plannedOf
@@ -200,16 +195,6 @@ module _ (r : Recording) (segment : SegmentConfig) (settings : PlanConfig) (valu
       ∙ ap (λ (h : Handed). h .answer)
       (short-given r segment settings values flags levels (length (work .u32s)) (length (work .u64s)) (length (work .f64s)) (ready fine) full (t .count) (t .asked) (length parent) f
       (t .candidates) (t .sought) (t .few) o)
-
-  -- 18 where its condition holds
-  gives-missing : verdict ≡ Fine → isEmpty ≡ false → Fitting values levels → (FewParents r segment settings values flags levels (length parent) → ⊥)
-      → ReachMissing r segment settings values flags levels → (o : Output) → call o .answer ≡ NoReach
-  unfolding planBy
-  gives-missing fine full f many t o =
-      mode-call fine full (ByCount (t .count)) (t .asked) o
-      ∙ ap (λ (h : Handed). h .answer)
-      (none-given r segment settings values flags levels (length (work .u32s)) (length (work .u64s)) (length (work .f64s)) (ready fine) full (t .count) (t .asked) (length parent) f
-      many (t .falls-short f) (t .none) o)
 
   -- ---- every plan
 
@@ -311,12 +296,6 @@ module _ (r : Recording) (segment : SegmentConfig) (settings : PlanConfig) (valu
         few (l .fine) (l .full) (settings .mode) refl
         (subst (ModeEnd g settings s with (length parent) (settings .mode)) (parent-end g settings (reached .end) out (sym (l .is out) ∙ e)) (reached .kind))
 
-    said-missing : call out .answer ≡ NoReach → ReachMissing r segment settings values flags levels
-    said-missing e =
-        let l = later out (ap isLater e) in
-        missing (l .fine) (l .full) (settings .mode) refl
-        (subst (ModeEnd g settings s with (length parent) (settings .mode)) (reach-end g settings (reached .end) out (sym (l .is out) ∙ e)) (reached .kind))
-
     said-room : call out .answer ≡ ShortOutput → (k : ℕ) × (HasRoom k out → ⊥) × ((room : Output) → HasRoom k room → call room .answer ≡ Planned k)
     said-room e =
         let l = later out (ap isLater e) in
@@ -371,10 +350,8 @@ module _ (r : Recording) (segment : SegmentConfig) (settings : PlanConfig) (valu
         ap (λ (x : End). x .out) (is-call Fine e out) ∙ ap (λ (h : Handed). h .out) (is-planned true none out),
       );
       short-parent = said-short;
-      no-reach = said-missing;
       short-output = said-room;
       gives-short-parent = λ fine full f t. gives-short fine full f t out;
-      gives-no-reach = λ fine full f many t. gives-missing fine full f many t out;
       gives-short-output = gives-room;
       roomy = said-roomy;
       parents-enough = said-enough;
@@ -397,6 +374,26 @@ module _ (r : Recording) (segment : SegmentConfig) (settings : PlanConfig) (valu
   -- of every call
   pub plan-ended : Ended r segment settings values flags levels out work parent
   plan-ended = ended r segment settings values flags levels work parent out
+
+  -- where the tests up to 13 pass, and parents and output are never too few for so many frames, a plan is made: nothing else is left that refuses
+  pub plan-sure : verdict r segment settings values flags levels work parent ≡ Fine → Fitting values levels
+      → ((count : ℕ) → settings .mode ≡ ByCount count → (length values + 1) * min count (length values) ≤ length parent) → HasRoom (length values) out
+      → (k : ℕ) × (planOf r segment settings values flags levels out work parent .answer ≡ Planned k)
+  plan-sure fine f parents room = go (planOf r segment settings values flags levels out work parent .answer) refl
+    where
+      go : (a : Answer) → planOf r segment settings values flags levels out work parent .answer ≡ a
+          → (k : ℕ) × (planOf r segment settings values flags levels out work parent .answer ≡ Planned k)
+      go (Planned k) e = (k, e)
+      go (Refused x) e = let clash = sym (plan-ended .first-failed x e) ∙ fine in let z : _≡_ {A = ℕ} 0 1 = cc in absurd (omega arith)
+      go ShortParent e = let t = plan-ended .short-parent e in absurd (plan-ended .parents-enough (t .count) (t .asked) (parents (t .count) (t .asked)) e)
+      go ShortOutput e = absurd (plan-ended .roomy f room e)
+
+-- of every recording and settings, gaps kept or dropped: where the tests up to 13 pass and the span is not empty, there is a reach for any number of pieces
+pub plan-reach : (r : Recording) (segment : SegmentConfig) (settings : PlanConfig) (values : List Float) (flags : List ℕ) (levels : List Float) (n32 n64 nf : ℕ)
+    → tests.firstRefusalOf r segment settings values flags levels n32 n64 nf ≡ Fine → emptyIn r segment settings values flags ≡ false
+    → (count : ℕ) → 0 < count → ReachExists r segment settings values flags levels count
+plan-reach r segment settings values flags levels n32 n64 nf fine full =
+    reach-there r segment settings values flags levels n32 n64 nf (fine-ready r segment settings values flags levels n32 n64 nf fine) full
 
 -- a plan that has a piece is that of a span
 pub made-of-span : (r : Recording) (segment : SegmentConfig) (settings : PlanConfig) (values : List Float) (flags : List ℕ) (levels : List Float) (k : ℕ) (before after : Output)

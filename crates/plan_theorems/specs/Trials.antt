@@ -233,6 +233,8 @@ module _ (a b c d : ℕ) (x : Float) where
         ≡ later (Planned 2) (outputOf (0 ∷ 200 ∷ 0 ∷ 500 ∷ 700 ∷ 0 ∷ []) (200 ∷ 500 ∷ 0 ∷ [])) 0
     -- silence all through, with dropped gaps: the span is empty, and so is the plan
     pub silent : call (settings ByLength 400000000 Drop) (replicate 7 none) 0 0 0 ≡ later (Planned 0) (output 0 0) 0
+    -- S-8, R in one piece under a maximum of 300 ms: the reach is the length of the whole span, and the piece is over-long
+    pub count-one : call (settings (ByCount 1) 300000000 Keep) scores 3 0 8 ≡ later (Planned 1) (outputOf (0 ∷ 700 ∷ 2 ∷ []) []) 8
     -- 14: one entry fewer, at the path over the completed candidates
     pub parents-short : call (settings (ByCount 8) 400000000 Keep) scores 21 18 55 ≡ later ShortParent (output 21 18) 55
     -- 12: one number fewer
@@ -272,6 +274,7 @@ module _ (a b c d : ℕ) (x : Float) where
     first-short = refl;
     gap-dropped = refl;
     silent = refl;
+    count-one = refl;
     parents-short = refl;
     output-short = refl;
     work-short = refl;

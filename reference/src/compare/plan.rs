@@ -40,7 +40,8 @@ fn plan(amount: Amount, rng: &mut Rng, tally: &mut Tally) {
     }
 }
 
-/// Document 01's trial cuts, and the plans that cost more under a longer maximum.
+/// Document 01's trial cuts, a reach of the whole span, and the plans that cost more under a longer
+/// maximum.
 fn first_inputs() -> Vec<(Job, Planned)> {
     let raised = trials::raised();
     for (job, _, score) in &raised {
@@ -50,7 +51,8 @@ fn first_inputs() -> Vec<(Job, Planned)> {
         assert!(pair[0].2 < pair[1].2, "more under the longer maximum");
     }
     let raised = raised.map(|(job, planned, _)| (job, planned));
-    trials::planned().into_iter().chain(raised).collect()
+    let planned = trials::planned().into_iter().chain([trials::whole()]);
+    planned.chain(raised).collect()
 }
 
 /// So few frames that every plan is held against all divisions.
@@ -91,6 +93,7 @@ fn ask_accepted(caller: &mut Caller, job: &Job, rng: &mut Rng, tally: &mut Tally
     let refusal = sizes.refusal(job, &planned, &course);
     occurrences::count(tally, job, &sizes, refusal, &planned, &course);
     let fault = caller.ask(job, &sizes, refusal, &planned, rng);
+    let fault = fault.or_else(|| divisions::reach_fault(&course));
     let fault = fault.or_else(|| divisions::fault(job, &planned, &course));
     take(tally, job, &sizes, fault);
 }

@@ -34,6 +34,12 @@ impl Places {
         Self { ends, kept_frames }
     }
 
+    /// The length of the whole span; 0 where it is empty.
+    pub fn span(&self) -> u64 {
+        let ends = self.ends.first().zip(self.ends.last());
+        ends.map_or(0, |(first, last)| last.0 - first.1)
+    }
+
     /// The cuts of the division that goes as far as the limit allows at each step.
     pub fn farthest(&self, limit: u64) -> Vec<(u64, u64)> {
         let (mut cuts, mut at) = (Vec::new(), 0);

@@ -39,6 +39,11 @@ pub fn planned() -> [(Job, Planned); 3] {
     jobs.map(|job| (job, plans.next().expect("one for each job")))
 }
 
+/// R in one piece, above a maximum of 300 ms: the reach is the length of the whole span.
+pub fn whole() -> (Job, Planned) {
+    (trial(300, Some(1)), planned_of(&[0, 700], &[2], &[]))
+}
+
 /// Document 02 says nothing of a plan whose maximum is raised: recordings by length, by count, and
 /// by count with gaps dropped, each with its plan and the score of that before and after.
 pub fn raised() -> [(Job, Planned, Score); 6] {

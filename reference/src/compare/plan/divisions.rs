@@ -8,6 +8,15 @@ use crate::plan_job::trials::{self, planned_of};
 /// Frames at most: the places between the ends have 512 choices.
 pub const MOST_FRAMES: usize = 10;
 
+/// A reach that was sought and is below the maximum, or above the longer of the span and the maximum
+/// (document 02, S-8), whatever the frames.
+pub fn reach_fault(course: &Course) -> Option<String> {
+    let (limit, maximum) = (course.completed.as_ref()?.limit, course.maximum);
+    let longer = course.places.span().max(maximum);
+    let outside = limit < maximum || limit > longer;
+    outside.then(|| format!("reach {limit}, from {maximum} to {longer} there is one"))
+}
+
 /// What is wrong with a plan of few frames, if anything.
 pub fn fault(job: &Job, planned: &Planned, course: &Course) -> Option<String> {
     if job.recording.case.values.len() > MOST_FRAMES {
@@ -133,4 +142,15 @@ pub fn try_on_trials() {
         let fault = fault(job, &planned, &job.course());
         assert!(fault.is_some_and(|f| f.contains(why)), "{planned:?}: {why}");
     }
+    try_reach();
+}
+
+/// Panics if the reach of the whole span is refused here, or one that is longer is not.
+fn try_reach() {
+    let mut course = trials::whole().0.course();
+    assert_eq!(reach_fault(&course), None, "a reach of the whole span");
+    let completed = course.completed.as_mut().expect("a reach is sought");
+    assert_eq!(completed.limit, 700, "the length of the span");
+    completed.limit += 1;
+    assert!(reach_fault(&course).is_some(), "a reach above the span");
 }

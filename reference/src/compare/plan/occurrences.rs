@@ -76,6 +76,11 @@ fn completion(tally: &mut Tally, job: &Job, course: &Course) {
     tally.occurs("a reach sought", so);
     let so = completed(&|c| c.limit > course.maximum);
     tally.occurs("a reach above the maximum", so);
+    let span = course.places.span();
+    let so = by_count && completed(&|c| c.limit > course.maximum && c.limit == span);
+    tally.occurs("a reach as long as the span, above the maximum", so);
+    let so = by_count && completed(&|_| course.maximum >= span);
+    tally.occurs("a reach sought under a maximum as long as the span", so);
     let so = by_count && completed(&|c| shares_added(course, c));
     tally.occurs("equal shares added a candidate", so);
 }

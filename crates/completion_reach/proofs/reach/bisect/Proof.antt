@@ -17,6 +17,9 @@ abbrev μ-loop : tie.MeasureT-loop
 loop-holds : tie.Need-loop-holds Inv-loop μ-loop
 loop-holds c = (c .before .pre .1 .1, omega arith)
 
+add-loop : tie.Need-add-loop Inv-loop μ-loop
+add-loop c = omega (arith, c .loop .inv .0 .order, c .loop .inv .1, c .before .before .fits)
+
 sub-middle : tie.Need-sub-middle Inv-loop μ-loop
 sub-middle c = search needs
 
@@ -35,13 +38,10 @@ loop-again c =
     let p = c .before .before .before .before .before .pre in
     let l = c .before .before .before .loop in
     let middle = l .low + (l .high - l .low) / 2 in (
-      bracket-down (a .x .grid) _ (a .count) (a .maximum) (l .low) (l .high) middle (l .inv .0) (omega arith) (omega (arith, c .before .before .loop-test .taken))
+      bracket-down (a .x .grid) _ (a .count) (a .maximum) (l .low) (l .high) middle (l .inv .0) (omega (arith, c .before .before .loop-test .taken)) (omega (arith, c .before .before .loop-test .taken))
           (told-feasible (a .x .grid) (p .0 .accepted) _ (p .0 .spread) middle (a .count) (a .pieces) (p .1 .0) (c .before .fits2 .result) (c .before .fits2 .ensures) (c .if1 .taken)),
       omega (arith, c .before .before .loop-test .taken, l .inv .1),
     )
-
-add-low : tie.Need-add-low Inv-loop μ-loop
-add-low c = omega (arith, c .before .before .loop-test .taken, c .before .before .before .loop .inv .1, c .before .before .before .before .before .fits)
 
 loop-less-2 : tie.Need-loop-less-2 Inv-loop μ-loop
 loop-less-2 c = search needs
@@ -52,7 +52,7 @@ loop-again-2 c =
     let p = c .before .before .before .before .before .pre in
     let l = c .before .before .before .loop in
     let middle = l .low + (l .high - l .low) / 2 in (
-      bracket-up (a .x .grid) _ (a .count) (a .maximum) (l .low) (l .high) middle (l .inv .0) (omega arith) (omega (arith, c .before .before .loop-test .taken))
+      bracket-up (a .x .grid) _ (a .count) (a .maximum) (l .low) (l .high) middle (l .inv .0) (omega (arith, c .before .before .loop-test .taken)) (omega (arith, c .before .before .loop-test .taken))
           (told-infeasible (a .x .grid) (p .0 .accepted) _ (p .0 .spread) middle (a .count) (a .pieces) (p .1 .0) (c .before .fits2 .result) (c .before .fits2 .ensures) (c .if1 .left)),
       l .inv .1,
     )
@@ -70,12 +70,12 @@ bisect-spec =
     Inv-loop
     μ-loop
     loop-holds
+    add-loop
     sub-middle
     add-middle
     fits-requires
     loop-less
     loop-again
-    add-low
     loop-less-2
     loop-again-2
     returns)

@@ -16,8 +16,8 @@ use Rattle.cutplan.proofs.answer.write_answer.Statement.{statement}
 use Rattle.cutplan.proofs.answer.write_answer.Tie as tie
 
 -- the other cases are no plan
-no-plan : (a : Answer) → OneOf (1 ∷ 2 ∷ 3 ∷ 4 ∷ []) (tagOf the-type a) → (n : ℕ) → a ≡ Planned n → ⊥
-no-plan a z n e = miss (1 ∷ 2 ∷ 3 ∷ 4 ∷ []) 0 tt (subst (λ (b : Answer). OneOf (1 ∷ 2 ∷ 3 ∷ 4 ∷ []) (tagOf the-type b)) e z)
+no-plan : (a : Answer) → OneOf (1 ∷ 2 ∷ 3 ∷ []) (tagOf the-type a) → (n : ℕ) → a ≡ Planned n → ⊥
+no-plan a z n e = miss (1 ∷ 2 ∷ 3 ∷ []) 0 tt (subst (λ (b : Answer). OneOf (1 ∷ 2 ∷ 3 ∷ []) (tagOf the-type b)) e z)
 
 enum-known-answer : tie.Need-enum-known-answer
 enum-known-answer c = search needs

@@ -1,4 +1,4 @@
--- `complete::complete_by_count`: the reach of the span that is held, or none; under it the marks that are added give the completed candidates.
+-- `complete::complete_by_count`: the reach of the span that is held; under it the marks that are added give the completed candidates.
 use lib.Seq.{length-take-le}
 use Rattle.plan_steps.specs.CompleteLaws.{collectable, named-stands}
 use Rattle.plan_steps.specs.CountLaws.{ground-founded, ground-room, ground-few, sought-is, count-held, count-with}
@@ -19,50 +19,35 @@ slice-aggregate-reach : tie.Need-slice-aggregate-reach
 slice-aggregate-reach c = let s = c .before .before .before .before .before in sym (length-take-le (2 * s .args .span .silences) (s .args .work-u32 .now) (ground-room (s .args .x) (s .args .g) (s .args .span) (s .args .work-u32 .now) (s .args .work-f64 .now) (s .pre .0) (s .pre .1 .0) .held))
 
 reach-requires : tie.Need-reach-requires
-reach-requires c κs = let s = c .before .before .before .before .before in ground-founded (s .args .x) (s .args .g) (s .args .span) (s .args .work-u32 .now) (s .args .work-f64 .now) (s .pre .0) (s .pre .1 .0)
-
-enum-told : tie.Need-enum-told
-enum-told c = search needs
-
-enum-known-sought : tie.Need-enum-known-sought
-enum-known-sought c = search needs
+reach-requires c κs = let s = c .before .before .before .before .before in (ground-founded (s .args .x) (s .args .g) (s .args .span) (s .args .work-u32 .now) (s .args .work-f64 .now) (s .pre .0) (s .pre .1 .0), s .pre .1 .1)
 
 mark-cuts-requires : tie.Need-mark-cuts-requires
-mark-cuts-requires c κs = let s = c .before .before .before .before .before .before .before .before .before .before in (ground-room (s .args .x) (s .args .g) (s .args .span) (s .args .work-u32 .now) (s .args .work-f64 .now) (s .pre .0) (s .pre .1 .0), ground-few (s .args .x) (s .args .g) (s .args .span) (s .args .work-u32 .now) (s .args .work-f64 .now) (s .pre .0) (s .pre .1 .0))
+mark-cuts-requires c κs = let s = c .before .before .before .before .before .before .before in (ground-room (s .args .x) (s .args .g) (s .args .span) (s .args .work-u32 .now) (s .args .work-f64 .now) (s .pre .0) (s .pre .1 .0), ground-few (s .args .x) (s .args .g) (s .args .span) (s .args .work-u32 .now) (s .args .work-f64 .now) (s .pre .0) (s .pre .1 .0))
 
 collect-requires : tie.Need-collect-requires
 collect-requires c κs =
-    let s = c .before .before .before .before .before .before .before .before .before .before .before .before .before .before .before in
-    let is = sought-is (s .args .x) (s .args .g) (s .args .span) (s .args .work-u32 .now) (s .args .work-f64 .now) (s .pre .0) (s .pre .1 .0) (s .args .max) (s .args .count) _ _ (c .before .before .before .before .before .before .before .before .before .reach .ensures) (c .before .before .before .before .before .before .before .sought .given .1) in
+    let s = c .before .before .before .before .before .before .before .before .before .before .before .before in
+    let is = sought-is (s .args .x) (s .args .g) (s .args .span) (s .args .work-u32 .now) (s .args .work-f64 .now) (s .pre .0) (s .pre .1 .0) (s .args .max) (s .args .count) _ (c .before .before .before .before .before .before .reach .ensures) in
     collectable (s .args .x) (s .args .g) (s .args .span) _ _ (count-held (s .args .x) (s .args .g) (s .args .span) (s .args .work-u32 .now) (s .args .work-f64 .now) (s .pre .0) (s .pre .1 .0) (s .args .max) (s .args .count) _ (s .pre .1 .1) is _ (c .before .before .before .before .mark-cuts .ensures))
     (record { u32s = omega (arith, s .pre .1 .0 .u32s, c .before .before .before .work-u32 .given); f64s = s .pre .1 .0 .f64s })
 
 same-length : tie.Need-same-length
 same-length c = search needs
 
-returns : tie.Need-returns
-returns c =
-    let s = c .before .before .before .before .before .before .before .before in
-    record { says = sought-is (s .args .x) (s .args .g) (s .args .span) (s .args .work-u32 .now) (s .args .work-f64 .now) (s .pre .0) (s .pre .1 .0) (s .args .max) (s .args .count) _ _ (c .before .before .reach .ensures) (c .enum-told .given .1) }
-
 same-length-2 : tie.Need-same-length-2
 same-length-2 c = search needs
 
-same-length-3 : tie.Need-same-length-3
-same-length-3 c = search needs
-
-returns-2 : tie.Need-returns-2
-returns-2 c =
-    let s = c .before .before .before .before .before .before .before .before .before .before .before .before .before .before .before .before .before .before .before .before in
-    let is = sought-is (s .args .x) (s .args .g) (s .args .span) (s .args .work-u32 .now) (s .args .work-f64 .now) (s .pre .0) (s .pre .1 .0) (s .args .max) (s .args .count) _ _ (c .before .before .before .before .before .before .before .before .before .before .before .before .before .before .reach .ensures) (c .before .before .before .before .before .before .before .before .before .before .before .before .sought .given .1) in
+returns : tie.Need-returns
+returns c =
+    let s = c .before .before .before .before .before .before .before .before .before .before .before .before .before .before .before .before .before in
+    let is = sought-is (s .args .x) (s .args .g) (s .args .span) (s .args .work-u32 .now) (s .args .work-f64 .now) (s .pre .0) (s .pre .1 .0) (s .args .max) (s .args .count) _ (c .before .before .before .before .before .before .before .before .before .before .before .reach .ensures) in
     let e = c .before .before .before .before .collect .ensures in
     record {
-      says = (
-        is,
-        named-stands (s .args .x) (s .args .g) (s .args .span) _ _ (count-held (s .args .x) (s .args .g) (s .args .span) (s .args .work-u32 .now) (s .args .work-f64 .now) (s .pre .0) (s .pre .1 .0) (s .args .max) (s .args .count) _ (s .pre .1 .1) is _ (c .before .before .before .before .before .before .before .before .before .mark-cuts .ensures))
-            (record { u32s = omega (arith, s .pre .1 .0 .u32s, c .before .before .before .before .before .before .before .before .work-u32 .given); f64s = s .pre .1 .0 .f64s })
-            _ (count-with (s .args .x) (s .args .g) (s .args .span) (s .args .work-u32 .now) (s .args .work-f64 .now) (s .pre .0) (s .pre .1 .0) (s .args .max) (s .args .count) _ (s .pre .1 .1) is _ (c .before .before .before .before .before .before .before .before .before .mark-cuts .ensures)) _ _ _ (e .0) (e .1 .0) (e .1 .1),
-      );
+      reach = is;
+      stands =
+          named-stands (s .args .x) (s .args .g) (s .args .span) _ _ (count-held (s .args .x) (s .args .g) (s .args .span) (s .args .work-u32 .now) (s .args .work-f64 .now) (s .pre .0) (s .pre .1 .0) (s .args .max) (s .args .count) _ (s .pre .1 .1) is _ (c .before .before .before .before .before .before .before .before .before .mark-cuts .ensures))
+          (record { u32s = omega (arith, s .pre .1 .0 .u32s, c .before .before .before .before .before .before .before .before .work-u32 .given); f64s = s .pre .1 .0 .f64s })
+          _ (count-with (s .args .x) (s .args .g) (s .args .span) (s .args .work-u32 .now) (s .args .work-f64 .now) (s .pre .0) (s .pre .1 .0) (s .args .max) (s .args .count) _ (s .pre .1 .1) is _ (c .before .before .before .before .before .before .before .before .before .mark-cuts .ensures)) _ _ _ (e .0) (e .1 .0) (e .1 .1);
     }
 
 pub complete-by-count-spec : {M : Type 1} → statement M
@@ -73,12 +58,8 @@ complete-by-count-spec =
     slice-reshare-prefix-reach
     slice-aggregate-reach
     reach-requires
-    enum-told
-    enum-known-sought
     mark-cuts-requires
     collect-requires
     same-length
-    returns
     same-length-2
-    same-length-3
-    returns-2)
+    returns)
