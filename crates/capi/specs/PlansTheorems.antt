@@ -1,6 +1,6 @@
 -- From the number that C gets to what was handed out: 0 says that a plan was made, and the theorems on plans hold of it.
 -- The lengths that the header's functions name are enough: 14 and 12 do not come then.
-use mathlib.Core.Path.{_≡_, refl, sym, ap, subst}
+use mathlib.Core.Path.{_≡_, sym, ap, subst}
 use mathlib.Core.Logic.{_↔_, inl, inr}
 use mathlib.Core.Bool.{true}
 use mathlib.Core.List.{List}
@@ -18,15 +18,14 @@ use Rattle.plan_tests.specs.Fitting.{Fitting}
 use Rattle.plan_tests.specs.Refusal as tests
 use Rattle.plan_tests.specs.RefusalLaws.{never-work, never-output, number-most}
 use Rattle.plan_tests.specs.declared.refusal.Verdict.the-variants.{Fine}
-use Rattle.plan_pieces.specs.Answer.{numberOf}
 use Rattle.plan_pieces.specs.AnswerLaws.{number-parent, number-output, answer-most}
 use Rattle.plan_pieces.specs.Output.{Output}
 use Rattle.plan_pieces.specs.declared.answer.Answer.{Answer}
-use Rattle.plan_pieces.specs.declared.answer.Answer.the-variants.{Planned, Refused, ShortParent, ShortOutput}
+use Rattle.plan_pieces.specs.declared.answer.Answer.the-variants.{Planned}
 use Rattle.planner.specs.Operation.{planOf}
 use Rattle.handed_back.specs.Plan.{piecesAfter}
-use Rattle.plan_theorems.specs.Made.{Made, Ended}
-use Rattle.plan_theorems.specs.Theorems.{plan-made, plan-ended, plan-sure}
+use Rattle.plan_theorems.specs.Made.{HasRoom, Made}
+use Rattle.plan_theorems.specs.Theorems.{plan-made, plan-ended, plan-tested, plan-sure}
 use Rattle.capi.specs.Plans.{PlanCalled, planCalledOf}
 
 -- what is at most 13 and neither 12 nor 13
@@ -75,27 +74,26 @@ module _ (r : Recording) (segment : SegmentConfig) (settings : PlanConfig) (valu
         plan-ended r segment settings values flags levels out work parent .roomy f (p, omega (arith, c))
         (number-output (planOf r segment settings values flags levels out work parent .answer) e)
 
-    -- so with lists of these lengths a recording and settings that pass the tests up to 13 have a plan
-    pub plan-called-sure : tests.firstRefusalOf r segment settings values flags levels (length (work .u32s)) (length (work .u64s)) (length (work .f64s)) ≡ Fine → Fitting values levels
-        → ((count : ℕ) → settings .mode ≡ ByCount count → (length values + 1) * min count (length values) ≤ length parent)
-        → 3 * length values ≤ length (out .pieces) → 3 * length values ≤ length (out .cuts) → called .number ≡ 0
-    unfolding planCalledOf
-    plan-called-sure fine f parents p c = plan-called-zero .1 (plan-sure r segment settings values flags levels out work parent fine f parents (p, omega (arith, c)))
-
-    -- and what is refused is so by a test of the recording or the settings, 1 to 11
-    pub plan-called-lists : workOk (length values + 1) (length (work .u32s)) (length (work .u64s)) (length (work .f64s)) ≡ true → Fitting values levels
-        → ((count : ℕ) → settings .mode ≡ ByCount count → (length values + 1) * min count (length values) ≤ length parent)
-        → 3 * length values ≤ length (out .pieces) → 3 * length values ≤ length (out .cuts) → called .number ≤ 11
-    unfolding planCalledOf
-    plan-called-lists enough f parents p c = go (planOf r segment settings values flags levels out work parent .answer) refl
+    -- with lists of these lengths
+    module _ (f : Fitting values levels) (parents : (count : ℕ) → settings .mode ≡ ByCount count → (length values + 1) * min count (length values) ≤ length parent)
+        (pieces : 3 * length values ≤ length (out .pieces)) (cuts : 3 * length values ≤ length (out .cuts))
       where
-        ended : Ended r segment settings values flags levels out work parent
-        ended = plan-ended r segment settings values flags levels out work parent
+        room : HasRoom (length values) out
+        room = (pieces, omega (arith, cuts))
 
-        go : (a : Answer) → planOf r segment settings values flags levels out work parent .answer ≡ a → numberOf a ≤ 11
-        go (Planned k) e = omega arith
-        go (Refused x) e =
-            below-twelve (number-most x) (never-output x)
-            (never-work r segment settings values flags levels (length (work .u32s)) (length (work .u64s)) (length (work .f64s)) x enough (ended .first-failed x e))
-        go ShortParent e = let t = ended .short-parent e in absurd (ended .parents-enough (t .count) (t .asked) (parents (t .count) (t .asked)) e)
-        go ShortOutput e = absurd (ended .roomy f (p, omega (arith, c)) e)
+        -- a recording and settings that pass the tests up to 13 have a plan
+        pub plan-called-sure : tests.firstRefusalOf r segment settings values flags levels (length (work .u32s)) (length (work .u64s)) (length (work .f64s)) ≡ Fine → called .number ≡ 0
+        unfolding planCalledOf
+        plan-called-sure fine = plan-called-zero .1 (plan-sure r segment settings values flags levels out work parent f parents room fine)
+
+        -- and with work lists that are long enough, what is refused is so by a test of the recording or the settings, 1 to 11
+        pub plan-called-lists : workOk (length values + 1) (length (work .u32s)) (length (work .u64s)) (length (work .f64s)) ≡ true → called .number ≤ 11
+        unfolding planCalledOf
+        plan-called-lists enough = elim (plan-tested r segment settings values flags levels out work parent f parents room) [
+          | inl p ↦ omega (arith, plan-called-zero .1 p)
+          | inr p ↦
+              rw (p .1)
+              (below-twelve (number-most (p .0)) (never-output (p .0))
+              (never-work r segment settings values flags levels (length (work .u32s)) (length (work .u64s)) (length (work .f64s)) (p .0) enough
+              (plan-ended r segment settings values flags levels out work parent .first-failed (p .0) (p .1))))
+        ]

@@ -80,9 +80,9 @@ module _ (g : FrameGrid) (ok : Accepted g) (s : Span) (spread : Spread (s .first
 
   -- a path of as many pieces with none over the reach
   record Kept : Type 0 where
-    pub path : List ℕ
-    pub allowed : PathByCount count limit (leftsOf g cs) (rightsOf g cs) path
-    pub none : overCount limit (leftsOf g cs) (rightsOf g cs) path ≡ 0
+    path : List ℕ
+    allowed : PathByCount count limit (leftsOf g cs) (rightsOf g cs) path
+    none : overCount limit (leftsOf g cs) (rightsOf g cs) path ≡ 0
 
   path-kept : (r : Refined s (c .far) (allCuts cs) (piecesAsked s count)) → longest g (piecesOf s (r .cuts)) ≤ limit → PathOf s cs (c .across) (r .cuts) → Kept
   path-kept r within t =

@@ -4,13 +4,13 @@
 --   plan-ended   of every call: what is untouched, what is zeroed, that an empty span has the empty plan, that 14 and 12 come under their conditions only and wherever they hold,
 --                12 never where there is room for a piece at each frame, 14 never where there are (frames + 1) × min(N, frames) parents,
 --                and that the number is 0 exactly where a plan was made
---   plan-sure    that a plan is made wherever the tests up to 13 pass and parents and output have those lengths
+--   plan-tested  that where parents and output have those lengths nothing refuses but the tests; so a plan is made wherever the tests up to 13 pass: plan-sure
 --   plan-reach   of every recording and settings that pass the tests up to 13, whose span is not empty: there is a reach, at most the longer of the span and the maximum
 -- Of the reach and the greedy division which they name, division has
 --   reach-one (division/specs/ReachLaws)       two limits that are the reach are one
 --   greedy-ahead (division/specs/GreedyLaws)   cut by cut the greedy division is nowhere behind any division that keeps its limit; by greedy-one there is only one
 use mathlib.Core.Path.{_≡_, refl, sym, ap, subst, _∙_}
-use mathlib.Core.Logic.{inl, inr}
+use mathlib.Core.Logic.{_⊎_, inl, inr}
 use mathlib.Core.Bool.{Bool, true, false}
 use mathlib.Core.List.{List}
 use Prim.Native.Nat.{ℕ, _+_, _*_, _≤_, _<_, min}
@@ -375,18 +375,27 @@ module _ (r : Recording) (segment : SegmentConfig) (settings : PlanConfig) (valu
   pub plan-ended : Ended r segment settings values flags levels out work parent
   plan-ended = ended r segment settings values flags levels work parent out
 
-  -- where the tests up to 13 pass, and parents and output are never too few for so many frames, a plan is made: nothing else is left that refuses
-  pub plan-sure : verdict r segment settings values flags levels work parent ≡ Fine → Fitting values levels
-      → ((count : ℕ) → settings .mode ≡ ByCount count → (length values + 1) * min count (length values) ≤ length parent) → HasRoom (length values) out
-      → (k : ℕ) × (planOf r segment settings values flags levels out work parent .answer ≡ Planned k)
-  plan-sure fine f parents room = go (planOf r segment settings values flags levels out work parent .answer) refl
-    where
-      go : (a : Answer) → planOf r segment settings values flags levels out work parent .answer ≡ a
-          → (k : ℕ) × (planOf r segment settings values flags levels out work parent .answer ≡ Planned k)
-      go (Planned k) e = (k, e)
-      go (Refused x) e = let clash = sym (plan-ended .first-failed x e) ∙ fine in let z : _≡_ {A = ℕ} 0 1 = cc in absurd (omega arith)
-      go ShortParent e = let t = plan-ended .short-parent e in absurd (plan-ended .parents-enough (t .count) (t .asked) (parents (t .count) (t .asked)) e)
-      go ShortOutput e = absurd (plan-ended .roomy f room e)
+  module _ (f : Fitting values levels) (parents : (count : ℕ) → settings .mode ≡ ByCount count → (length values + 1) * min count (length values) ≤ length parent)
+      (room : HasRoom (length values) out) where
+    -- where parents and output are never too few for so many frames, nothing refuses but the tests
+    pub plan-tested : ((k : ℕ) × (planOf r segment settings values flags levels out work parent .answer ≡ Planned k))
+        ⊎ ((x : Refusal) × (planOf r segment settings values flags levels out work parent .answer ≡ Refused x))
+    plan-tested = go (planOf r segment settings values flags levels out work parent .answer) refl
+      where
+        go : (a : Answer) → planOf r segment settings values flags levels out work parent .answer ≡ a
+            → ((k : ℕ) × (planOf r segment settings values flags levels out work parent .answer ≡ Planned k))
+            ⊎ ((x : Refusal) × (planOf r segment settings values flags levels out work parent .answer ≡ Refused x))
+        go (Planned k) e = inl (k, e)
+        go (Refused x) e = inr (x, e)
+        go ShortParent e = let t = plan-ended .short-parent e in absurd (plan-ended .parents-enough (t .count) (t .asked) (parents (t .count) (t .asked)) e)
+        go ShortOutput e = absurd (plan-ended .roomy f room e)
+
+    -- so where the tests up to 13 pass a plan is made
+    pub plan-sure : verdict r segment settings values flags levels work parent ≡ Fine → (k : ℕ) × (planOf r segment settings values flags levels out work parent .answer ≡ Planned k)
+    plan-sure fine = elim plan-tested [
+      | inl p ↦ p
+      | inr p ↦ let clash = sym (plan-ended .first-failed (p .0) (p .1)) ∙ fine in let z : _≡_ {A = ℕ} 0 1 = cc in absurd (omega arith)
+    ]
 
 -- of every recording and settings, gaps kept or dropped: where the tests up to 13 pass and the span is not empty, there is a reach for any number of pieces
 pub plan-reach : (r : Recording) (segment : SegmentConfig) (settings : PlanConfig) (values : List Float) (flags : List ℕ) (levels : List Float) (n32 n64 nf : ℕ)
