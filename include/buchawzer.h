@@ -83,7 +83,7 @@ static inline const char *buchawzer_refusal_meaning(uint32_t number)
     case BUCHAWZER_ACCEPTED:
         return "accepted";
     case BUCHAWZER_REFUSED_SAMPLE_RATE:
-        return "sample rate 0 or above 192,000";
+        return "sample rate 0 or above 768,000";
     case BUCHAWZER_REFUSED_CHANNELS:
         return "no channels";
     case BUCHAWZER_REFUSED_FRAME_STEP:
@@ -222,7 +222,7 @@ enum buchawzer_flag {
 };
 
 /* The limits of document 01; at the limit is within it. */
-#define BUCHAWZER_MOST_SAMPLE_RATE UINT32_C(192000)
+#define BUCHAWZER_MOST_SAMPLE_RATE UINT32_C(768000)
 #define BUCHAWZER_MOST_FRAME_RATE UINT32_C(192000)
 #define BUCHAWZER_MOST_HOP UINT32_C(1048576)
 #define BUCHAWZER_MOST_FRAMES UINT64_C(1048576)
@@ -282,8 +282,8 @@ uint64_t buchawzer_frames_ceil(uint32_t frame_rate, uint32_t hop, uint64_t nanos
 /* The same, rounded down. */
 uint64_t buchawzer_frames_floor(uint32_t frame_rate, uint32_t hop, uint64_t nanos);
 
-/* A duration in whole samples, rounded down. BUCHAWZER_NO_NUMBER where the rate is outside its limits or the duration
- * above 24 hours. */
+/* A duration in whole samples: nanos * sample_rate / 10^9, rounded down; exact, though the product may be beyond 64 bits.
+ * BUCHAWZER_NO_NUMBER where the rate is outside its limits or the duration above 24 hours. */
 uint64_t buchawzer_samples_floor(uint32_t sample_rate, uint64_t nanos);
 
 /* A duration in samples: the whole product rounded to the nearest double, then divided by 10^9. BUCHAWZER_NO_FLOAT where

@@ -131,7 +131,7 @@ pub const FLAG_SHORT: u64 = 1;
 pub const FLAG_LONG: u64 = 2;
 
 /// Greatest sample rate. At a limit is within it, for all that follow.
-pub const MOST_SAMPLE_RATE: u32 = 192_000;
+pub const MOST_SAMPLE_RATE: u32 = 768_000;
 /// Greatest frame rate.
 pub const MOST_FRAME_RATE: u32 = 192_000;
 /// Greatest hop.
@@ -735,7 +735,7 @@ pub fn frames_floor(frame_rate: u32, hop: u32, nanos: u64) -> Option<u64> {
     whole(buchawzer_frames_floor(frame_rate, hop, nanos))
 }
 
-/// A duration in whole samples, rounded down.
+/// A duration in whole samples: nanos × rate / 10^9, rounded down; exact, though the product may be beyond 64 bits.
 #[must_use]
 pub fn samples_floor(sample_rate: u32, nanos: u64) -> Option<u64> {
     whole(buchawzer_samples_floor(sample_rate, nanos))
@@ -1158,7 +1158,7 @@ impl Refusal {
     const fn words(self) -> [&'static str; 2] {
         match self {
             Self::SAMPLE_RATE => [
-                "sample rate 0 or above 192,000",
+                "sample rate 0 or above 768,000",
                 "give the rate of the sound that was analyzed, in Hz",
             ],
             Self::CHANNELS => ["no channels", "give at least 1"],

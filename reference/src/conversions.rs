@@ -6,9 +6,9 @@ use std::time::Duration;
 use silence_split::analyze::{Analysis, ScoreFrames};
 use silence_split::sample::Layout;
 
-use crate::domain::{HOPS, Kind, MOST_NANOS, RATES};
+use crate::domain::{FRAME_RATES, HOPS, Kind, MOST_NANOS, SAMPLE_RATES};
 use crate::ours;
-use crate::recording::{any_hop, any_rate};
+use crate::recording::{any_frame_rate, any_hop, any_sample_rate};
 use crate::rng::Rng;
 
 /// The arguments in the order of the C function, then zeros.
@@ -23,6 +23,8 @@ pub struct Conversion {
     /// The Rust's answer inside the domain.
     pub rust: fn(&Words) -> u64,
     pub ours: fn(&Words) -> u64,
+    /// The exact product that is rounded or divided, where 64 bits may not hold it.
+    pub product: Option<fn(&Words) -> u128>,
 }
 
 /// In the order of the stored sample, where the first is number 1.
@@ -34,6 +36,7 @@ pub const CONVERSIONS: [Conversion; 7] = [
         inside: frame_domain,
         rust: |w| frame_grid(w).hook_frames_in(duration(w[2])) as u64,
         ours: |w| ours::frames_in(w[0] as u32, w[1] as u32, w[2]),
+        product: None,
     },
     Conversion {
         name: "frames_ceil",
@@ -42,6 +45,7 @@ pub const CONVERSIONS: [Conversion; 7] = [
         inside: frame_domain,
         rust: |w| frame_grid(w).hook_frames_ceil(duration(w[2])) as u64,
         ours: |w| ours::frames_ceil(w[0] as u32, w[1] as u32, w[2]),
+        product: None,
     },
     Conversion {
         name: "frames_floor",
@@ -50,6 +54,7 @@ pub const CONVERSIONS: [Conversion; 7] = [
         inside: frame_domain,
         rust: |w| frame_grid(w).hook_frames_floor(duration(w[2])) as u64,
         ours: |w| ours::frames_floor(w[0] as u32, w[1] as u32, w[2]),
+        product: None,
     },
     Conversion {
         name: "samples_floor",
@@ -58,6 +63,7 @@ pub const CONVERSIONS: [Conversion; 7] = [
         inside: sample_domain,
         rust: |w| sample_grid(w).hook_samples_floor(duration(w[1])),
         ours: |w| ours::samples_floor(w[0] as u32, w[1]),
+        product: Some(sample_product),
     },
     Conversion {
         name: "samples_in",
@@ -66,6 +72,7 @@ pub const CONVERSIONS: [Conversion; 7] = [
         inside: sample_domain,
         rust: |w| sample_grid(w).hook_samples_in(duration(w[1])).to_bits(),
         ours: |w| ours::samples_in(w[0] as u32, w[1]).to_bits(),
+        product: Some(sample_product),
     },
     Conversion {
         name: "seconds",
@@ -74,15 +81,25 @@ pub const CONVERSIONS: [Conversion; 7] = [
         inside: |w| w[0] <= MOST_NANOS,
         rust: |w| duration(w[0]).as_secs_f64().to_bits(),
         ours: |w| ours::seconds(w[0]).to_bits(),
+        product: None,
     },
     Conversion {
         name: "frame_secs",
         kind: Kind::Real,
-        make: |rng| [any_rate(rng).into(), any_hop(rng).into(), 0, 0, 0, 0],
-        inside: |w| RATES.contains(&w[0]) && HOPS.contains(&w[1]),
+        make: |rng| [any_frame_rate(rng).into(), any_hop(rng).into(), 0, 0, 0, 0],
+        inside: |w| FRAME_RATES.contains(&w[0]) && HOPS.contains(&w[1]),
         rust: |w| frame_grid(w).hook_frame_secs().to_bits(),
         ours: |w| ours::frame_secs(w[0] as u32, w[1] as u32).to_bits(),
+        product: None,
     },
+];
+
+/// At the highest sample rate: the longest duration, and two whose products lie halfway between two
+/// floats, of which one is rounded down and one up.
+const FASTEST: [Words; 3] = [
+    [768_000, 86_400_000_000_000, 0, 0, 0, 0],
+    [768_000, 86_399_999_999_998, 0, 0, 0, 0],
+    [768_000, 86_399_999_999_994, 0, 0, 0, 0],
 ];
 
 /// A duration: close to a limit, close to where `per_second` of something tick or stand midway
@@ -104,7 +121,7 @@ fn tick(rng: &mut Rng, hop: u64, rate: u64) -> u64 {
 }
 
 fn frame_words(rng: &mut Rng) -> Words {
-    let (rate, hop) = (u64::from(any_rate(rng)), u64::from(any_hop(rng)));
+    let (rate, hop) = (u64::from(any_frame_rate(rng)), u64::from(any_hop(rng)));
     let nanos = if rng.one_in(3) {
         tick(rng, hop, rate.max(1))
     } else {
@@ -114,16 +131,49 @@ fn frame_words(rng: &mut Rng) -> Words {
 }
 
 fn sample_words(rng: &mut Rng) -> Words {
-    let rate = u64::from(any_rate(rng));
-    [rate, any_nanos(rng, rate.max(1)), 0, 0, 0, 0]
+    let rate = u64::from(any_sample_rate(rng));
+    let nanos = match rng.below(16) {
+        0 => return rng.choose(&FASTEST),
+        1..=3 => tie(rng, rate),
+        _ => any_nanos(rng, rate.max(1)),
+    };
+    [rate, nanos, 0, 0, 0, 0]
+}
+
+/// A duration of half a day or more whose product with `rate` lies halfway between two floats,
+/// where the rate is not a multiple of too many twos for that.
+fn tie(rng: &mut Rng, rate: u64) -> u64 {
+    let nanos = MOST_NANOS - rng.below(MOST_NANOS / 2);
+    let product = sample_product(&[rate, nanos, 0, 0, 0, 0]);
+    // The rate has some of the digits below those of a float; the duration has the others.
+    match below_float(product).checked_sub(1 + rate.trailing_zeros()) {
+        Some(digits) => ((nanos >> digits) | 1) << digits,
+        None => nanos,
+    }
+}
+
+/// Duration times sample rate.
+fn sample_product(w: &Words) -> u128 {
+    u128::from(w[0]) * u128::from(w[1])
+}
+
+/// Whether a product lies halfway between two floats.
+pub fn is_tie(product: u128) -> bool {
+    let digits = below_float(product);
+    digits > 0 && product & ((1 << digits) - 1) == 1 << (digits - 1)
+}
+
+/// How many binary digits a product has below those that a float of its size holds.
+fn below_float(product: u128) -> u32 {
+    (u128::BITS - product.leading_zeros()).saturating_sub(f64::MANTISSA_DIGITS)
 }
 
 fn frame_domain(w: &Words) -> bool {
-    RATES.contains(&w[0]) && HOPS.contains(&w[1]) && w[2] <= MOST_NANOS
+    FRAME_RATES.contains(&w[0]) && HOPS.contains(&w[1]) && w[2] <= MOST_NANOS
 }
 
 fn sample_domain(w: &Words) -> bool {
-    RATES.contains(&w[0]) && w[1] <= MOST_NANOS
+    SAMPLE_RATES.contains(&w[0]) && w[1] <= MOST_NANOS
 }
 
 fn duration(nanos: u64) -> Duration {
@@ -133,7 +183,7 @@ fn duration(nanos: u64) -> Duration {
 /// An empty recording with the frame rate and hop of `w`. At the highest sample rate every hop
 /// spans a sample, so it is accepted.
 fn frame_grid(w: &Words) -> Analysis {
-    empty(*RATES.end() as u32, w[0] as u32, w[1] as u32)
+    empty(*SAMPLE_RATES.end() as u32, w[0] as u32, w[1] as u32)
 }
 
 /// An empty recording with the sample rate of `w`.

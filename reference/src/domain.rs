@@ -1,9 +1,13 @@
-//! The limits of document 01, and what a function of the port answers outside them.
+//! The limits of documents 01 and 02, and what a function of the port answers outside them.
 
 use std::ops::RangeInclusive;
 
-/// Sample rates and frame rates, in Hz.
-pub const RATES: RangeInclusive<u64> = 1..=192_000;
+/// Sample rates, in Hz.
+pub const SAMPLE_RATES: RangeInclusive<u64> = 1..=768_000;
+/// The same of bat recorders: those that document 02 added.
+pub const BAT_RATES: RangeInclusive<u64> = 192_001..=768_000;
+/// Frame rates, in Hz.
+pub const FRAME_RATES: RangeInclusive<u64> = 1..=192_000;
 /// Samples from one frame to the next, at the frame rate.
 pub const HOPS: RangeInclusive<u64> = 1..=1_048_576;
 /// Most frames of a recording.

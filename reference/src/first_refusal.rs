@@ -3,7 +3,9 @@
 //! Rust tests in that order too, so the least number that either finds is the first that applies.
 
 use crate::case::Case;
-use crate::domain::{HOPS, MOST_COUNT, MOST_FRAMES, MOST_NANOS, MOST_SAMPLES, RATES};
+use crate::domain::{
+    FRAME_RATES, HOPS, MOST_COUNT, MOST_FRAMES, MOST_NANOS, MOST_SAMPLES, SAMPLE_RATES,
+};
 use crate::{plan_job, silence_job};
 
 /// Document 01's number for a recording, or 0.
@@ -37,9 +39,9 @@ fn least<const N: usize>(found: [u32; N]) -> u32 {
 fn recording_limits(case: &Case) -> u32 {
     let frames = case.values.len();
     let levels = if case.decibels { frames } else { 0 };
-    if u64::from(case.sample_rate) > *RATES.end() {
+    if u64::from(case.sample_rate) > *SAMPLE_RATES.end() {
         1
-    } else if u64::from(case.frame_rate) > *RATES.end() || u64::from(case.hop) > *HOPS.end() {
+    } else if u64::from(case.frame_rate) > *FRAME_RATES.end() || u64::from(case.hop) > *HOPS.end() {
         3
     } else if frames as u64 > MOST_FRAMES
         || case.flags.len() != frames

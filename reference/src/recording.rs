@@ -1,20 +1,39 @@
 //! Random frame grids, and recordings on them that the Rust accepts.
 
+use std::ops::RangeInclusive;
+
 use silence_split::analyze::{Analysis, ScoreFrames};
 use silence_split::sample::Layout;
 
-use crate::domain::{HOPS, MOST_FRAMES, MOST_SAMPLES, RATES};
+use crate::domain::{BAT_RATES, FRAME_RATES, HOPS, MOST_FRAMES, MOST_SAMPLES, SAMPLE_RATES};
 use crate::rng::Rng;
 
-/// Rates in common use, beside the random ones.
-const USUAL_RATES: [u64; 7] = [8_000, 11_025, 16_000, 22_050, 44_100, 48_000, 96_000];
+/// Rates in common use, beside the random ones; the last three are those of bat recorders.
+const USUAL_RATES: [u64; 10] = [
+    8_000, 11_025, 16_000, 22_050, 44_100, 48_000, 96_000, 256_000, 384_000, 768_000,
+];
 
-/// A rate as a C caller can give it: mostly inside the limits, often close to one.
-pub fn any_rate(rng: &mut Rng) -> u32 {
+/// A sample rate as a C caller can give it; one in eight is any of a bat recorder.
+pub fn any_sample_rate(rng: &mut Rng) -> u32 {
+    if rng.one_in(8) {
+        let (least, most) = (*BAT_RATES.start(), *BAT_RATES.end());
+        return (least + rng.below(most - least + 1)) as u32;
+    }
+    any_rate(rng, &SAMPLE_RATES)
+}
+
+/// A frame rate as a C caller can give it.
+pub fn any_frame_rate(rng: &mut Rng) -> u32 {
+    any_rate(rng, &FRAME_RATES)
+}
+
+/// A rate of either kind: mostly inside its limits, often close to one.
+fn any_rate(rng: &mut Rng, limits: &RangeInclusive<u64>) -> u32 {
+    let most = *limits.end();
     let rate = match rng.below(8) {
-        0 => rng.near(&[0, 1, *RATES.end(), u32::MAX.into()], u32::MAX.into()),
-        1 | 2 => rng.choose(&USUAL_RATES),
-        _ => rng.magnitude(*RATES.end()),
+        0 => rng.near(&[0, 1, most, u32::MAX.into()], u32::MAX.into()),
+        1 | 2 => rng.choose(&USUAL_RATES).min(most),
+        _ => rng.magnitude(most),
     };
     rate as u32
 }
@@ -28,12 +47,21 @@ pub fn any_hop(rng: &mut Rng) -> u32 {
     hop as u32
 }
 
-pub fn rate(rng: &mut Rng) -> u32 {
-    u64::from(any_rate(rng)).clamp(*RATES.start(), *RATES.end()) as u32
+pub fn sample_rate(rng: &mut Rng) -> u32 {
+    within(any_sample_rate(rng), &SAMPLE_RATES)
+}
+
+pub fn frame_rate(rng: &mut Rng) -> u32 {
+    within(any_frame_rate(rng), &FRAME_RATES)
 }
 
 pub fn hop(rng: &mut Rng) -> u32 {
-    u64::from(any_hop(rng)).clamp(*HOPS.start(), *HOPS.end()) as u32
+    within(any_hop(rng), &HOPS)
+}
+
+/// A number held to its limits.
+fn within(number: u32, limits: &RangeInclusive<u64>) -> u32 {
+    u64::from(number).clamp(*limits.start(), *limits.end()) as u32
 }
 
 /// A number of frames, a few hundred at most; `large` takes it up to the limit.
@@ -89,7 +117,7 @@ impl Recording {
     /// A length one below, at or one above the greatest, and frames that cover all three.
     pub fn at_greatest_len(rng: &mut Rng) -> Self {
         let mut made = Self {
-            sample_rate: 192_000 - rng.below(96_000) as u32,
+            sample_rate: (*SAMPLE_RATES.end() - rng.below(672_000)) as u32,
             frame_rate: 1 + rng.below(8) as u32,
             hop: 1_048_576 - rng.below(524_288) as u32,
             frames: 0,
@@ -104,8 +132,8 @@ impl Recording {
     /// A grid whose frames span at least one sample each.
     fn grid(rng: &mut Rng, frames: u64) -> Self {
         let mut made = Self {
-            sample_rate: rate(rng),
-            frame_rate: rate(rng),
+            sample_rate: sample_rate(rng),
+            frame_rate: frame_rate(rng),
             hop: hop(rng),
             frames,
             len: 0,

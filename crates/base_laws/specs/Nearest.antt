@@ -1,14 +1,14 @@
 -- `round` takes the nearest value: what lies less than half a unit in the last place above a multiple of that unit rounds to the multiple at most.
 -- The unit is known from the size of the fraction alone, so a bound of a rounded result is a matter of whole numbers.
-use mathlib.Core.Path.{_≡_, sym, ap, subst, _∙_}
+use mathlib.Core.Path.{_≡_, sym, ap, ap₂, subst, _∙_}
 use Prim.Native.Nat.{ℕ, suc, _+_, _-_, _*_, _/_, _%_, _^_, _≤_, _<_, zero-le, compare, Ordering, Ordering·lt, Ordering·eq, Ordering·gt}
-use native.Mathlib.Nat.{le-trans, le-of-eq, le-of-lt, lt-of-lt-of-le, lt-of-le-of-lt, lt-of-not-le, not-le-of-lt, le-of-suc-le-suc, mul-one, one-mul, mul-comm, mul-assoc, mul-left-comm, mul-right-comm, mul-pos, add-zero, add-mul, suc-mul, mul-le-mul-right, mul-lt-mul-of-pos-right, lt-of-mul-lt-mul-right, div-add-mod', le-div-iff-mul-le, div-lt-iff-lt-mul}
+use native.Mathlib.Nat.{le-trans, le-of-eq, le-of-lt, lt-of-lt-of-le, lt-of-le-of-lt, lt-of-not-le, not-le-of-lt, le-of-suc-le-suc, mul-one, one-mul, mul-comm, mul-assoc, mul-left-comm, mul-right-comm, mul-mul-mul-comm, mul-pos, add-zero, add-mul, suc-mul, mul-le-mul-right, mul-lt-mul-of-pos-right, lt-of-mul-lt-mul-right, div-add-mod', le-div-iff-mul-le, div-lt-iff-lt-mul}
 use native.Mathlib.Omega.{arith}
 use mathlib.Core.Bool.{true, false, not}
 use lib.IntN.{pos}
 use lib.Dec.{T, isLe, isEq, nleb→lt, eqb→eq, ltb→lt}
 use lib.Pow.{pow-add, pow-pos, pow-mono}
-use lib.Ieee.{Float, nan, inf, fin, Format, prec, emax, low, up, down, size, nearest, round, div, ofInt, le}
+use lib.Ieee.{Float, nan, inf, fin, Format, prec, emax, low, up, down, size, nearest, round, mul, div, ofInt, le}
 use lib.Ieee.Digits.{size-lt, size-le}
 use lib.Ieee.Fits.{up-pos, down-pos, nearest-le, reach}
 use lib.Ieee.Exact.{HasValue}
@@ -178,6 +178,27 @@ round-near f m c t h g l =
 
     halved : (a x t u : ℕ) → a ≡ x + t → 2 * t < u → 2 * a < 2 * x + u
     halved a x t u e l = omega arith
+
+-- ---- products and quotients of two values
+
+-- a product of two values is that of their fractions, rounded once
+pub float-mul-is : (f : Format) (x y : Float) (a c b d : ℕ) → 0 < c → 0 < d → HasValue x false a c → HasValue y false b d
+    → mul f x y ≡ round f false (a * b) (c * d)
+unfolding mul
+float-mul-is f nan y a c b d C D p q = absurd p
+float-mul-is f (inf s) y a c b d C D p q = absurd p
+float-mul-is f (fin true m e) y a c b d C D p q = absurd (holds (sym (p .0)))
+float-mul-is f (fin false m e) nan a c b d C D p q = absurd q
+float-mul-is f (fin false m e) (inf t) a c b d C D p q = absurd q
+float-mul-is f (fin false m e) (fin true n g) a c b d C D p q = absurd (holds (sym (q .0)))
+float-mul-is f (fin false m e) (fin false n g) a c b d C D p q =
+    round-same f false (m * up e * (n * up g)) (down e * down g) (a * b) (c * d) (mul-pos (down-pos e) (down-pos g)) (mul-pos C D)
+    (mul-mul-mul-comm (m * up e) (n * up g) c d ∙ ap₂ (λ (v w : ℕ). v * w) (p .1) (q .1) ∙ mul-mul-mul-comm a (down e) b (down g))
+
+-- whole numbers that the format holds multiply to their whole product, rounded once
+pub whole-product : (f : Format) (n m : ℕ) → n ≤ 2 ^ prec f → m ≤ 2 ^ prec f → mul f (ofInt f (pos n)) (ofInt f (pos m)) ≡ ofInt f (pos (n * m))
+unfolding ofInt
+whole-product f n m h k = float-mul-is f (round f false n 1) (round f false m 1) n 1 m 1 (pow-pos 0) (pow-pos 0) (whole-exact f n h) (whole-exact f m k)
 
 -- a quotient of two values is their fraction, rounded once
 pub float-div-is : (f : Format) (x y : Float) (a c b d : ℕ) → 0 < c → 0 < d → 0 < b → HasValue x false a c → HasValue y false b d

@@ -10,7 +10,7 @@ use lib.Pow.{pow-pos}
 use lib.Ieee.{Float, nan, inf, fin, Format, binary64, up, down, round, mul, lt, le, isNan, ofInt}
 use lib.Ieee.Fits.{down-pos}
 use lib.Ieee.Exact.{HasValue}
-use lib.Ieee.Scale.{finite, round-same}
+use lib.Ieee.Scale.{finite}
 use Rattle.base_laws.specs.Tests.{holds, both}
 use Rattle.base_laws.specs.Compare.{Le, le→Le, Le→le}
 use Rattle.base_laws.specs.Rounding.{Le-of-values, finite-of-value}
@@ -18,6 +18,7 @@ use Rattle.base_laws.specs.Order.{float-le-refl, float-le-trans, float-le-lt-tr
 use Rattle.base_terms.specs.Floats.{nought, nonneg}
 use Rattle.base_laws.specs.Nonneg.{nonneg-number, finite-number}
 use Rattle.base_laws.specs.Products.{float-mul-number, float-mul-mono, float-mul-nonneg}
+use Rattle.base_laws.specs.Nearest.{float-mul-is}
 use Rattle.base_laws.specs.Whole.{whole-nonneg, whole-exact, whole-within}
 use Rattle.base_terms.specs.Round.{halfAway}
 use Rattle.grid.specs.Limits.{maxFrames}
@@ -47,11 +48,7 @@ half-within x n p h = go x (le→Le nought x p) (le→Le x (wholeFloat n) h)
 
 -- a whole number times one is itself
 one-times : (f : Format) (w : Float) (a : ℕ) → HasValue w false a 1 → mul f (fin false 1 (pos 0)) w ≡ round f false a 1
-unfolding mul
-one-times f nan a h = absurd h
-one-times f (inf s) a h = absurd h
-one-times f (fin true m e) a h = absurd (holds (sym (h .0)))
-one-times f (fin false m e) a h = round-same f false (1 * 1 * (m * up e)) (1 * down e) a 1 (rw (one-mul (down e)) (down-pos e)) (pow-pos 0) (simp (one-mul, mul-one) (simp mul-one at (h .1)))
+one-times f w a h = float-mul-is f (fin false 1 (pos 0)) w 1 1 a 1 (pow-pos 0) (pow-pos 0) (refl, refl) h ∙ rw (one-mul a)
 
 module _ (ratio : Float) (frames : ℕ) (within : isScore ratio ≡ true) (few : frames ≤ maxFrames) where
   abbrev product : Float

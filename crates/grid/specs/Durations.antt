@@ -17,7 +17,7 @@ pub record InFrames (frameRate hop ns : ℕ) : Type 0 where
   pub most : hop ≤ maxHop
   pub time : ns ≤ maxDuration
 
--- the same for a conversion to samples, after test 1
+-- what one to samples needs for its steps to fit, and for duration and rate to be exact as floats: test 1 has passed, and 7's limit holds
 pub record InSamples (sampleRate ns : ℕ) : Type 0 where
   pub rate : sampleRate ≤ maxRate
   pub time : ns ≤ maxDuration

@@ -4,6 +4,7 @@ pub mod Boundary
 pub mod BoundaryLaws
 pub mod Durations
 pub mod DurationsLaws
+pub mod FitLaws
 pub mod Values
 pub mod Validate
 pub mod ValidateLaws

@@ -1,9 +1,9 @@
 -- Document 01's limits on a recording, each with its name. A change request that moves one moves it here.
 use Prim.Native.Nat.{ℕ}
 
--- refusal 1: the highest sample rate
+-- refusal 1: the highest sample rate, that of a bat recorder
 abbrev pub maxRate : ℕ
-maxRate = 192000
+maxRate = 768000
 
 -- refusal 3: the highest frame rate
 abbrev pub maxFrameRate : ℕ

@@ -1,14 +1,16 @@
 -- The chain of the tests: which answer each end gives, and what an accepted recording has passed.
-use mathlib.Core.Path.{_≡_, refl, ap, subst}
+use mathlib.Core.Path.{_≡_, refl, sym, ap, subst, _∙_}
 use mathlib.Core.Logic.{_↔_}
 use mathlib.Core.Bool.{Bool, true, false, _&&_}
 use mathlib.Core.List.{List}
 use Prim.Native.Nat.{ℕ, _+_, _*_, _≤_, _<_}
+use native.Mathlib.Nat.{le-trans}
 use native.Mathlib.Omega.{arith}
-use lib.Dec.{T, ltb, leb, eqb, ltb→lt, leb→le}
+use lib.Dec.{T, ltb, leb, eqb, ltb→lt, leb→le, lit≤}
 use lib.Ieee.{Float}
 use lib.Ieee.Fits.{and-l, and-r}
 use lib.ListN.{length}
+use borrow.Author.Tests.{le-leb}
 use Rattle.base_terms.specs.Limits.{maxLen}
 use Rattle.base_laws.specs.Tests.{holds, both, unmet}
 use Rattle.grid.specs.Limits.{maxRate, maxFrameRate, maxHop, maxFrames}
@@ -41,6 +43,11 @@ within-most x most e = leb→le x most (and-r (ltb 0 x) (leb x most) (holds e))
 pub within-pos : (x most : ℕ) → isUpTo x most ≡ true → 0 < x
 unfolding isUpTo
 within-pos x most e = ltb→lt 0 x (and-l (ltb 0 x) (leb x most) (holds e))
+
+-- up to 192,000, the limit before request S-10, test 1 answers what it did; no other definition of an answer has the limit in it
+pub old-rates : (rate : ℕ) → rate ≤ 192000 → rateOk rate ≡ isUpTo rate 192000
+unfolding isUpTo
+old-rates rate h = ap (λ (b : Bool). ltb 0 rate && b) (le-leb rate maxRate (le-trans h (lit≤ tt)) ∙ sym (le-leb rate 192000 h))
 
 -- test 3 of frame rate and hop, taken apart
 pub step-parts : (frameRate hop : ℕ) → frameStepOk frameRate hop ≡ true → (isUpTo frameRate maxFrameRate ≡ true) × (isUpTo hop maxHop ≡ true)

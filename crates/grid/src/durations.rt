@@ -1,8 +1,8 @@
 // Durations in nanoseconds as frames, samples or seconds.
 ghost use mathlib.Core.Path.{_≡_};
-ghost use Prim.Native.Nat.{_*_, _≤_};
-ghost use Rattle.grid.specs.Limits.{maxRate, maxDuration};
-ghost use Rattle.grid.specs.Durations.{durationOk, InFrames, InSamples, framesIn, framesCeil, framesFloor};
+ghost use Prim.Native.Nat.{_≤_};
+ghost use Rattle.grid.specs.Limits.{maxFrameRate, maxDuration};
+ghost use Rattle.grid.specs.Durations.{durationOk, InFrames, InSamples, framesNum, framesIn, framesCeil, framesFloor};
 ghost use Rattle.grid.specs.Durations.{samplesFloor, samplesIn, secondsOf, frameSecs};
 
 pub const NANOS_PER_SEC: u64 = 1_000_000_000;
@@ -16,13 +16,13 @@ pub fn duration_ok(nanos: u64) -> bool
     nanos <= MAX_DURATION
 }
 
-// The exact product of a duration and a rate: 24 hours times the highest rate fits in 64 bits.
-fn product(nanos: u64, rate: u32) -> u64
+// The exact product of a duration and a frame rate: 24 hours times the highest one fits in 64 bits.
+fn product(nanos: u64, frame_rate: u32) -> u64
     requires { ⌜ nanos ≤ maxDuration ⌝ }
-    requires { ⌜ rate ≤ maxRate ⌝ }
-    ensures { λ r. ⌜ r ≡ nanos * rate ⌝ }
+    requires { ⌜ «frame_rate» ≤ maxFrameRate ⌝ }
+    ensures { λ r. ⌜ r ≡ framesNum «frame_rate» nanos ⌝ }
 {
-    nanos * (rate as u64)
+    nanos * (frame_rate as u64)
 }
 
 // A duration in whole frames, rounded half up.
@@ -51,20 +51,24 @@ pub fn frames_floor(frame_rate: u32, hop: u32, nanos: u64) -> u64
     product(nanos, frame_rate) / ((hop as u64) * NANOS_PER_SEC)
 }
 
-// A duration in whole samples, rounded down.
+// A duration in whole samples, rounded down: those of its whole seconds and those of the rest.
+// 24 hours times the highest sample rate does not fit in 64 bits; either part does.
 pub fn samples_floor(sample_rate: u32, nanos: u64) -> u64
     requires { ⌜ InSamples «sample_rate» nanos ⌝ }
     ensures { λ r. ⌜ r ≡ samplesFloor «sample_rate» nanos ⌝ }
 {
-    product(nanos, sample_rate) / NANOS_PER_SEC
+    let rate = sample_rate as u64;
+    let rest = (nanos % NANOS_PER_SEC) * rate / NANOS_PER_SEC;
+    (nanos / NANOS_PER_SEC) * rate + rest
 }
 
 // A duration in samples as a float: the whole product is rounded, and then divided.
+// Duration and rate are exact as floats, so that their product as floats is the whole product rounded once.
 pub fn samples_in(sample_rate: u32, nanos: u64) -> f64
     requires { ⌜ InSamples «sample_rate» nanos ⌝ }
     ensures { λ r. ⌜ r ≡ samplesIn «sample_rate» nanos ⌝ }
 {
-    std::num::nearest_u64_to_f64(product(nanos, sample_rate)) / (NANOS_PER_SEC as f64)
+    (nanos as f64) * (sample_rate as f64) / (NANOS_PER_SEC as f64)
 }
 
 // A duration in seconds, as Rust's `Duration::as_secs_f64`.

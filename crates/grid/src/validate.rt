@@ -6,7 +6,7 @@ ghost use Rattle.grid.specs.Boundary.{Bounded};
 ghost use Rattle.grid.specs.Validate.{isUpTo, rateOk, channelsOk, frameStepOk, framesOk, levelCount};
 ghost use Rattle.grid.specs.Validate.{listsOk, valuesOk, lengthOk, gridOf, validityOf, isValid, refusalOf};
 
-pub const MAX_RATE: u32 = 192_000;
+pub const MAX_RATE: u32 = 768_000;
 
 pub const MAX_FRAME_RATE: u32 = 192_000;
 

@@ -1,5 +1,5 @@
 -- The path search may be asked with what a plan prefers: the tests of a plan leave weights that are finite and not negative, and minimum and target in the search's range.
--- By length a product of duration and rate is a whole number below 2 ^ 64, over 10 ^ 9; by count a length from 1 to 2 ^ 40 is divided by a count from 1 to 2 ^ 20.
+-- By length a product of duration and rate is a whole number below 2 ^ 66, over 10 ^ 9; by count a length from 1 to 2 ^ 40 is divided by a count from 1 to 2 ^ 20.
 use mathlib.Core.Path.{_≡_}
 use mathlib.Core.Bool.{false}
 use mathlib.Core.List.{List}

@@ -10,12 +10,13 @@ use lib.ListN.{length, replicate}
 use Rattle.base_terms.specs.Lengths.{square, offOf, short, lengthCost}
 use Rattle.base_terms.specs.Lists.{allOf, filled, onto}
 use Rattle.base_terms.specs.Work.{workOf, workOk}
-use Rattle.grid.specs.Durations.{framesIn}
+use Rattle.grid.specs.Durations.{framesIn, samplesFloor, samplesIn}
 use Rattle.grid.specs.Boundary.{startOf, covers}
 use Rattle.grid.specs.Values.{isScore, isUnflagged}
 use Rattle.grid.specs.Validate.{framesOk, valuesOk, lengthOk, validityOf}
 use Rattle.grid.specs.Validate as grid
-use Rattle.grid.specs.declared.validate.Validity.the-variants.{Valid}
+use Rattle.grid.specs.declared.validate.Validity.{Validity}
+use Rattle.grid.specs.declared.validate.Validity.the-variants.{Valid, BadSampleRate, NotCovered}
 use Rattle.grid.specs.declared.validate.Recording.{Recording}
 use Rattle.grid.specs.declared.validate.Domain.the-variants.{Scores}
 use Rattle.silence_levels.specs.declared.threshold.Threshold.the-variants.{Auto}
@@ -90,9 +91,13 @@ PathCall mode parent path over cost = (p a b : ℕ) (x : Float)
 
 -- ---- the silences
 
--- recording R's numbers: "1,000 Hz, 1 channel, frame rate 10, hop 1", scores, and a length that as many frames cover
+-- recording R's numbers, "1 channel, frame rate 10, hop 1", scores, at a sample rate and a length
+abbrev recordingAt : ℕ → ℕ → Recording
+recordingAt rate len = record { «sample_rate» = rate; channels = 1; «frame_rate» = 10; hop = 1; len = len; domain = Scores }
+
+-- at R's own "1,000 Hz", with a length that as many frames cover
 abbrev recording : ℕ → Recording
-recording len = record { «sample_rate» = 1000; channels = 1; «frame_rate» = 10; hop = 1; len = len; domain = Scores }
+recording len = recordingAt 1000 len
 
 -- the Rust's default settings: automatic threshold, 250 ms of silence, 100 ms of sound, padding of 100 and 200 ms
 abbrev defaults : SegmentConfig
@@ -198,3 +203,21 @@ pub longer-limit : RoomForThree 75 (Found (record { score = record { over = 0; c
     × ByLength 100 near dear (0 ∷ 1 ∷ 3 ∷ 4 ∷ []) 0 (fin false 9 (negsuc 2))
 unfolding bestPath wayBack parentOf bestScore tableOf nextScore predecessorOf withCutAt isWithin mayStart lowestLeast withPiece withCut overOf pieceLength lengthCostOf lengthCost square offOf short span climb size odd units round sum add neg sub mul div lt eq le ofInt firstRefusalOf listsOk endsOk endsFrom endOk isCost lengthsOk isTarget isMin countOk workOk pathOf soughtOf handedOutOf onto allOf filled ofBits
 longer-limit = (λ p a b x. refl, λ p a b x. refl, (refl, refl), (refl, refl))
+
+-- ---- document 02, S-10: the rates of bat recorders
+
+-- what the tests 1 to 6 answer to R at another sample rate and length
+abbrev RatedAs : ℕ → ℕ → Validity → Type 0
+RatedAs rate len answer = validityOf (recordingAt rate len) scores (replicate 7 0) [] ≡ answer
+
+-- "the trial with 192,001 becomes one with 768,001"; 192,001 is refused for R's length, and 768,000 is accepted with one that its frames cover
+pub rates : RatedAs 768001 700 BadSampleRate × RatedAs 192001 700 NotCovered × RatedAs 768000 537600 Valid
+unfolding span climb size odd units round lt eq le ofBits allOf validityOf grid.isUpTo framesOk grid.listsOk valuesOk lengthOk grid.frameStepOk covers startOf isScore isUnflagged
+rates = (refl, refl, refl)
+
+-- at 768,000 Hz: 24 hours, whose product is beyond 64 bits, and two durations whose products lie halfway between two floats, of which the even one is below and above
+pub fastest : (samplesFloor 768000 86400000000000 ≡ 66355200000)
+    × (samplesIn 768000 86399999999998 ≡ fin false 4348654387199899 (negsuc 15))
+    × (samplesIn 768000 86399999999994 ≡ fin false 8697308774399397 (negsuc 16))
+unfolding samplesFloor samplesIn span climb size odd units round div ofInt
+fastest = (refl, refl, refl)

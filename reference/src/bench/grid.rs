@@ -4,7 +4,7 @@ use std::hint::black_box;
 use std::time::Duration;
 
 use super::case;
-use crate::domain::{MOST_FRAMES, MOST_NANOS};
+use crate::domain::{MOST_FRAMES, MOST_NANOS, SAMPLE_RATES};
 use crate::ours;
 use crate::recording::Recording;
 use crate::rng::Rng;
@@ -53,16 +53,39 @@ fn conversions(r: &Recording) {
     let nanos: Vec<u64> = (0..CONVERSIONS).map(|_| rng.below(MOST_NANOS)).collect();
     // Each side has its durations in its own form beforehand.
     let durations: Vec<Duration> = nanos.iter().map(|n| Duration::from_nanos(*n)).collect();
-    let analysis = r.analysis();
-    case(
-        "samples_in",
-        || each(&nanos, |n| ours::samples_in(r.sample_rate, n)),
-        || each(&durations, |d| analysis.hook_samples_in(d)),
+    samples(r, ["samples_in", "samples_floor"], &nanos, &durations);
+    // Most products with a bat recorder's rate are beyond 64 bits.
+    let bats = Recording {
+        sample_rate: *SAMPLE_RATES.end() as u32,
+        frames: 0,
+        len: 0,
+        ..*r
+    };
+    samples(
+        &bats,
+        ["samples_in_bats", "samples_floor_bats"],
+        &nanos,
+        &durations,
     );
+    let analysis = r.analysis();
     case(
         "frames_in",
         || each(&nanos, |n| ours::frames_in(r.frame_rate, r.hop, n)),
         || each(&durations, |d| analysis.hook_frames_in(d)),
+    );
+}
+
+fn samples(r: &Recording, names: [&str; 2], nanos: &[u64], durations: &[Duration]) {
+    let analysis = r.analysis();
+    case(
+        names[0],
+        || each(nanos, |n| ours::samples_in(r.sample_rate, n)),
+        || each(durations, |d| analysis.hook_samples_in(d)),
+    );
+    case(
+        names[1],
+        || each(nanos, |n| ours::samples_floor(r.sample_rate, n)),
+        || each(durations, |d| analysis.hook_samples_floor(d)),
     );
 }
 

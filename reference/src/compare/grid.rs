@@ -3,8 +3,8 @@
 use std::iter;
 
 use super::{Amount, Subject};
-use crate::conversions::{CONVERSIONS, Conversion, Words};
-use crate::domain::{HOPS, Kind, MOST_FRAMES, MOST_SAMPLES, RATES};
+use crate::conversions::{CONVERSIONS, Conversion, Words, is_tie};
+use crate::domain::{BAT_RATES, FRAME_RATES, HOPS, Kind, MOST_FRAMES, MOST_SAMPLES, SAMPLE_RATES};
 use crate::ours;
 use crate::recording::{self, Recording};
 use crate::rng::Rng;
@@ -26,13 +26,28 @@ pub fn subjects() -> impl Iterator<Item = Subject> {
 fn conversion(c: &Conversion, n: u64, rng: &mut Rng, tally: &mut Tally) {
     for _ in 0..n {
         let words = (c.make)(rng);
-        let expected = if (c.inside)(&words) {
+        let inside = (c.inside)(&words);
+        let expected = if inside {
             (c.rust)(&words)
         } else {
             c.kind.marker()
         };
+        if let Some(product) = c.product {
+            count(tally, &words, inside.then(|| product(&words)));
+        }
         take(tally, c.kind, &words, (c.ours)(&words), expected);
     }
+}
+
+/// What a sample rate above 192,000 Hz brings. There is no product outside the domain.
+fn count(tally: &mut Tally, words: &Words, product: Option<u128>) {
+    let bats = product.is_some() && BAT_RATES.contains(&words[0]);
+    let beyond = product.is_some_and(|p| p > u64::MAX.into());
+    let tie = product.is_some_and(is_tie);
+    tally.occurs("a rate above 192,000 Hz", bats);
+    tally.occurs("a product beyond 64 bits", beyond);
+    tally.occurs("a product halfway between two floats", tie);
+    tally.occurs("both", beyond && tie);
 }
 
 fn take(tally: &mut Tally, kind: Kind, words: &Words, ours: u64, expected: u64) {
@@ -88,8 +103,8 @@ fn on_no_grid(tally: &mut Tally, rng: &mut Rng, asked: u64) {
     for _ in 0..asked {
         let mut made = any_grid(rng);
         match rng.below(5) {
-            0 => made.sample_rate = outside(rng, *RATES.end()),
-            1 => made.frame_rate = outside(rng, *RATES.end()),
+            0 => made.sample_rate = outside(rng, *SAMPLE_RATES.end()),
+            1 => made.frame_rate = outside(rng, *FRAME_RATES.end()),
             2 => made.hop = outside(rng, *HOPS.end()),
             3 => made.len = rng.choose(&[MOST_SAMPLES + 1, u64::MAX]),
             _ => made.frames = rng.choose(&[MOST_FRAMES + 1, u64::MAX]),
@@ -107,8 +122,8 @@ fn any_grid(rng: &mut Rng) -> Recording {
     let large = rng.one_in(2);
     let limits = [0, 1, MOST_SAMPLES];
     Recording {
-        sample_rate: recording::rate(rng),
-        frame_rate: recording::rate(rng),
+        sample_rate: recording::sample_rate(rng),
+        frame_rate: recording::frame_rate(rng),
         hop: recording::hop(rng),
         frames: recording::frames(rng, large),
         len: if rng.one_in(4) {

@@ -9,6 +9,7 @@ mod refusals;
 use super::lists::{List, Work, enough, first_fault};
 use super::silences::{WORK, vary};
 use super::{Amount, Subject};
+use crate::domain::BAT_RATES;
 use crate::ours;
 use crate::plan_job::Job;
 use crate::plan_job::planned::{Course, Planned};
@@ -16,10 +17,11 @@ use crate::plan_job::trials;
 use crate::rng::Rng;
 use crate::tally::Tally;
 
-pub fn subjects() -> [Subject; 5] {
+pub fn subjects() -> [Subject; 6] {
     [
         Subject::new("plan", plan),
         Subject::new("plan_all", plan_all),
+        Subject::new("plan_bats", plan_bats),
         Subject::new("plan_large", large::large),
         Subject::new("plan_refusals", refusals::refusals),
         Subject::new("records", records::records),
@@ -62,6 +64,18 @@ fn plan_all(amount: Amount, rng: &mut Rng, tally: &mut Tally) {
     for _ in 0..amount.inputs {
         let frames = rng.below(divisions::MOST_FRAMES as u64 + 1);
         let job = Job::to_plan(rng, frames);
+        ask_accepted(&mut caller, &job, rng, tally);
+    }
+}
+
+/// Sample rates of bat recorders alone.
+fn plan_bats(amount: Amount, rng: &mut Rng, tally: &mut Tally) {
+    let mut caller = Caller::new();
+    for _ in 0..amount.inputs {
+        let mut job = small(rng);
+        while !BAT_RATES.contains(&job.recording.case.sample_rate.into()) {
+            job = small(rng);
+        }
         ask_accepted(&mut caller, &job, rng, tally);
     }
 }

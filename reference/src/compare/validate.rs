@@ -22,9 +22,12 @@ pub fn subjects() -> impl Iterator<Item = Subject> {
         each(amount.inputs, tally, &trials, |i| edge_of_coverage(rng, i));
     });
     let refusals = Subject::new("refusals", |amount, rng, tally| {
-        let mut trial = Case::trial(700);
-        trial.sample_rate = 192_001;
-        each(amount.inputs, tally, &[trial], |i| changed(rng, i));
+        let trials = [(768_001, 700), (192_001, 700), (768_000, 537_600)].map(|(rate, len)| {
+            let mut trial = Case::trial(len);
+            trial.sample_rate = rate;
+            trial
+        });
+        each(amount.inputs, tally, &trials, |i| changed(rng, i));
     });
     iter::once(coverage).chain(iter::once(refusals))
 }

@@ -10,14 +10,17 @@ const SIGNALLING: f32 = f32::from_bits(0x7f80_0001);
 /// Document 01's number, or 0, and the change that brings a job there.
 type Row = (u32, fn(&mut Job));
 
-const GRID: [Row; 15] = [
+const GRID: [Row; 18] = [
     (1, |job| job.recording.case.sample_rate = 0),
-    (1, |job| job.recording.case.sample_rate = 192_001),
+    (1, |job| job.recording.case.sample_rate = 768_001),
+    (0, |job| grid(job, 768_000, 10, 1, 537_600)),
+    (6, |job| job.recording.case.sample_rate = 192_001),
     (0, |job| grid(job, 192_000, 10, 1, 134_400)),
     (2, |job| job.recording.case.channels = 0),
     (0, |job| job.recording.case.channels = u16::MAX),
     (3, |job| job.recording.case.frame_rate = 0),
     (3, |job| grid(job, 192_000, 192_001, 2, 14)),
+    (3, |job| grid(job, 768_000, 192_001, 1, 28)),
     (0, |job| grid(job, 192_000, 192_000, 1, 7)),
     (3, |job| job.recording.case.hop = 0),
     (3, |job| grid(job, 1_000, 10, 1_048_577, 734_003_900)),

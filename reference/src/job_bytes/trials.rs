@@ -1,4 +1,5 @@
-//! The trial cuts of document 01 that the program runs: recording R and what is printed for it.
+//! The trial cuts of document 01 that the program runs, recording R and what is printed for it, with
+//! the rates of document 02.
 
 use std::time::Duration;
 
@@ -82,8 +83,11 @@ pub fn trials() -> Vec<(Vec<u8>, Said)> {
         job.recording.case.len = len;
         job
     };
-    let mut fast = printed();
-    fast.recording.case.sample_rate = 192_001;
+    let at = |rate: u32, len: u64| {
+        let mut job = long(len);
+        job.recording.case.sample_rate = rate;
+        job
+    };
     let others = [
         (by_two, Said::Prints(BY_TWO)),
         (by_eight, Said::Prints(BY_EIGHT)),
@@ -91,7 +95,9 @@ pub fn trials() -> Vec<(Vec<u8>, Said)> {
         (long(799), Said::Accepts),
         (long(600), Said::Prints("refused 6\n")),
         (long(800), Said::Prints("refused 6\n")),
-        (fast, Said::Prints("refused 1\n")),
+        (at(192_001, 700), Said::Prints("refused 6\n")),
+        (at(768_000, 537_600), Said::Accepts),
+        (at(768_001, 700), Said::Prints("refused 1\n")),
     ];
     let others = others.map(|(job, said)| (encode(&job, ALL).bytes, said));
     let first = (PRINTED.to_vec(), Said::Prints(PRINTED_LISTING));

@@ -7,13 +7,13 @@
 //! | bytes of the listing l, at most 4,096 | u16 |
 //! | the listing, with a line feed after each of its lines | l × u8 |
 //!
-//! The first eight are document 01's trial cuts. Then come jobs on either side of each limit, one
-//! for each refusal number among them and 14 for either path; then one for each damage: R's job cut
-//! short at each byte, each unknown bit and kind, a byte after the end, 511 and 512 frames, 8,192
-//! and 8,193 bytes. The rest is random, by length and by count. Spoiled are, of the first, a digit
-//! of a piece, its flags, a digit of a cut, its reason, a count; a leading zero, a line feed less in
-//! the middle and at the end, a line less, nothing at all, and a refusal; and of others the number
-//! of a refusal and a plan in its place.
+//! The first ten are document 01's trial cuts, with document 02's rates among them. Then come jobs
+//! on either side of each limit, one for each refusal number among them and 14 for either path; then
+//! one for each damage: R's job cut short at each byte, each unknown bit and kind, a byte after the
+//! end, 511 and 512 frames, 8,192 and 8,193 bytes. The rest is random, by length and by count.
+//! Spoiled are, of the first, a digit of a piece, its flags, a digit of a cut, its reason, a count;
+//! a leading zero, a line feed less in the middle and at the end, a line less, nothing at all, and a
+//! refusal; and of others the number of a refusal and a plan in its place.
 
 use super::Bytes;
 use crate::job_bytes::make::{accepted, write};

@@ -30,7 +30,7 @@
 use super::Bytes;
 use super::candidates::put_settings;
 use super::silences::{put_lists, put_recording};
-use crate::domain::{MOST_SAMPLES, RATES};
+use crate::domain::{MOST_SAMPLES, SAMPLE_RATES};
 use crate::plan_job::planned::Planned;
 use crate::plan_job::{Job, trials};
 use crate::rng::Rng;
@@ -161,7 +161,7 @@ fn change(rng: &mut Rng, job: &mut Job, lists: &mut Lists, refusal: u32) {
     let (case, settings) = (&mut job.recording.case, &mut job.recording.settings);
     let plan = &mut job.plan;
     match refusal {
-        1 => case.sample_rate = rng.choose(&[0, *RATES.end() as u32 + 1]),
+        1 => case.sample_rate = rng.choose(&[0, *SAMPLE_RATES.end() as u32 + 1]),
         2 => case.channels = 0,
         3 => case.hop = 0,
         5 if case.values.is_empty() => {

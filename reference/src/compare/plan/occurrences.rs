@@ -40,6 +40,15 @@ fn inputs(tally: &mut Tally, job: &Job, planned: &Planned, course: &Course) {
     let many = gaps(&course.places.ends) >= MANY_GAPS;
     tally.occurs("three dropped gaps or more", many);
     tally.occurs("a maximum of eight frames or fewer", few_frames(job));
+    let beyond = |nanos: u64| beyond_word(job, nanos);
+    tally.occurs(
+        "a maximum times the rate beyond 64 bits",
+        beyond(job.plan.max),
+    );
+    tally.occurs(
+        "a target times the rate beyond 64 bits",
+        beyond(job.plan.target),
+    );
     let mut neighbours = course.found.windows(2);
     let blocked = neighbours.any(|w| w[1].0 - w[0].1 > course.maximum);
     tally.occurs("neighbours further apart than the maximum", blocked);
@@ -58,6 +67,11 @@ fn inputs(tally: &mut Tally, job: &Job, planned: &Planned, course: &Course) {
     );
     let more = asked.is_some_and(|asked| asked > kept);
     tally.occurs("more pieces asked for than frames are kept", more);
+}
+
+/// Whether 64 bits do not hold the product of a length and the sample rate.
+fn beyond_word(job: &Job, nanos: u64) -> bool {
+    u128::from(nanos) * u128::from(job.recording.case.sample_rate) > u64::MAX.into()
 }
 
 fn few_frames(job: &Job) -> bool {

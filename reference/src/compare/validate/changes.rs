@@ -1,11 +1,12 @@
 //! Changes that bring a recording to a refusal, one function for each number.
 
 use crate::case::Case;
-use crate::domain::{HOPS, MOST_SAMPLES, RATES};
+use crate::domain::{FRAME_RATES, HOPS, MOST_SAMPLES, SAMPLE_RATES};
 use crate::recording::{self, Recording};
 use crate::rng::Rng;
 
-const ABOVE_RATES: u32 = *RATES.end() as u32 + 1;
+const ABOVE_SAMPLE_RATES: u32 = *SAMPLE_RATES.end() as u32 + 1;
+const ABOVE_FRAME_RATES: u32 = *FRAME_RATES.end() as u32 + 1;
 const ABOVE_HOPS: u32 = *HOPS.end() as u32 + 1;
 
 /// The float next above 1 and the one next below 0.
@@ -16,7 +17,7 @@ const BELOW_ZERO: f32 = -f32::from_bits(1);
 pub fn apply(case: &mut Case, rng: &mut Rng, refusals: &[u64]) {
     for refusal in refusals {
         match refusal {
-            1 => case.sample_rate = rng.choose(&[0, ABOVE_RATES, u32::MAX]),
+            1 => case.sample_rate = rng.choose(&[0, ABOVE_SAMPLE_RATES, u32::MAX]),
             2 => case.channels = 0,
             3 => frame_grid(case, rng),
             4 => lists(case, rng),
@@ -28,11 +29,11 @@ pub fn apply(case: &mut Case, rng: &mut Rng, refusals: &[u64]) {
 
 fn frame_grid(case: &mut Case, rng: &mut Rng) {
     match rng.below(3) {
-        0 => case.frame_rate = rng.choose(&[0, ABOVE_RATES, u32::MAX]),
+        0 => case.frame_rate = rng.choose(&[0, ABOVE_FRAME_RATES, u32::MAX]),
         1 => case.hop = rng.choose(&[0, ABOVE_HOPS, u32::MAX]),
         _ => {
             // A frame of exactly one sample, or just under one.
-            case.sample_rate = case.sample_rate.clamp(2, *RATES.end() as u32);
+            case.sample_rate = case.sample_rate.clamp(2, *FRAME_RATES.end() as u32);
             case.hop = 1;
             case.frame_rate = case.sample_rate + rng.below(2) as u32;
         }

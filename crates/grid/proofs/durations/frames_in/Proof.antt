@@ -1,6 +1,6 @@
 -- Product and half the divisor fit in 64 bits together, and the divisor is not 0.
-use native.Mathlib.Nat.{mul-le-mul}
 use Rattle.grid.specs.Durations.{framesIn}
+use Rattle.grid.specs.FitLaws.{frames-fit}
 use borrow.Author.Needs.{needs}
 use native.Mathlib.Omega.{arith}
 use Rattle.grid.proofs.durations.frames_in.Statement.{statement}
@@ -13,7 +13,7 @@ product-requires : tie.Need-product-requires
 product-requires c κs = search needs
 
 add-result : tie.Need-add-result
-add-result c = omega (arith, mul-le-mul (c .before .pre .time) (c .before .pre .rate))
+add-result c = omega (arith, frames-fit (c .before .args .frame-rate) (c .before .args .hop) (c .before .args .nanos) (c .before .pre))
 
 div-result : tie.Need-div-result
 div-result c = search needs

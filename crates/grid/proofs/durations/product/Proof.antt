@@ -1,4 +1,4 @@
--- 24 hours times the highest rate fits in 64 bits.
+-- 24 hours times the highest frame rate fits in 64 bits.
 use native.Mathlib.Nat.{mul-le-mul}
 use borrow.Author.Needs.{needs}
 use native.Mathlib.Omega.{arith}

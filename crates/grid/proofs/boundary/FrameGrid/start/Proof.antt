@@ -1,6 +1,7 @@
 -- The limits bound both products, so that they fit in 64 bits.
-use native.Mathlib.Nat.{mul-le-mul, le-trans, le-refl, add-le-add}
+use native.Mathlib.Nat.{mul-le-mul}
 use Rattle.grid.specs.Boundary.{startOf}
+use Rattle.grid.specs.FitLaws.{start-fits}
 use borrow.Author.Needs.{needs}
 use native.Mathlib.Omega.{arith}
 use Rattle.grid.proofs.boundary.FrameGrid.start.Statement.{statement}
@@ -16,7 +17,7 @@ mul-result : tie.Need-mul-result
 mul-result c = omega (arith, mul-le-mul (c .before .before .pre .0 .hop) (c .before .before .pre .0 .rate))
 
 mul-result-2 : tie.Need-mul-result-2
-mul-result-2 c = omega (arith, mul-le-mul (le-trans (c .before .before .pre .1) (add-le-add (c .before .before .pre .0 .frames) (le-refl 1))) (mul-le-mul (c .before .before .pre .0 .hop) (c .before .before .pre .0 .rate)))
+mul-result-2 c = omega (arith, start-fits (c .before .before .args .self) (c .before .before .pre .0) (c .before .before .args .k) (c .before .before .pre .1))
 
 cast-result-3 : tie.Need-cast-result-3
 cast-result-3 c = search needs
