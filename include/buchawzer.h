@@ -221,7 +221,7 @@ enum buchawzer_flag {
     BUCHAWZER_FLAG_LONG = 2
 };
 
-/* The limits of document 01; at the limit is within it. */
+/* The limits of document 01, with the sample rate's as it was raised since; at the limit is within it. */
 #define BUCHAWZER_MOST_SAMPLE_RATE UINT32_C(768000)
 #define BUCHAWZER_MOST_FRAME_RATE UINT32_C(192000)
 #define BUCHAWZER_MOST_HOP UINT32_C(1048576)

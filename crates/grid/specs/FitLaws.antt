@@ -15,19 +15,19 @@ use Rattle.grid.specs.declared.boundary.FrameGrid.{FrameGrid}
 
 -- ---- the products
 
--- of a frame's number, hop and sample rate: one more than 1,048,576, 1,048,576 and 768,000 at most
+-- a frame's number × hop × sample rate fits: at most 1,048,577 × 1,048,576 × 768,000
 pub start-fits : (g : FrameGrid) → Bounded g → (k : ℕ) → k ≤ g .frames + 1 → k * (g .hop * g .«sample_rate») < 2 ^ 64
 start-fits g b k h = omega (arith, mul-le-mul (le-trans h (add-le-add (b .frames) (le-refl 1))) (mul-le-mul (b .hop) (b .rate)))
 
--- of a duration and a frame rate, with what rounding adds, less than a divisor: 24 hours times 192,000 at most
+-- duration × frame rate fits, and so does what rounding adds, less than a divisor: at most 24 hours × 192,000, and 1,048,576 seconds
 pub frames-fit : (frameRate hop ns : ℕ) → InFrames frameRate hop ns → framesNum frameRate ns + framesDen hop < 2 ^ 64
 frames-fit frameRate hop ns p = omega (arith, mul-le-mul (p .time) (p .rate), p .most)
 
--- of a duration and a sample rate it need not: 24 hours times 768,000
+-- duration × sample rate need not: 24 hours × 768,000
 samples-far : 2 ^ 64 ≤ maxDuration * maxRate
 samples-far = lit≤ tt
 
--- of its whole seconds and of the rest of it, both together
+-- whole seconds × sample rate and the rest × sample rate fit, both together
 pub samples-fit : (rate ns : ℕ) → InSamples rate ns → ns / nanosPerSec * rate + ns % nanosPerSec * rate < 2 ^ 64
 samples-fit rate ns p =
     let seconds : ns / nanosPerSec * rate ≤ 86400 * maxRate = mul-le-mul (whole ns (p .time)) (p .rate) in
