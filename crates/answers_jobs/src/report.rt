@@ -1,4 +1,4 @@
-// What a program says of its sample.
+// What is counted of a sample.
 ghost use mathlib.Core.Path.{_≡_};
 ghost use Rattle.answers_jobs.specs.Tally.{UpTo, noRecord, tooLong, withRecord};
 
@@ -61,16 +61,4 @@ pub fn with_record(t: Tally, same: bool) -> Tally
         agreeing: t.agreeing,
         differences: t.differences,
     }
-}
-
-// The number of records is part of the line, so that a sample that was not read is no success.
-pub fn print(subject: &[u8], tally: Tally) {
-    io::write_all(1, subject);
-    io::write_all(1, b": ");
-    io::print_decimal(1, tally.records);
-    io::write_all(1, b" stored answers, the first ");
-    io::print_decimal(1, tally.agreeing);
-    io::write_all(1, b" agree, ");
-    io::print_decimal(1, tally.differences);
-    io::write_all(1, b" differ\n");
 }

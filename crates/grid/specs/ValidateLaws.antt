@@ -137,34 +137,41 @@ module _ (r : Recording) (values : List Float) (flags : List ℕ) (levels : List
 
   -- ---- the seven ends of the chain, each under what has passed before it
 
+  -- 1 is given where the sample rate is outside its limits
   pub fails-rate : rateOk (r .«sample_rate») ≡ false → BadSampleRate ≡ validityOf r values flags levels
   unfolding validityOf
   fails-rate n = rw n
 
   module _ (a : rateOk (r .«sample_rate») ≡ true) where
+    -- 2, where there is no channel
     pub fails-channels : channelsOk (r .channels) ≡ false → NoChannels ≡ validityOf r values flags levels
     unfolding validityOf
     fails-channels n = rw (a, n)
 
     module _ (b : channelsOk (r .channels) ≡ true) where
+      -- 3, where frame rate or hop is outside its limits, or a frame is shorter than a sample
       pub fails-frames : framesOk (r .«sample_rate») (r .«frame_rate») (r .hop) ≡ false → BadFrames ≡ validityOf r values flags levels
       unfolding validityOf
       fails-frames n = rw (a, b, n)
 
       module _ (c : framesOk (r .«sample_rate») (r .«frame_rate») (r .hop) ≡ true) where
+        -- 4, where the lists do not have the lengths that go together
         pub fails-lists : listsOk (r .domain) (length values) (length flags) (length levels) ≡ false → BadLists ≡ validityOf r values flags levels
         unfolding validityOf
         fails-lists n = rw (a, b, c, n)
 
         module _ (d : listsOk (r .domain) (length values) (length flags) (length levels) ≡ true) where
+          -- 5, where a value, flag or level is not one of its domain
           pub fails-values : valuesOk (r .domain) values flags levels ≡ false → BadValue ≡ validityOf r values flags levels
           unfolding validityOf
           fails-values n = rw (a, b, c, d, n)
 
+          -- 6, where the frames do not cover the length, or it is too long
           pub fails-length : valuesOk (r .domain) values flags levels ≡ true → lengthOk (gridOf r (length values)) ≡ false → NotCovered ≡ validityOf r values flags levels
           unfolding validityOf
           fails-length e n = rw (a, b, c, d, e, n)
 
+  -- where all six pass, the recording is accepted
   pub passes : AcceptedRecording r values flags levels → Valid ≡ validityOf r values flags levels
   unfolding validityOf
   passes p = rw (p .rate, p .channels, p .frames, p .lists, p .within, p .length)
