@@ -1,5 +1,6 @@
-/* Plans document 01's recording R and prints its listing; then tries two refusals, and says in words on standard error what
- * the first is about. Built and run by tools/examples, which also holds README.md to the marked lines. */
+/* Plans document 01's recording R and prints its listing; then tries a refusal, and says in words on standard error what it
+ * is about; then prints the listings of a job of 0 bytes, an empty recording, and of one byte, which is no job. Built and run
+ * by tools/examples, which also holds README.md to the marked lines. */
 #include <stdio.h>
 
 #include "../include/buchawzer.h"
@@ -67,10 +68,11 @@ static void plan_at(uint32_t rate)
 
 int main(void)
 {
-    static const uint8_t no_job[1] = {0};
+    static const uint8_t job[1] = {0};
     static uint8_t listing[BUCHAWZER_LISTING_BYTES];
     plan_at(1000);
     plan_at(BUCHAWZER_MOST_SAMPLE_RATE + 1);
-    fwrite(listing, 1, buchawzer_cutplan(no_job, 0, listing, sizeof listing), stdout);
+    for (size_t bytes = 0; bytes <= sizeof job; bytes++)
+        fwrite(listing, 1, buchawzer_cutplan(job, bytes, listing, sizeof listing), stdout);
     return 0;
 }

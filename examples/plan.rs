@@ -1,5 +1,6 @@
-//! Plans document 01's recording R and prints its listing; then tries two refusals, and says in words on standard error
-//! what the first is about. Built and run by tools/examples, which also holds README.md to the marked lines.
+//! Plans document 01's recording R and prints its listing; then tries a refusal, and says in words on standard error what
+//! it is about; then prints the listings of a job of 0 bytes, an empty recording, and of one byte, which is no job. Built
+//! and run by tools/examples, which also holds README.md to the marked lines.
 
 #[path = "../include/buchawzer.rs"]
 mod buchawzer;
@@ -48,7 +49,9 @@ fn main() -> Result<(), Refusal> {
         eprintln!("{refusal}");
     }
     let mut listing = [0; buchawzer::LISTING_BYTES];
-    let listing = buchawzer::cutplan(&[], &mut listing)?;
-    print!("{}", String::from_utf8_lossy(listing));
+    for job in [&[][..], &[0]] {
+        let listing = buchawzer::cutplan(job, &mut listing)?;
+        print!("{}", String::from_utf8_lossy(listing));
+    }
     Ok(())
 }

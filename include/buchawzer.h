@@ -528,9 +528,10 @@ BUCHAWZER_NODISCARD uint32_t buchawzer_cut_records(
     struct buchawzer_cut *records,
     size_t records_len);
 
-/* The listing of a job, as the program cutplan prints it: its bytes at the front of `listing`, and their number. A job that
- * is refused, 19 for bytes that are no job, gives the line `refused` with its number. 0, and nothing is written, where
- * `listing` has fewer than BUCHAWZER_LISTING_BYTES bytes. No NUL ends the listing. */
+/* The listing of a job, as the program cutplan prints it: its bytes at the front of `listing`, and their number. A job of 0
+ * bytes is an empty recording and gives `plan 0 0`; `job` is not NULL then either. A job that is refused, 19 for other bytes
+ * that are no job, gives the line `refused` with its number. 0, and nothing is written, where `listing` has fewer than
+ * BUCHAWZER_LISTING_BYTES bytes. No NUL ends the listing. */
 BUCHAWZER_NODISCARD uint64_t buchawzer_cutplan(
     const uint8_t *job,
     size_t job_len,

@@ -1125,9 +1125,10 @@ pub fn cut_records<'a>(numbers: &[u64], records: &'a mut [Cut]) -> Result<&'a [C
     Ok(front(records, (numbers.len() / 3) as u64))
 }
 
-/// The listing of a job, as the program cutplan prints it. A job that is refused, by 19 where these bytes are none,
-/// is no `Err`: its listing is the line `refused` with the number. Refused by 12 where `listing` has fewer than
-/// [`LISTING_BYTES`] bytes; the declared function answers 0 there.
+/// The listing of a job, as the program cutplan prints it. A job of 0 bytes is an empty recording, whose listing is
+/// `plan 0 0`. A job that is refused, by 19 where other bytes are none, is no `Err`: its listing is the line `refused`
+/// with the number. Refused by 12 where `listing` has fewer than [`LISTING_BYTES`] bytes; the declared function answers
+/// 0 there.
 pub fn cutplan<'a>(job: &[u8], listing: &'a mut [u8]) -> Result<&'a [u8], Refusal> {
     let length =
         unsafe { buchawzer_cutplan(job.as_ptr(), job.len(), listing.as_mut_ptr(), listing.len()) };

@@ -11,6 +11,7 @@ int32_t buchawzer_cutplan_program(uint32_t *refused);
 static const char usage[] =
     "usage: cutplan < JOB > LISTING\n"
     "Reads one job from standard input and writes its listing, a plan or `refused` with a number, to standard output.\n"
+    "No bytes are an empty recording, `plan 0 0`: look at the status of the command that makes the job, as by && or pipefail.\n"
     "What a refusal means goes to standard error. tools/job makes a job from numbers, and README.md has its bytes.\n"
     "Status 0: the listing was written, a refusal too; 1: it could not be written; 2: an argument that is not -h or --help.\n";
 

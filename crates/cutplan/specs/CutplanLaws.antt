@@ -1,9 +1,9 @@
--- The ends of `cutplan`: a lent list that is too short, a job that was read, bytes that are none.
+-- The ends of `cutplan`: a lent list that is too short, no bytes, a job that was read, bytes that are none.
 use mathlib.Core.Path.{_≡_, ap, sym, _∙_}
 use mathlib.Core.List.{List}
 use Prim.Native.Nat.{ℕ, _≤_, _<_}
 use native.Mathlib.Omega.{arith}
-use borrow.Author.Tests.{lt-ltb, le-ltb}
+use borrow.Author.Tests.{eq-eqb, ne-eqb, lt-ltb, le-ltb}
 use lib.ListN.{length, take, drop, length-append}
 use lib.Seq.{length-take-le}
 use Rattle.base_terms.specs.Lists.{onto}
@@ -14,30 +14,52 @@ use Rattle.job.specs.Job.{readOf, withLists, jobOf}
 use Rattle.job.specs.declared.answer.Fault.{Fault}
 use Rattle.job.specs.declared.answer.Head.{Head}
 use Rattle.job.specs.declared.answer.Reading.the-variants.{Job, Refused}
-use Rattle.listing.specs.Listing.{refusalLine}
+use Rattle.listing.specs.Listing.{planLine, refusalLine}
 use Rattle.cutplan.specs.Lines.{longestListing}
 use Rattle.cutplan.specs.Head.{linesOfHead, refusedOfHead}
 use Rattle.cutplan.specs.Cutplan.{printedFor, cutplanOf, refusedFor, refusedIn, Printed, printed, printedInto}
 
--- what is printed for a job that was read
-pub job-printed : (job : List ℕ) (h : Head) → readOf job ≡ Job h → linesOfHead job h ≡ cutplanOf job
-unfolding jobOf withLists printedFor
-job-printed job h e = rw e
+module _ (job : List ℕ) where
+  -- for no bytes a plan without pieces is printed
+  pub empty-printed : length job ≡ 0 → planLine 0 0 ≡ cutplanOf job
+  unfolding cutplanOf
+  empty-printed e = rw (eq-eqb (length job) 0 e)
 
--- and for bytes that are none
-pub fault-printed : (job : List ℕ) (fault : Fault) (at : ℕ) → readOf job ≡ Refused fault at → refusalLine (faultNumber fault) ≡ cutplanOf job
-unfolding jobOf withLists printedFor
-fault-printed job fault at e = rw e
+  -- and 0 is the number that goes with it
+  pub empty-refused : length job ≡ 0 → 0 ≡ refusedIn job
+  unfolding refusedIn
+  empty-refused e = rw (eq-eqb (length job) 0 e)
 
--- the number that goes with a job that was read
-pub job-refused : (job : List ℕ) (h : Head) → readOf job ≡ Job h → refusedOfHead job h ≡ refusedIn job
-unfolding jobOf withLists refusedFor
-job-refused job h e = rw e
+  module _ (some : length job ≡ 0 → ⊥) where
+    -- for others, what is printed for the job that they say
+    pub bytes-printed : cutplanOf job ≡ printedFor (jobOf job)
+    unfolding cutplanOf
+    bytes-printed = rw (ne-eqb (length job) 0 some)
 
--- and with bytes that are none
-pub fault-refused : (job : List ℕ) (fault : Fault) (at : ℕ) → readOf job ≡ Refused fault at → faultNumber fault ≡ refusedIn job
-unfolding jobOf withLists refusedFor
-fault-refused job fault at e = rw e
+    -- and the number that goes with that
+    pub bytes-refused : refusedIn job ≡ refusedFor (jobOf job)
+    unfolding refusedIn
+    bytes-refused = rw (ne-eqb (length job) 0 some)
+
+    -- what is printed for a job that was read
+    pub job-printed : (h : Head) → readOf job ≡ Job h → linesOfHead job h ≡ cutplanOf job
+    unfolding jobOf withLists printedFor
+    job-printed h e = rw (bytes-printed, e)
+
+    -- and for bytes that are none
+    pub fault-printed : (fault : Fault) (at : ℕ) → readOf job ≡ Refused fault at → refusalLine (faultNumber fault) ≡ cutplanOf job
+    unfolding jobOf withLists printedFor
+    fault-printed fault at e = rw (bytes-printed, e)
+
+    -- the number that goes with a job that was read
+    pub job-refused : (h : Head) → readOf job ≡ Job h → refusedOfHead job h ≡ refusedIn job
+    unfolding jobOf withLists refusedFor
+    job-refused h e = rw (bytes-refused, e)
+
+    -- and with bytes that are none
+    pub fault-refused : (fault : Fault) (at : ℕ) → readOf job ≡ Refused fault at → faultNumber fault ≡ refusedIn job
+    unfolding jobOf withLists refusedFor
+    fault-refused fault at e = rw (bytes-refused, e)
 
 -- ---- into a lent list
 

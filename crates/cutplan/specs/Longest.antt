@@ -24,17 +24,16 @@ use Rattle.plan_pieces.specs.declared.answer.Answer.{Answer}
 use Rattle.plan_pieces.specs.declared.answer.Answer.the-variants.{Planned, Refused, ShortParent, ShortOutput}
 use Rattle.plan_theorems.specs.Made.{pieceStart, pieceEnd, Shows, PlanWritten}
 use Rattle.plan_theorems.specs.Theorems.{plan-made, plan-ended}
-use Rattle.job.specs.Job.{Asked, JobOrFault, asks, fails, jobOf}
-use Rattle.job.specs.Theorems.{fault-number}
-use Rattle.job.specs.declared.answer.Fault.{Fault}
-use Rattle.listing.specs.Listing.{listingOf}
+use Rattle.job.specs.Job.{Asked, asks, jobOf}
+use Rattle.listing.specs.Listing.{planLine, listingOf, refusalLine}
 use Rattle.listing.specs.Rows.{AllWide}
-use Rattle.listing.specs.FitsLaws.{listing-fits, refusal-fits}
+use Rattle.listing.specs.FitsLaws.{plan-fits, listing-fits, refusal-fits}
 use Rattle.cutplan.specs.Memory.{lentWork, lentParents}
 use Rattle.cutplan.specs.Lines.{longestListing, linesFor, lentOutput}
-use Rattle.cutplan.specs.Cutplan.{printedFor, cutplanOf}
+use Rattle.cutplan.specs.Cutplan.{cutplanOf}
+use Rattle.cutplan.specs.CutplanLaws.{empty-printed}
 use Rattle.cutplan.specs.WideLaws.{wide-rows}
-use Rattle.cutplan.specs.Theorems.{endFor, job-lines, of-span}
+use Rattle.cutplan.specs.Theorems.{BytesAre, nothing, some-job, no-job, bytes-are, endFor, job-lines, of-span, fault-line}
 
 module _ (job : List ℕ) (a : Asked) (read : jobOf job ≡ asks a) where
   abbrev out : Output
@@ -99,11 +98,12 @@ module _ (job : List ℕ) (a : Asked) (read : jobOf job ≡ asks a) where
 
 -- whatever the input
 pub cutplan-short : (job : List ℕ) → length (cutplanOf job) ≤ longestListing
-cutplan-short job = go (jobOf job) refl
+cutplan-short job = go (bytes-are job)
   where
-    go : (o : JobOrFault) → jobOf job ≡ o → length (cutplanOf job) ≤ longestListing
-    go (asks a) e = subst (λ (text : List ℕ). length text ≤ longestListing) (sym (job-lines job a e)) (answer-short job a e (endFor job a e .answer) refl)
-    go (fails fault at) e = subst (λ (o : JobOrFault). length (printedFor o) ≤ longestListing) (sym e) (fault-short fault at)
-      where
-        fault-short : (fault : Fault) (at : ℕ) → length (printedFor (fails fault at)) ≤ longestListing
-        fault-short fault at = unfold printedFor in rw (fault-number fault) (omega (arith, refusal-fits 19 (omega arith)))
+    short : (text : List ℕ) → cutplanOf job ≡ text → length text ≤ longestListing → length (cutplanOf job) ≤ longestListing
+    short text e h = subst (λ (printed : List ℕ). length printed ≤ longestListing) (sym e) h
+
+    go : BytesAre job → length (cutplanOf job) ≤ longestListing
+    go (nothing e) = short (planLine 0 0) (sym (empty-printed job e)) (omega (arith, plan-fits 0 0 (omega arith) (omega arith)))
+    go (some-job a e) = short _ (job-lines job a e) (answer-short job a e (endFor job a e .answer) refl)
+    go (no-job s fault at e) = short (refusalLine 19) (fault-line job s fault at e) (omega (arith, refusal-fits 19 (omega arith)))

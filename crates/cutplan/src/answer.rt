@@ -1,4 +1,5 @@
 // An answer of Plan, as the lines of its listing.
+use listing::line;
 use listing::write;
 use plan_pieces::answer;
 use plan_pieces::answer::Answer;
@@ -6,7 +7,7 @@ ghost use mathlib.Core.Path.{_≡_};
 ghost use Prim.Native.Nat.{_≤_};
 ghost use lib.ListN.{length};
 ghost use Rattle.base_terms.specs.Lists.{onto};
-ghost use Rattle.listing.specs.Listing.{refusalLine, refusalRoom};
+ghost use Rattle.listing.specs.Listing.{planLine, refusalLine, planLineRoom, refusalRoom};
 ghost use Rattle.plan_pieces.specs.Answer.{numberOf};
 ghost use Rattle.plan_pieces.specs.Output.{outputOf};
 ghost use Rattle.cutplan.specs.Lines.{longestListing, linesFor};
@@ -30,6 +31,17 @@ pub fn write_number(number: u32, out: &mut [u8]) -> Answered
         size,
         refused: number,
     }
+}
+
+// Writes the line of a plan without pieces.
+pub fn write_empty(out: &mut [u8]) -> Answered
+    requires { ⌜ planLineRoom ≤ length (now out) ⌝ }
+    ensures { λ r. ⌜ r .size ≡ length (planLine 0 0) ⌝ }
+    ensures { λ r. ⌜ r .refused ≡ 0 ⌝ }
+    ensures { λ _. ⌜ now (out .exit) ≡ onto (planLine 0 0) (now (out .entry)) ⌝ }
+{
+    let size = line::put_plan(0, 0, 0, out);
+    Answered { size, refused: 0 }
 }
 
 // Writes the lines of a plan, or that of its refusal.

@@ -53,12 +53,17 @@ fn plan_read(job: &[u8], head: Head, out: &mut [u8]) -> Answered
 }
 
 // Document 01's program `cutplan`, from bytes to bytes: writes the listing of a job to the front of `out`.
+// No bytes are an empty recording (document 02, S-2), and to the reader they are a job that is cut short: so they
+// are not handed on to it.
 pub fn list_job(job: &[u8], out: &mut [u8]) -> Answered
     requires { ⌜ longestListing ≤ length (now out) ⌝ }
     ensures { λ a. ⌜ a .size ≡ length (cutplanOf (now (job .entry))) ⌝ }
     ensures { λ a. ⌜ a .refused ≡ refusedIn (now (job .entry)) ⌝ }
     ensures { λ _. ⌜ now (out .exit) ≡ onto (cutplanOf (now (job .entry))) (now (out .entry)) ⌝ }
 {
+    if job.len() == 0 {
+        return answers::write_empty(out);
+    }
     match read::read(job) {
         Reading::Job(head) => plan_read(job, head, out),
         Reading::Refused(fault, _) => answers::write_number(answer::number(fault), out),

@@ -14,6 +14,7 @@ use Rattle.grid.specs.declared.validate.Domain.{Domain}
 use Rattle.grid.specs.declared.validate.Domain.the-variants.{Decibels, Scores}
 use Rattle.job.specs.Job.{numbersOf, listsSize, endOf, fitted, known, readOf, Within, valuesIn, flagsFor, flagsIn, levelsFor, levelsIn}
 use Rattle.job.specs.Limits.{mostBytes, mostFrames}
+use Rattle.job.specs.Recorded.{recordedAt}
 use Rattle.job.specs.declared.answer.Head.{Head}
 use Rattle.job.specs.declared.answer.Fault.{Fault}
 use Rattle.job.specs.declared.answer.Fault.the-variants.{TooLong, UnknownBit, UnknownKind, CutShort, TooManyFrames, BytesAfter}
@@ -113,6 +114,16 @@ read-within job h e =
     let a = passed (ltb mostBytes (length job)) TooLong mostBytes _ h e in
     let b = passed (leb 4096 (u16At job 0)) UnknownBit 0 _ h (a .1) in
     fitted-within job (numbersOf job (u16At job 0) .head) h (ltb-false mostBytes (length job) (a .0)) (all-known (numbersOf job (u16At job 0) .kinds) _ h (b .1))
+
+-- it is no shorter than the numbers of its recording
+pub read-long : (job : List ℕ) (h : Head) → readOf job ≡ Job h → 27 ≤ length job
+unfolding readOf fitted numbersOf recordedAt
+read-long job h e =
+    let a = passed (ltb mostBytes (length job)) TooLong mostBytes _ h e in
+    let b = passed (leb 4096 (u16At job 0)) UnknownBit 0 _ h (a .1) in
+    let g = numbersOf job (u16At job 0) .head in
+    let c = passed (ltb (length job) (g .lists)) CutShort (length job) _ h (all-known (numbersOf job (u16At job 0) .kinds) _ h (b .1)) in
+    omega (arith, ltb-false (length job) (g .lists) (c .0))
 
 -- ---- the lists of a job that was read lie in it
 

@@ -40,7 +40,8 @@ numbers-fit : (word : List ℕ) (a b : ℕ) → isU64 a → isU64 b → length (
 unfolding numbersLine joined
 numbers-fit word a b h k = simp length-append (omega (arith, number-fits a h, number-fits b k))
 
-plan-fits : (pieces cuts : ℕ) → isU64 pieces → isU64 cuts → length (planLine pieces cuts) ≤ planLineRoom
+-- the first line of a listing takes no more than `planLineRoom`
+pub plan-fits : (pieces cuts : ℕ) → isU64 pieces → isU64 cuts → length (planLine pieces cuts) ≤ planLineRoom
 unfolding planLine joined
 plan-fits pieces cuts h k = simp length-append (omega (arith, numbers-fit (textBytes "plan ") pieces cuts h k))
 

@@ -1,10 +1,11 @@
 -- The lines and the listing as the texts that they are made of: where there is room for one of them, there is room for its texts.
 use Prim.Native.Nat.{ℕ, _-_}
 use mathlib.Core.Path.{_≡_}
-use mathlib.Core.List.{List, [], _∷_}
+use mathlib.Core.List.{List, [], _∷_, append-nil}
 use lib.ListN.{length}
 use Rattle.base_code.specs.FrontLaws.{tabulate-length}
-use Rattle.listing.specs.Text.{textBytes, decimalOf}
+use Rattle.base_terms.specs.Lists.{tabulate}
+use Rattle.listing.specs.Text.{textBytes, decimalOf, joined}
 use Rattle.listing.specs.Rows.{rowAt, rowsOf}
 use Rattle.listing.specs.Listing.{flagsWord, reasonWord, numbersLine, planLine, pieceLine, cutLine, linesOf, listed, listingOf, refusalLine}
 use Rattle.listing.specs.Written.{Room, Written}
@@ -51,3 +52,8 @@ module _ (n m : ℕ) (pieces cuts : List ℕ) (counts : m ≡ n - 1) {list : Lis
       → Written (listingOf n pieces cuts) list at after next
   unfolding listingOf listed
   listing-wrote w = rw (tabulate-length (rowAt pieces) n, tabulate-length (rowAt cuts) (n - 1), ← counts) (w .all)
+
+-- the listing of a plan without pieces is its first line
+pub no-pieces : (pieces cuts : List ℕ) → listingOf 0 pieces cuts ≡ planLine 0 0
+unfolding listingOf listed linesOf joined tabulate
+no-pieces pieces cuts = append-nil (planLine 0 0)

@@ -11,9 +11,14 @@ use crate::silence_job;
 /// and 8,193 with the placement's byte.
 const LONG_FRAMES: usize = 626;
 
-/// A job cut short at each of its bytes, the empty one first.
+/// A job cut short at each of its bytes behind the first: no bytes at all are an empty recording.
 pub fn cut_short(job: &[u8]) -> Vec<Vec<u8>> {
-    (0..job.len()).map(|end| job[..end].to_vec()).collect()
+    (1..job.len()).map(|end| job[..end].to_vec()).collect()
+}
+
+/// Every job of one byte. Document 02, S-2: "One byte is still refusal 19."
+pub fn single_bytes() -> Vec<Vec<u8>> {
+    (0..=u8::MAX).map(|byte| vec![byte]).collect()
 }
 
 /// A job with each bit of the map that no field has.

@@ -1,7 +1,8 @@
 //! The jobs that every comparison and the stored sample start with.
 
 use super::damaged::{
-    cut_short, followed, long, of_frames, unknown_bits, unknown_kinds, with_all_fields,
+    cut_short, followed, long, of_frames, single_bytes, unknown_bits, unknown_kinds,
+    with_all_fields,
 };
 use super::encode::{ALL, encode};
 use super::limits::limits;
@@ -20,6 +21,7 @@ pub fn stored() -> Vec<Vec<u8>> {
     let [[fits, first], [_, second]] = [of_first_path(), of_second_path()];
     jobs.extend([fits, first, second].iter().map(short));
     let job = short(&printed());
+    jobs.extend(single_bytes());
     jobs.extend(cut_short(&job));
     jobs.extend(unknown_bits(&job));
     jobs.extend(unknown_kinds(&encode(&with_all_fields(false), 0)));
@@ -65,6 +67,7 @@ pub fn check() {
         ]
     ));
     let job = short(&printed());
+    all_damaged(&single_bytes(), Damage::CutShort);
     all_damaged(&cut_short(&job), Damage::CutShort);
     all_damaged(&unknown_bits(&job), Damage::UnknownBit);
     let with_kinds = encode(&with_all_fields(false), 0);

@@ -1,4 +1,4 @@
-//! The driver's own reading of a job, from document 01's text alone.
+//! The driver's own reading of a job, from the text of documents 01 and 02 alone.
 
 use super::{FIELDS, MOST_BYTES, MOST_FRAMES};
 use crate::case::Case;
@@ -18,6 +18,9 @@ pub enum Damage {
 
 /// The job that these bytes say, or what is wrong with them.
 pub fn read(bytes: &[u8]) -> Result<Job, Damage> {
+    if bytes.is_empty() {
+        return Ok(blank());
+    }
     if bytes.len() > MOST_BYTES {
         return Err(Damage::TooManyBytes);
     }
@@ -34,6 +37,27 @@ pub fn read(bytes: &[u8]) -> Result<Job, Damage> {
     }
     let recording = silence_job::Job { case, settings };
     Ok(Job { recording, plan })
+}
+
+/// Document 02, S-2: "A job of 0 bytes then means an empty recording". So no listing is written down
+/// for it here: the Rust plans a recording without frames, as it does any other.
+fn blank() -> Job {
+    let case = Case {
+        sample_rate: 1_000,
+        channels: 1,
+        frame_rate: 10,
+        hop: 1,
+        len: 0,
+        decibels: false,
+        values: Vec::new(),
+        flags: Vec::new(),
+        levels: Vec::new(),
+    };
+    let settings = silence_job::Settings::usual();
+    Job {
+        recording: silence_job::Job { case, settings },
+        plan: plan_job::Settings::usual(),
+    }
 }
 
 /// Bits 0 to 6.

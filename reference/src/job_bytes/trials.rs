@@ -1,5 +1,5 @@
 //! The trial cuts of document 01 that the program runs, recording R and what is printed for it, with
-//! the rates of document 02.
+//! the empty job and the rates of document 02.
 
 use std::time::Duration;
 
@@ -11,7 +11,7 @@ use super::expected;
 use crate::plan_job::{self, Job};
 use crate::silence_job;
 
-/// What document 01 says of a job.
+/// What the papers say of a job.
 pub enum Said {
     /// This is printed, whole.
     Prints(&'static str),
@@ -47,6 +47,9 @@ piece 0 400 -
 piece 400 700 -
 cut 400 400 silence
 ";
+
+/// The listing that document 02, S-2, prints for a job of 0 bytes.
+pub const EMPTY_LISTING: &str = "plan 0 0\n";
 
 const BY_TWO: &str = "plan 2 1
 piece 0 300 -
@@ -101,18 +104,19 @@ pub fn trials() -> Vec<(Vec<u8>, Said)> {
     ];
     let others = others.map(|(job, said)| (encode(&job, ALL).bytes, said));
     let first = (PRINTED.to_vec(), Said::Prints(PRINTED_LISTING));
-    [first].into_iter().chain(others).collect()
+    let empty = (Vec::new(), Said::Prints(EMPTY_LISTING));
+    [first, empty].into_iter().chain(others).collect()
 }
 
-/// Panics where the driver's own reading and the Rust give a trial another listing than document 01
-/// does, or an absence another value than the Rust's own.
+/// Panics where the driver's own reading and the Rust give a trial another listing than the papers
+/// do, or an absence another value than the Rust's own.
 pub fn check() {
     let written = encode(&printed(), ALL).bytes;
     assert_eq!(written, PRINTED, "R as printed");
     for (job, said) in trials() {
         let listing = String::from_utf8(expected(&job)).expect("a listing is plain text");
         match said {
-            Said::Prints(whole) => assert_eq!(listing, whole, "a trial cut of document 01"),
+            Said::Prints(whole) => assert_eq!(listing, whole, "a trial cut of the papers"),
             Said::Accepts => assert!(listing.starts_with("plan "), "a trial cut: {listing}"),
         }
     }

@@ -33,6 +33,7 @@ const UNREAD: [(Damage, &str); 6] = [
 /// Counts a job of these bytes, which says this where it can be read, with a listing so long.
 pub fn count(tally: &mut Tally, bytes: &[u8], job: Option<&Job>, outcome: &Outcome, lent: usize) {
     tally.occurs("an empty job", bytes.is_empty());
+    tally.occurs("a job of one byte", bytes.len() == 1);
     tally.occurs("too short a listing", lent < LISTING);
     tally.occurs("a NaN", job.is_some_and(has_nan));
     for (number, what) in REFUSED {
@@ -92,7 +93,8 @@ fn inputs(tally: &mut Tally, bytes: &[u8], accepted: Option<&Job>) {
         "511 frames",
         is(&|job| job.recording.case.values.len() == 511),
     );
-    let map = |so: &dyn Fn(&[u8]) -> bool| accepted.is_some() && so(&bytes[..2]);
+    // The empty job has no map.
+    let map = |so: &dyn Fn(&[u8]) -> bool| accepted.is_some() && bytes.get(..2).is_some_and(so);
     tally.occurs("every field", map(&|map| map == [0xff, 0x0f]));
     tally.occurs("no field", map(&|map| map == [0, 0]));
 }
