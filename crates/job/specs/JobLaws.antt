@@ -27,20 +27,24 @@ use Rattle.job.specs.declared.read.Numbers.{Numbers}
 -- ---- the ends of the reader
 
 module _ (job : List ℕ) where
+  -- more bytes than a job can have
   pub too-long : mostBytes < length job → Refused TooLong mostBytes ≡ readOf job
   unfolding readOf
   too-long h = rw (lt-ltb mostBytes (length job) h)
 
   module _ (short : length job ≤ mostBytes) (map : ℕ) (is-map : map ≡ u16At job 0) where
+    -- a bit of the map that no field has
     pub unknown-bit : 4096 ≤ map → Refused UnknownBit 0 ≡ readOf job
     unfolding readOf
     unknown-bit h = rw (le-ltb mostBytes (length job) short, ← is-map, le-leb 4096 map h)
 
     module _ (few-bits : map < 4096) (numbers : Numbers) (is-numbers : numbers ≡ numbersOf job map) where
+      -- a kind that there is not
       pub unknown-kind : (at : ℕ) → numbers .kinds ≡ Unknown at → Refused UnknownKind at ≡ readOf job
       unfolding readOf known
       unknown-kind at e = rw (le-ltb mostBytes (length job) short, ← is-map, lt-leb 4096 map few-bits, ← is-numbers, e)
 
+      -- where all kinds are known, the tests of its length decide
       pub known-kinds : numbers .kinds ≡ Known → (r : Reading) → r ≡ fitted (length job) (numbers .head) → r ≡ readOf job
       unfolding readOf known
       known-kinds e r f = f ∙ rw (le-ltb mostBytes (length job) short, ← is-map, lt-leb 4096 map few-bits, ← is-numbers, e)
@@ -48,25 +52,30 @@ module _ (job : List ℕ) where
 -- ---- the ends of the tests of its length
 
 module _ (len : ℕ) (h : Head) where
+  -- it ends before its lists begin
   pub cut-in-numbers : len < h .lists → Refused CutShort len ≡ fitted len h
   unfolding fitted
   cut-in-numbers l = rw (lt-ltb len (h .lists) l)
 
   module _ (numbers : h .lists ≤ len) where
+    -- more frames than a job can have
     pub too-many-frames : mostFrames < h .frames → Refused TooManyFrames (h .lists - 4) ≡ fitted len h
     unfolding fitted
     too-many-frames l = rw (le-ltb len (h .lists) numbers, lt-ltb mostFrames (h .frames) l)
 
     module _ (few : h .frames ≤ mostFrames) (end : ℕ) (is-end : end ≡ endOf h) where
+      -- it ends before its lists do
       pub cut-in-lists : len < end → Refused CutShort len ≡ fitted len h
       unfolding fitted
       cut-in-lists l = rw (le-ltb len (h .lists) numbers, le-ltb mostFrames (h .frames) few, ← is-end, lt-ltb len end l)
 
       module _ (lists : end ≤ len) where
+        -- it goes on behind its lists
         pub bytes-after : end < len → Refused BytesAfter end ≡ fitted len h
         unfolding fitted
         bytes-after l = rw (le-ltb len (h .lists) numbers, le-ltb mostFrames (h .frames) few, ← is-end, le-ltb len end lists, lt-ltb end len l)
 
+        -- it ends where its lists do
         pub all-read : len ≤ end → Job h ≡ fitted len h
         unfolding fitted
         all-read l = rw (le-ltb len (h .lists) numbers, le-ltb mostFrames (h .frames) few, ← is-end, le-ltb len end lists, le-ltb end len l)
@@ -128,6 +137,7 @@ read-long job h e =
 -- ---- the lists of a job that was read lie in it
 
 module _ {job : List ℕ} {h : Head} (w : Within job h) where
+  -- the values
   pub values-inside : h .lists + 4 * h .frames ≤ length job
   values-inside = go (h .recording .domain) (h .lists) (h .frames) (length job) (w .to-the-end)
     where
@@ -140,19 +150,23 @@ module _ {job : List ℕ} {h : Head} (w : Within job h) where
     decibels-end : h .lists + 13 * h .frames ≡ length job
     decibels-end = subst (λ (d : Domain). h .lists + listsSize d (h .frames) ≡ length job) decibels (w .to-the-end)
 
+    -- the flags of decibels, behind the values
     pub flags-inside : h .lists + 4 * h .frames + h .frames ≤ length job
     flags-inside = omega (arith, decibels-end)
 
+    -- the levels of decibels, behind the flags
     pub levels-inside : h .lists + 5 * h .frames + 8 * h .frames ≤ length job
     levels-inside = omega (arith, decibels-end)
 
 -- ---- how long a job's lists are
 
 module _ (job : List ℕ) (h : Head) where
+  -- a value for each frame
   pub values-length : length (valuesIn job h) ≡ h .frames
   unfolding valuesIn
   values-length = tabulate-length _ (h .frames)
 
+  -- a flag for each frame
   pub flags-length : length (flagsIn job h) ≡ h .frames
   unfolding flagsIn
   flags-length = go (h .recording .domain) (h .lists) (h .frames)
@@ -161,6 +175,7 @@ module _ (job : List ℕ) (h : Head) where
       go Decibels at n = tabulate-length _ n
       go Scores at n = length-replicate n 0
 
+  -- a level for each frame of decibels, and none of scores
   pub levels-length : length (levelsIn job h) ≡ levelCount (h .recording .domain) (h .frames)
   unfolding levelsIn
   levels-length = go (h .recording .domain) (h .lists) (h .frames)

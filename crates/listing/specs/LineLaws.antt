@@ -14,25 +14,30 @@ use Rattle.listing.specs.WrittenLaws.{Rooms, Wrote}
 -- ---- lines: where there is room for one, there is room for the texts that it is made of
 
 module _ {list : List ℕ} {at : ℕ} where
+  -- the word and the two numbers that a line begins with
   pub numbers-rooms : (word : List ℕ) (a b : ℕ) → Room (length (numbersLine word a b)) list at
       → Rooms (word ∷ decimalOf a ∷ textBytes " " ∷ decimalOf b ∷ []) list at
   unfolding numbersLine
   numbers-rooms word a b r = record { all = r }
 
+  -- the first line
   pub plan-rooms : (pieces cuts : ℕ) → Room (length (planLine pieces cuts)) list at → Rooms (numbersLine (textBytes "plan ") pieces cuts ∷ textBytes "\n" ∷ []) list at
   unfolding planLine
   plan-rooms pieces cuts r = record { all = r }
 
+  -- the line of a piece
   pub piece-rooms : (start end flags : ℕ) → Room (length (pieceLine start end flags)) list at
       → Rooms (numbersLine (textBytes "piece ") start end ∷ textBytes " " ∷ flagsWord flags ∷ textBytes "\n" ∷ []) list at
   unfolding pieceLine
   piece-rooms start end flags r = record { all = r }
 
+  -- the line of a cut
   pub cut-rooms : (end start reason : ℕ) → Room (length (cutLine end start reason)) list at
       → Rooms (numbersLine (textBytes "cut ") end start ∷ textBytes " " ∷ reasonWord reason ∷ textBytes "\n" ∷ []) list at
   unfolding cutLine
   cut-rooms end start reason r = record { all = r }
 
+  -- the line of a refusal
   pub refusal-rooms : (number : ℕ) → Room (length (refusalLine number)) list at → Rooms (textBytes "refused " ∷ decimalOf number ∷ textBytes "\n" ∷ []) list at
   unfolding refusalLine
   refusal-rooms number r = record { all = r }
