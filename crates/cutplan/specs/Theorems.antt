@@ -1,6 +1,7 @@
 -- What is claimed of `cutplan`, for every input, with no hypothesis but what the reader makes of it.
 --   bytes-are         no bytes, a job, or others that are no job: for each of these one of the next holds
---   cutplan-empty     what is printed for no bytes is `plan 0 0`; cutplan-no-frames: as for every recording without frames that is not refused
+--   cutplan-empty     what is printed for no bytes is `plan 0 0`; cutplan-no-frames: as for every recording without frames that is not refused,
+--                     and cutplan-empty-span: for every one whose span is empty
 --   never-short       of a job that is read, Plan never says 12 or 13: the lists that it is lent are long enough; cutplan-never-short: no input has such a number
 --   cutplan-parsed    what is printed for an accepted job, parsed, is the plan's pieces and cuts
 --   cutplan-refused   what is printed for one that Plan refuses, parsed, is its number
@@ -29,6 +30,7 @@ use Rattle.grid.specs.declared.validate.Domain.the-variants.{Decibels, Scores}
 use Rattle.silence_list.specs.Silences.{silencesIn}
 use Rattle.plan_tests.specs.Fitting.{Fitting}
 use Rattle.candidate_finder.specs.PrepareLaws.{no-frames}
+use Rattle.candidate_finder.specs.SpanIn.{emptyIn}
 use Rattle.plan_pieces.specs.Answer.{numberOf}
 use Rattle.plan_pieces.specs.AnswerLaws.{answer-most}
 use Rattle.plan_pieces.specs.declared.answer.Answer.the-variants.{Planned}
@@ -133,17 +135,21 @@ cutplan-empty =
     let printed : cutplanOf [] ≡ listingOf 0 [] [] = sym (empty-printed [] refl) ∙ sym (no-pieces [] []) in
     (printed ∙ empty-plan, ap parsedOf printed ∙ parsed-listing 0 [] [] (λ i l. absurd (omega (arith, l))) (λ i l. absurd (omega (arith, l))), sym (empty-refused [] refl))
 
--- the same is printed for every recording without frames that is not refused
-pub cutplan-no-frames : (a : Asked) → length (a .values) ≡ 0
-    → refusedOfPlan (a .recording) (a .segment) (a .settings) (a .values) (a .flags) (a .levels) ≡ 0
-    → linesOfPlan (a .recording) (a .segment) (a .settings) (a .values) (a .flags) (a .levels) ≡ cutplanOf []
-unfolding handedWithin
-cutplan-no-frames a none accepted =
-    let end = endWithin (a .recording) (a .segment) (a .settings) (a .values) (a .flags) (a .levels) lentOutput in
-    let made = plan-ended (a .recording) (a .segment) (a .settings) (a .values) (a .flags) (a .levels) lentOutput lentWork lentParents .number .0 accepted in
-    let is-empty = no-frames (a .settings .gap) (length (a .values)) (silencesIn (a .recording) (a .segment) (a .values) (a .flags)) none in
-    let no-piece = plan-made (a .recording) (a .segment) (a .settings) (a .values) (a .flags) (a .levels) lentOutput lentWork lentParents (made .0) (made .1) .empty is-empty .0 in
-    sym (planned-lines (end .answer) 0 (end .out) (made .1 ∙ ap Planned no-piece)) ∙ no-pieces (end .out .pieces) (end .out .cuts) ∙ empty-printed [] refl
+module _ (a : Asked) (accepted : refusedOfPlan (a .recording) (a .segment) (a .settings) (a .values) (a .flags) (a .levels) ≡ 0) where
+  -- the same is printed for every recording whose span is empty, unless it is refused
+  pub cutplan-empty-span : emptyIn (a .recording) (a .segment) (a .settings) (a .values) (a .flags) ≡ true
+      → linesOfPlan (a .recording) (a .segment) (a .settings) (a .values) (a .flags) (a .levels) ≡ cutplanOf []
+  unfolding handedWithin
+  cutplan-empty-span is-empty =
+      let end = endWithin (a .recording) (a .segment) (a .settings) (a .values) (a .flags) (a .levels) lentOutput in
+      let made = plan-ended (a .recording) (a .segment) (a .settings) (a .values) (a .flags) (a .levels) lentOutput lentWork lentParents .number .0 accepted in
+      let no-piece = plan-made (a .recording) (a .segment) (a .settings) (a .values) (a .flags) (a .levels) lentOutput lentWork lentParents (made .0) (made .1) .empty is-empty .0 in
+      sym (planned-lines (end .answer) 0 (end .out) (made .1 ∙ ap Planned no-piece)) ∙ no-pieces (end .out .pieces) (end .out .cuts) ∙ empty-printed [] refl
+
+  -- so it is for every recording without frames
+  pub cutplan-no-frames : length (a .values) ≡ 0 → linesOfPlan (a .recording) (a .segment) (a .settings) (a .values) (a .flags) (a .levels) ≡ cutplanOf []
+  cutplan-no-frames none =
+      cutplan-empty-span (no-frames (a .settings .gap) (length (a .values)) (silencesIn (a .recording) (a .segment) (a .values) (a .flags)) none)
 
 -- ---- the answer
 
