@@ -215,7 +215,8 @@ enum buchawzer_reason {
     BUCHAWZER_REASON_FORCED = 2
 };
 
-/* A piece's flags: below the minimum, above the maximum; never both. */
+/* A piece's flags, never both. Short: below the minimum, but never the last of several pieces, which is what was left
+ * over; a piece that is alone in its plan can be short. Long: above the maximum. */
 enum buchawzer_flag {
     BUCHAWZER_FLAG_SHORT = 1,
     BUCHAWZER_FLAG_LONG = 2
@@ -242,7 +243,7 @@ enum buchawzer_flag {
 
 /* ---- records */
 
-/* A piece from sample `start` up to `end`, which is not in it. */
+/* A piece from sample `start` up to `end`, which is not in it, and its flags: those of enum buchawzer_flag. */
 struct buchawzer_piece {
     uint64_t start;
     uint64_t end;

@@ -125,7 +125,8 @@ pub const REASON_QUIET: u8 = 1;
 /// A cut is at neither. It says nothing of the lengths of the pieces.
 pub const REASON_FORCED: u8 = 2;
 
-/// A piece is below the minimum. No piece has both flags.
+/// A piece is below the minimum, and not the last of several, which is what was left over; one that is alone in its plan
+/// can be short. No piece has both flags.
 pub const FLAG_SHORT: u64 = 1;
 /// A piece is above the maximum.
 pub const FLAG_LONG: u64 = 2;
@@ -166,7 +167,7 @@ pub struct Piece {
     pub start: u64,
     /// The sample after its last.
     pub end: u64,
-    /// Whether it is below the minimum.
+    /// Whether it is below the minimum, and not the last of several pieces.
     pub too_short: bool,
     /// Whether it is above the maximum.
     pub too_long: bool,
@@ -472,7 +473,7 @@ pub struct Settings {
     pub pre: u64,
     /// Silence that is kept after sound.
     pub tail: u64,
-    /// A shorter piece costs more, and is flagged.
+    /// A shorter piece costs more, and is flagged if it is not the last of several.
     pub min: u64,
     /// The wanted length of a piece.
     pub target: u64,

@@ -15,7 +15,7 @@ use Rattle.silence_list.specs.declared.config.SegmentConfig.{SegmentConfig}
 use Rattle.plan_settings.specs.declared.config.PlanConfig.{PlanConfig}
 use Rattle.plan_tests.specs.Fitting.{Fitting}
 use Rattle.plan_lengths.specs.PlanLengths.{minimumIn, maximumIn}
-use Rattle.plan_pieces.specs.Flags.{isShorter, isLonger}
+use Rattle.plan_pieces.specs.Flags.{isTail, isShort, isLonger}
 use Rattle.plan_pieces.specs.NumbersLaws.{Numbers}
 use Rattle.plan_pieces.specs.Output.{Output}
 use Rattle.plan_records.specs.Records.{recordsEndOf}
@@ -48,12 +48,12 @@ module _ (r : Recording) (segment : SegmentConfig) (settings : PlanConfig) (valu
     of-span : 0 < k → MadeOfSpan r segment settings values flags levels k after
     of-span pieces = made-of-span r segment settings values flags levels k before after made fitting pieces
 
-    -- of the first 3 k numbers, record i is piece i with its flags
+    -- of the first 3 k numbers, record i is piece i with its flags: too short where it is below the minimum and not the last of several
     pub records-made : (records : List Piece) → k ≤ length records → (i : ℕ) (z : Piece) → i < k → getD (recordsEndOf pieceOf (take (3 * k) (after .pieces)) records .records) i z
         ≡ record {
           start = pieceStart after i;
           end = pieceEnd after i;
-          «too_short» = isShorter (minimumIn (gridOf r (length values)) settings) (lengthAt after i);
+          «too_short» = isShort (isTail k i) (minimumIn (gridOf r (length values)) settings) (lengthAt after i);
           «too_long» = isLonger (maximumIn (gridOf r (length values)) settings) (lengthAt after i);
         }
     records-made records room i z h =

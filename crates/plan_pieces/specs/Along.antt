@@ -1,34 +1,35 @@
--- Document 01's pieces (start, end, flags) and cuts (previous end, next start, reason) along a path, three numbers for each: what the Rust's `to_plan` makes.
+-- Document 01's pieces (start, end, flags) and cuts (previous end, next start, reason) along a path, three numbers for each: what the Rust's `to_plan` makes, but for the tail's flag.
 -- left and right have for each candidate the sample where a piece ends at it and where the next starts, as the path search takes them.
 -- reasons has the number of its reason.
-use Prim.Native.Nat.{ℕ, suc, _+_}
+use Prim.Native.Nat.{ℕ, suc, _+_, _-_}
+use mathlib.Core.Bool.{Bool}
 use mathlib.Core.List.{List, [], _∷_, _++_}
 use lib.Ieee.{Float}
-use lib.ListN.{getD, set}
+use lib.ListN.{length, getD, set}
 use Rattle.path_pieces.specs.Pieces.{pieceLength}
-use Rattle.plan_pieces.specs.Flags.{flagsOf}
+use Rattle.plan_pieces.specs.Flags.{isTail, flagsOf}
 use Rattle.plan_pieces.specs.declared.pieces.PieceEnds.{PieceEnds}
 
 module _ (left right : List ℕ) where
   -- ---- pieces
 
-  -- the piece from candidate i to candidate j; least and most are the minimum and the maximum, in samples
-  abbrev pub pieceNumbers : Float → ℕ → ℕ → ℕ → List ℕ
-  pieceNumbers least most i j = getD right i 0 ∷ (getD left j 0 ∷ (flagsOf least most (pieceLength left right i j) ∷ []))
+  -- the piece from candidate i to candidate j, the tail or not; least and most are the minimum and the maximum, in samples
+  abbrev pub pieceNumbers : Float → ℕ → Bool → ℕ → ℕ → List ℕ
+  pieceNumbers least most tail i j = getD right i 0 ∷ (getD left j 0 ∷ (flagsOf tail least most (pieceLength left right i j) ∷ []))
 
   -- where piece i of a path lies, as the code holds it
   abbrev pub pieceAt : List ℕ → ℕ → PieceEnds
   pieceAt path i = record { start = getD right (getD path i 0) 0; end = getD left (getD path (suc i) 0) 0 }
 
-  -- from candidate i on
-  unfoldable pub pieceNumbersFrom : Float → ℕ → ℕ → List ℕ → List ℕ
-  pieceNumbersFrom least most i [] = []
-  pieceNumbersFrom least most i (j ∷ rest) = pieceNumbers least most i j ++ pieceNumbersFrom least most j rest
+  -- piece n of k and those after it, one from each candidate of the rest of a path to the next
+  unfoldable pub pieceNumbersFrom : Float → ℕ → ℕ → ℕ → List ℕ → List ℕ
+  pieceNumbersFrom least most k n [] = []
+  pieceNumbersFrom least most k n (i ∷ []) = []
+  pieceNumbersFrom least most k n (i ∷ (j ∷ rest)) = pieceNumbers least most (isTail k n) i j ++ pieceNumbersFrom least most k (suc n) (j ∷ rest)
 
-  -- a piece from each candidate of a path to the next
+  -- all pieces of a path, one fewer than candidates
   unfoldable pub piecesAlongNumbers : Float → ℕ → List ℕ → List ℕ
-  piecesAlongNumbers least most [] = []
-  piecesAlongNumbers least most (i ∷ rest) = pieceNumbersFrom least most i rest
+  piecesAlongNumbers least most path = pieceNumbersFrom least most (length path - 1) 0 path
 
   -- ---- cuts
 

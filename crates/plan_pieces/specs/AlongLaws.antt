@@ -1,5 +1,6 @@
 -- Writing three numbers for each step of a path: what is written so far, and what the rest of the path still gives, make up the whole.
 use mathlib.Core.Path.{_≡_, refl, sym, ap, subst, _∙_}
+use mathlib.Core.Bool.{Bool}
 use mathlib.Core.List.{List, [], _∷_, _++_, append-assoc, append-nil}
 use Prim.Native.Nat.{ℕ, zero, suc, _+_, _-_, _*_, _≤_, _<_}
 use native.Mathlib.Numerals.{add-one}
@@ -11,26 +12,26 @@ use Rattle.base_terms.specs.Limits.{maxLen}
 use Rattle.base_terms.specs.Lists.{onto}
 use Rattle.base_code.specs.FrontLaws.{onto-nil, onto-next}
 use Rattle.path_pieces.specs.Pieces.{pieceLength}
-use Rattle.plan_pieces.specs.Flags.{flagsOf}
-use Rattle.plan_pieces.specs.Along.{pieceAt, pieceNumbers, pieceNumbersFrom, piecesAlongNumbers, cutNumbers, reasonsIn, cutNumbersFrom, cutsAlongNumbers, putThree}
+use Rattle.plan_pieces.specs.Flags.{isTail, flagsOf}
+use Rattle.plan_pieces.specs.Along.{pieceAt, pieceNumbers, pieceNumbersFrom, cutNumbers, reasonsIn, cutNumbersFrom, cutsAlongNumbers, putThree}
 use Rattle.plan_pieces.specs.Drawn.{Drawn}
 use Rattle.plan_pieces.specs.declared.pieces.PieceEnds.{PieceEnds}
 
 -- ---- steps of a path
 
 module _ (left right : List ℕ) where
-  -- from step i on, the pieces are the one from there to the next candidate, and those from step i + 1 on
-  pub pieces-step : (least : Float) (most : ℕ) (path : List ℕ) (i : ℕ) → suc i < length path → piecesAlongNumbers left right least most (drop i path)
-      ≡ pieceNumbers left right least most (getD path i 0) (getD path (suc i) 0) ++ piecesAlongNumbers left right least most (drop (suc i) path)
-  unfolding piecesAlongNumbers pieceNumbersFrom
-  pieces-step least most path i h = rw (drop-cons path i 0 (omega (arith, h)), drop-cons path (suc i) 0 h)
+  -- from piece i on, the pieces are the one from there to the next candidate, and those from piece i + 1 on
+  pub pieces-step : (least : Float) (most k : ℕ) (path : List ℕ) (i : ℕ) → suc i < length path → pieceNumbersFrom left right least most k i (drop i path)
+      ≡ pieceNumbers left right least most (isTail k i) (getD path i 0) (getD path (suc i) 0) ++ pieceNumbersFrom left right least most k (suc i) (drop (suc i) path)
+  unfolding pieceNumbersFrom
+  pieces-step least most k path i h = rw (drop-cons path i 0 (omega (arith, h)), drop-cons path (suc i) 0 h)
 
   -- a path of one candidate, or none, has no piece
-  pub pieces-none : (least : Float) (most : ℕ) (path : List ℕ) → length path ≤ 1 → piecesAlongNumbers left right least most path ≡ []
-  unfolding piecesAlongNumbers pieceNumbersFrom
-  pieces-none least most [] h = refl
-  pieces-none least most (i ∷ []) h = refl
-  pieces-none least most (i ∷ (j ∷ rest)) h = absurd (omega arith)
+  pub pieces-none : (least : Float) (most k n : ℕ) (path : List ℕ) → length path ≤ 1 → pieceNumbersFrom left right least most k n path ≡ []
+  unfolding pieceNumbersFrom
+  pieces-none least most k n [] h = refl
+  pieces-none least most k n (i ∷ []) h = refl
+  pieces-none least most k n (i ∷ (j ∷ rest)) h = absurd (omega arith)
 
   -- from step i on, the cuts are the one at the candidate after it, and those from step i + 1 on
   pub cuts-step : (reasons path : List ℕ) (i : ℕ) → suc (suc i) < length path
@@ -59,14 +60,16 @@ module _ (left right path : List ℕ) (d : Drawn left right path) (i : ℕ) (h :
   piece-small = subst (λ (q : PieceEnds). q .end - q .start ≤ maxLen) (sym lies) (omega (arith, d .bounded (suc i) h))
 
   -- with its flags it is what the path gives next
-  pub piece-next : (least : Float) (most flags : ℕ) → flags ≡ flagsOf least most (p .end - p .start)
-      → piecesAlongNumbers left right least most (drop i path) ≡ (p .start ∷ (p .end ∷ (flags ∷ []))) ++ piecesAlongNumbers left right least most (drop (suc i) path)
+  pub piece-next : (least : Float) (most k : ℕ) (tail : Bool) (flags : ℕ) → tail ≡ isTail k i → flags ≡ flagsOf tail least most (p .end - p .start)
+      → pieceNumbersFrom left right least most k i (drop i path)
+      ≡ (p .start ∷ (p .end ∷ (flags ∷ []))) ++ pieceNumbersFrom left right least most k (suc i) (drop (suc i) path)
   unfolding pieceLength
-  piece-next least most flags e =
-      pieces-step left right least most path i h
-      ∙ ap (λ (ns : List ℕ). ns ++ piecesAlongNumbers left right least most (drop (suc i) path))
+  piece-next least most k tail flags t e =
+      pieces-step left right least most k path i h
+      ∙ ap (λ (ns : List ℕ). ns ++ pieceNumbersFrom left right least most k (suc i) (drop (suc i) path))
       (sym (ap (λ (f : ℕ). p .start ∷ (p .end ∷ (f ∷ []))) e
-      ∙ ap (λ (q : PieceEnds). q .start ∷ (q .end ∷ (flagsOf least most (q .end - q .start) ∷ []))) lies))
+      ∙ ap (λ (b : Bool). p .start ∷ (p .end ∷ (flagsOf b least most (p .end - p .start) ∷ []))) t
+      ∙ ap (λ (q : PieceEnds). q .start ∷ (q .end ∷ (flagsOf (isTail k i) least most (q .end - q .start) ∷ []))) lies))
 
 -- ---- a cut as the code reads it
 
@@ -113,24 +116,24 @@ put-three p xs at a b c e h =
     two : length ((p ++ (a ∷ [])) ++ (b ∷ [])) ≡ at + 2
     two = simp length-append (omega (arith, e))
 
--- the numbers of the first i steps are written; `all` gives those of a path
-pub record Writing (all : List ℕ → List ℕ) (path out₀ out : List ℕ) (i : ℕ) : Type 0 where
-  pub upto : i ≤ length path
+-- the numbers of the first i of some steps are written; `from` gives those of a step and all after it
+pub record Writing (from : ℕ → List ℕ) (steps : ℕ) (out₀ out : List ℕ) (i : ℕ) : Type 0 where
+  pub upto : i ≤ steps
   pub written : List ℕ
   pub size : length written ≡ 3 * i
   pub same : length out ≡ length out₀
   pub is : out ≡ onto written out₀
-  pub rest : all path ≡ written ++ all (drop i path)
+  pub rest : from 0 ≡ written ++ from i
 
-module _ (all : List ℕ → List ℕ) (path out₀ : List ℕ) where
+module _ (from : ℕ → List ℕ) (steps : ℕ) (out₀ : List ℕ) where
   -- before the first step nothing is written
-  pub writing-start : Writing all path out₀ out₀ 0
+  pub writing-start : Writing from steps out₀ out₀ 0
   writing-start = record { upto = omega arith; written = []; size = refl; same = refl; is = sym (onto-nil out₀); rest = refl }
 
-  module _ (out : List ℕ) (i : ℕ) (w : Writing all path out₀ out i) where
-    -- one step more, by three numbers that are those of the path
-    pub writing-next : i < length path → (a b c : ℕ) (out′ : List ℕ) → all (drop i path) ≡ (a ∷ (b ∷ (c ∷ []))) ++ all (drop (suc i) path) → 3 * i + 3 ≤ length out₀
-        → out′ ≡ putThree (3 * i) a b c out → Writing all path out₀ out′ (i + 1)
+  module _ (out : List ℕ) (i : ℕ) (w : Writing from steps out₀ out i) where
+    -- one step more, by three numbers that are those of the step
+    pub writing-next : i < steps → (a b c : ℕ) (out′ : List ℕ) → from i ≡ (a ∷ (b ∷ (c ∷ []))) ++ from (suc i) → 3 * i + 3 ≤ length out₀
+        → out′ ≡ putThree (3 * i) a b c out → Writing from steps out₀ out′ (i + 1)
     writing-next more a b c out′ step h e =
         record {
           upto = omega (arith, more);
@@ -138,11 +141,10 @@ module _ (all : List ℕ → List ℕ) (path out₀ : List ℕ) where
           size = simp length-append (omega (arith, w .size));
           same = ap length e ∙ put-length (3 * i) a b c out ∙ w .same;
           is = e ∙ ap (putThree (3 * i) a b c) (w .is) ∙ put-three (w .written) out₀ (3 * i) a b c (w .size) h;
-          rest = rw add-one
-              (w .rest ∙ ap (λ (t : List ℕ). w .written ++ t) step ∙ sym (append-assoc (w .written) (a ∷ (b ∷ (c ∷ []))) (all (drop (suc i) path))));
+          rest = rw add-one (w .rest ∙ ap (λ (t : List ℕ). w .written ++ t) step ∙ sym (append-assoc (w .written) (a ∷ (b ∷ (c ∷ []))) (from (suc i))));
         }
 
-    -- where the path has no more of them, all are written
-    pub writing-done : all (drop i path) ≡ [] → out ≡ onto (all path) out₀
+    -- where the step gives nothing more, all are written
+    pub writing-done : from i ≡ [] → out ≡ onto (from 0) out₀
     writing-done e =
         w .is ∙ ap (λ (p : List ℕ). onto p out₀) (sym (w .rest ∙ ap (λ (t : List ℕ). w .written ++ t) e ∙ append-nil (w .written)))

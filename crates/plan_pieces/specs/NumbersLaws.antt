@@ -6,7 +6,7 @@ use native.Mathlib.Omega.{arith}
 use lib.Ieee.{Float}
 use lib.ListN.{length, getD}
 use Rattle.path_pieces.specs.Pieces.{pieceLength}
-use Rattle.plan_pieces.specs.Flags.{flagsOf}
+use Rattle.plan_pieces.specs.Flags.{isTail, flagsOf}
 use Rattle.plan_pieces.specs.Along.{pieceNumbersFrom, piecesAlongNumbers, cutNumbersFrom, cutsAlongNumbers}
 
 -- the three numbers of piece or cut i
@@ -30,27 +30,39 @@ numbers-on x y z ns i a b c n =
 module _ (left right : List ℕ) where
   -- ---- pieces
 
-  from-length : (least : Float) (most i : ℕ) (path : List ℕ) → length (pieceNumbersFrom left right least most i path) ≡ 3 * length path
+  from-length : (least : Float) (most k n : ℕ) (path : List ℕ) → length (pieceNumbersFrom left right least most k n path) ≡ 3 * (length path - 1)
   unfolding pieceNumbersFrom
-  from-length least most i [] = refl
-  from-length least most i (j ∷ rest) = omega (arith, from-length least most j rest)
+  from-length least most k n [] = refl
+  from-length least most k n (i ∷ []) = refl
+  from-length least most k n (i ∷ (j ∷ rest)) = omega (arith, from-length least most k (suc n) (j ∷ rest))
 
   -- a path has one piece fewer than candidates
   pub pieces-length : (least : Float) (most : ℕ) (path : List ℕ) → length (piecesAlongNumbers left right least most path) ≡ 3 * (length path - 1)
   unfolding piecesAlongNumbers
-  pieces-length least most [] = refl
-  pieces-length least most (i ∷ rest) = omega (arith, from-length least most i rest)
+  pieces-length least most path = from-length least most (length path - 1) 0 path
 
-  -- piece i starts at the right end of candidate i of the path, ends at the left end of the next, and has the flags of its length
+  -- piece i of those from n on is piece m = n + i of all
+  numbers-from : (least : Float) (most k n : ℕ) (path : List ℕ) (i m : ℕ) → m ≡ n + i → suc i < length path
+      → Numbers (pieceNumbersFrom left right least most k n path) i
+      (getD right (getD path i 0) 0) (getD left (getD path (suc i) 0) 0)
+      (flagsOf (isTail k m) least most (pieceLength left right (getD path i 0) (getD path (suc i) 0)))
+  unfolding pieceNumbersFrom
+  numbers-from least most k n [] i m e h = absurd (omega arith)
+  numbers-from least most k n (p ∷ []) i m e h = absurd (omega arith)
+  numbers-from least most k n (p ∷ (q ∷ rest)) zero m e h =
+      let same : n ≡ m = omega (arith, e) in
+      record { one = refl; two = refl; three = ap (λ (x : ℕ). flagsOf (isTail k x) least most (pieceLength left right p q)) same }
+  numbers-from least most k n (p ∷ (q ∷ rest)) (suc i) m e h =
+      numbers-on _ _ _ (pieceNumbersFrom left right least most k (suc n) (q ∷ rest)) i _ _ _
+      (numbers-from least most k (suc n) (q ∷ rest) i m (omega (arith, e)) (omega arith))
+
+  -- piece i starts at the right end of candidate i of the path, ends at the left end of the next, and has the flags of its length and of its place
   pub piece-numbers : (least : Float) (most : ℕ) (path : List ℕ) (i : ℕ) → suc i < length path
       → Numbers (piecesAlongNumbers left right least most path) i
-      (getD right (getD path i 0) 0) (getD left (getD path (suc i) 0) 0) (flagsOf least most (pieceLength left right (getD path i 0) (getD path (suc i) 0)))
-  unfolding piecesAlongNumbers pieceNumbersFrom
-  piece-numbers least most [] i h = absurd (omega arith)
-  piece-numbers least most (p ∷ []) i h = absurd (omega arith)
-  piece-numbers least most (p ∷ (q ∷ rest)) zero h = record { one = refl; two = refl; three = refl }
-  piece-numbers least most (p ∷ (q ∷ rest)) (suc i) h =
-      numbers-on _ _ _ (piecesAlongNumbers left right least most (q ∷ rest)) i _ _ _ (piece-numbers least most (q ∷ rest) i (omega arith))
+      (getD right (getD path i 0) 0) (getD left (getD path (suc i) 0) 0)
+      (flagsOf (isTail (length path - 1) i) least most (pieceLength left right (getD path i 0) (getD path (suc i) 0)))
+  unfolding piecesAlongNumbers
+  piece-numbers least most path i h = numbers-from least most (length path - 1) 0 path i i (omega arith) h
 
   -- ---- cuts
 

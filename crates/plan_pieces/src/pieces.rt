@@ -48,7 +48,8 @@ pub fn write_pieces(left: &[u64], right: &[u64], path: &[u32], min: f64, max: u6
     let mut i: usize = 0;
     while i + 1 < path.len() {
         let p = piece_at(left, right, path, i);
-        let flags = flags::flags_of(p.end - p.start, min, max);
+        let tail = flags::is_tail(i, path.len() - 1);
+        let flags = flags::flags_of(p.end - p.start, tail, min, max);
         put_three(3 * i, p.start, p.end, flags, &mut *out);
         i += 1;
     }

@@ -1,6 +1,6 @@
 -- A piece's record has all that its numbers say.
 use mathlib.Core.Path.{_≡_, refl, ap}
-use mathlib.Core.Bool.{cond}
+use mathlib.Core.Bool.{Bool, cond}
 use mathlib.Core.List.{List, [], _∷_}
 use Prim.Native.Nat.{ℕ, zero, suc, _+_, _≤_}
 use native.Mathlib.Omega.{arith}
@@ -12,9 +12,10 @@ use Rattle.plan_pieces.specs.FlagsLaws.{short-stands, long-stands}
 use Rattle.plan_records.specs.Pieces.{pieceOf, numbersOfPiece, pieceRecord}
 
 -- of the flags that a plan sets, each stands in the record exactly where the plan sets it
-pub piece-flagged : (left right : List ℕ) (least : Float) (most i j : ℕ)
-    → pieceOf (getD right i 0) (getD left j 0) (flagsOf least most (pieceLength left right i j)) ≡ pieceRecord left right least most i j
-piece-flagged left right least most i j = rw (short-stands least most (pieceLength left right i j), long-stands least most (pieceLength left right i j))
+pub piece-flagged : (left right : List ℕ) (least : Float) (most : ℕ) (tail : Bool) (i j : ℕ)
+    → pieceOf (getD right i 0) (getD left j 0) (flagsOf tail least most (pieceLength left right i j)) ≡ pieceRecord left right least most tail i j
+piece-flagged left right least most tail i j =
+    rw (short-stands tail least most (pieceLength left right i j), long-stands tail least most (pieceLength left right i j))
 
 flags-back : (flags : ℕ) → flags ≤ 3 → cond (hasShort flags) 1 0 + cond (hasLong flags) 2 0 ≡ flags
 flags-back zero h = refl

@@ -11,6 +11,7 @@ use Rattle.plan_settings.specs.declared.config.PlanConfig.{PlanConfig}
 use Rattle.candidates.specs.Samples.{leftsOf, rightsOf}
 use Rattle.candidates.specs.declared.candidate.Candidate.{Candidate}
 use Rattle.plan_lengths.specs.PlanLengths.{minimumIn, maximumIn}
+use Rattle.plan_pieces.specs.Flags.{isTail}
 use Rattle.plan_pieces.specs.FlagsLaws.{flags-most}
 use Rattle.plan_pieces.specs.NumbersLaws.{Numbers, piece-numbers, cut-numbers}
 use Rattle.plan_pieces.specs.PlanAlong.{reasonsOf, planPieces, planCuts}
@@ -37,17 +38,17 @@ module _ (g : FrameGrid) (settings : PlanConfig) (cs : List Candidate) (path : L
       subst (λ (n : ℕ). take n (onto (planPieces g settings cs path) out) ≡ planPieces g settings cs path) (plan-lengths g settings cs path .0) (onto-take (planPieces g settings cs path) out)
 
   numbers-of-piece : (i : ℕ) → suc i < length path → recordAt pieceOf (planPieces g settings cs path) i
-      ≡ pieceRecord (leftsOf g cs) (rightsOf g cs) (minimumIn g settings) (maximumIn g settings) (getD path i 0) (getD path (suc i) 0)
+      ≡ pieceRecord (leftsOf g cs) (rightsOf g cs) (minimumIn g settings) (maximumIn g settings) (isTail (length path - 1) i) (getD path i 0) (getD path (suc i) 0)
   unfolding planPieces
   numbers-of-piece i h =
       record-of pieceOf _ (piece-numbers (leftsOf g cs) (rightsOf g cs) (minimumIn g settings) (maximumIn g settings) path i h)
-      ∙ piece-flagged (leftsOf g cs) (rightsOf g cs) (minimumIn g settings) (maximumIn g settings) (getD path i 0) (getD path (suc i) 0)
+      ∙ piece-flagged (leftsOf g cs) (rightsOf g cs) (minimumIn g settings) (maximumIn g settings) (isTail (length path - 1) i) (getD path i 0) (getD path (suc i) 0)
 
   -- a list with room for the pieces gets each of them
   pub records-of-plan : (records : List Piece) → length path - 1 ≤ length records
       → (recordsEndOf pieceOf (planPieces g settings cs path) records .answer ≡ 0)
       × ((i : ℕ) (z : Piece) → suc i < length path → getD (recordsEndOf pieceOf (planPieces g settings cs path) records .records) i z
-      ≡ pieceRecord (leftsOf g cs) (rightsOf g cs) (minimumIn g settings) (maximumIn g settings) (getD path i 0) (getD path (suc i) 0))
+      ≡ pieceRecord (leftsOf g cs) (rightsOf g cs) (minimumIn g settings) (maximumIn g settings) (isTail (length path - 1) i) (getD path i 0) (getD path (suc i) 0))
   records-of-plan records room =
       let l = plan-lengths g settings cs path .0 in
       let r : length (planPieces g settings cs path) / 3 ≤ length records = omega (arith, l, room) in (
@@ -66,7 +67,7 @@ module _ (g : FrameGrid) (settings : PlanConfig) (cs : List Candidate) (path : L
           ≡ getD (planPieces g settings cs path) (3 * i) 0 ∷ (getD (planPieces g settings cs path) (3 * i + 1) 0 ∷ (getD (planPieces g settings cs path) (3 * i + 2) 0 ∷ []))
       each i h =
           let n = piece-numbers (leftsOf g cs) (rightsOf g cs) (minimumIn g settings) (maximumIn g settings) path i h in
-          ap numbersOfPiece (record-of pieceOf _ n) ∙ piece-back _ _ _ (flags-most (minimumIn g settings) (maximumIn g settings) _) ∙ threes _ i _ _ _ n
+          ap numbersOfPiece (record-of pieceOf _ n) ∙ piece-back _ _ _ (flags-most (isTail (length path - 1) i) (minimumIn g settings) (maximumIn g settings) _) ∙ threes _ i _ _ _ n
 
   -- ---- cuts
 

@@ -23,7 +23,7 @@ use Rattle.plan_division.specs.Along.{endsAt, cutsAt, cutsAlong, pieceBetween, 
 use Rattle.plan_division.specs.AlongLaws.{onward-last, left-sample, right-sample, pieces-along, count-along}
 use Rattle.plan_division.specs.Across.{Across}
 use Rattle.plan_lengths.specs.PlanLengths.{minimumIn, maximumIn}
-use Rattle.plan_pieces.specs.Flags.{flagsOf}
+use Rattle.plan_pieces.specs.Flags.{isTail, flagsOf}
 use Rattle.plan_pieces.specs.FlagsLaws.{long-stands, short-stands, flags-one}
 use Rattle.plan_pieces.specs.NumbersLaws.{Numbers, piece-numbers, cut-numbers}
 use Rattle.plan_pieces.specs.PlanAlong.{reasonsOf, planPieces, planCuts}
@@ -109,9 +109,9 @@ module _ (g : FrameGrid) (settings : PlanConfig) (s : Span) (cs : List Candidate
   along-follows = record { number = count; pieces = pieces-front g settings cs path k before after h; cuts = cuts-front g settings cs path k before after h }
 
   numbers : (i : ℕ) → i < k → Numbers (planPieces g settings cs path) i (getD (rightsOf g cs) (getD path i 0) 0) (getD (leftsOf g cs) (getD path (suc i) 0) 0)
-      (flagsOf (minimumIn g settings) (maximumIn g settings) (pieceLength (leftsOf g cs) (rightsOf g cs) (getD path i 0) (getD path (suc i) 0)))
+      (flagsOf (isTail k i) (minimumIn g settings) (maximumIn g settings) (pieceLength (leftsOf g cs) (rightsOf g cs) (getD path i 0) (getD path (suc i) 0)))
   unfolding planPieces
-  numbers i l = piece-numbers (leftsOf g cs) (rightsOf g cs) (minimumIn g settings) (maximumIn g settings) path i (omega (arith, l, count))
+  numbers i l = rw (← h .number) (piece-numbers (leftsOf g cs) (rightsOf g cs) (minimumIn g settings) (maximumIn g settings) path i (omega (arith, l, count)))
 
   cut-three : (i : ℕ) → suc i < k → Numbers (planCuts g cs path) i (getD (leftsOf g cs) (getD path (suc i) 0) 0) (getD (rightsOf g cs) (getD path (suc i) 0) 0)
       (getD (reasonsOf cs) (getD path (suc i) 0) 0)
@@ -143,17 +143,17 @@ module _ (g : FrameGrid) (settings : PlanConfig) (s : Span) (cs : List Candidate
         ∙ ap (λ (c : Cut). boundaryOf g (c .right)) (sym (cut-at cs path i (omega (arith, l, count))));
   }
 
-  -- the flags are those of a piece's length
-  flags-are : (i : ℕ) → i < k → flagsAt after i ≡ flagsOf (minimumIn g settings) (maximumIn g settings) (lengthAt after i)
+  -- the flags are those of a piece's length and place
+  flags-are : (i : ℕ) → i < k → flagsAt after i ≡ flagsOf (isTail k i) (minimumIn g settings) (maximumIn g settings) (lengthAt after i)
   unfolding pieceLength
   flags-are i l = piece-at g settings cs path k before after h (3 * i + 2) (omega arith) ∙ numbers i l .three ∙ rw (start-is i l, end-is i l)
 
   -- minimum and maximum are within their limits, so that no length is below the one and above the other
   pub along-flagged : settings .min ≤ settings .max → InSamples (g .«sample_rate») (settings .max) → Flagged (minimumIn g settings) (maximumIn g settings) k after
   along-flagged order timed = record {
-    long = λ i l. rw (flags-are i l) (long-stands (minimumIn g settings) (maximumIn g settings) (lengthAt after i));
-    short = λ i l. rw (flags-are i l) (short-stands (minimumIn g settings) (maximumIn g settings) (lengthAt after i));
-    one = λ i l. rw (flags-are i l) (flags-one (g .«sample_rate») (settings .min) (settings .max) (lengthAt after i) order (samples-small (g .«sample_rate») (settings .max) timed));
+    long = λ i l. rw (flags-are i l) (long-stands (isTail k i) (minimumIn g settings) (maximumIn g settings) (lengthAt after i));
+    short = λ i l. rw (flags-are i l) (short-stands (isTail k i) (minimumIn g settings) (maximumIn g settings) (lengthAt after i));
+    one = λ i l. rw (flags-are i l) (flags-one (isTail k i) (g .«sample_rate») (settings .min) (settings .max) (lengthAt after i) order (samples-small (g .«sample_rate») (settings .max) timed));
   }
 
   -- the reasons are those of candidates

@@ -4,5 +4,6 @@ pub mod ShowsLaws
 pub mod EndsLaws
 pub mod FollowsLaws
 pub mod MadeLaws
+pub mod FlaggedLaws
 pub mod Theorems
 pub mod Trials

@@ -40,7 +40,7 @@ use Rattle.candidate_finder.specs.SpanIn.{emptyIn, paddingIn}
 use Rattle.plan_division.specs.Along.{endsAt, pieceBetween}
 use Rattle.plan_division.specs.Added.{addedByCount, addedByLength}
 use Rattle.plan_lengths.specs.PlanLengths.{minimumIn, maximumIn, lengthsByLength, lengthsByCount}
-use Rattle.plan_pieces.specs.Flags.{hasLong, hasShort, isLonger, isShorter}
+use Rattle.plan_pieces.specs.Flags.{hasLong, hasShort, isLonger, isTail, isShort}
 use Rattle.plan_pieces.specs.PlanAlong.{planPieces, planCuts}
 use Rattle.plan_pieces.specs.Output.{Output}
 use Rattle.plan_pieces.specs.Answer.{numberOf}
@@ -108,9 +108,10 @@ pub record Fills (from to k : ℕ) (out : Output) : Type 0 where
   pub adds : sumUpTo (lengthAt out) k + sumUpTo (λ (i : ℕ). nextStart out i - previousEnd out i) (k - 1) ≡ to - from
 
 -- each flag stands exactly where it should: "The over-long flag is always set against the maximum, never the reach."
+-- Short is what is below the minimum and not the last of several pieces
 pub record Flagged (minimum : Float) (maximum k : ℕ) (out : Output) : Type 0 where
   pub long : (i : ℕ) → i < k → hasLong (flagsAt out i) ≡ isLonger maximum (lengthAt out i)
-  pub short : (i : ℕ) → i < k → hasShort (flagsAt out i) ≡ isShorter minimum (lengthAt out i)
+  pub short : (i : ℕ) → i < k → hasShort (flagsAt out i) ≡ isShort (isTail k i) minimum (lengthAt out i)
   -- there are no other flags, and no piece has both: its number is 0, 1 for short or 2 for long
   pub one : (i : ℕ) → i < k → flagsAt out i ≤ 2
 

@@ -65,7 +65,7 @@ use Rattle.completion_reach.specs.Reach.{leastLimitFrom, reachOf}
 use Rattle.completion_reach.specs.Reachable.{reachableIn}
 use Rattle.plan_lengths.specs.PlanLengths.{targetByCount, lengthsWith, lengthsByLength, lengthsByCount}
 use Rattle.plan_pieces.specs.Along.{pieceNumbersFrom, cutNumbersFrom, piecesAlongNumbers, cutsAlongNumbers}
-use Rattle.plan_pieces.specs.Flags.{shortFlag, longFlag, flagsOf}
+use Rattle.plan_pieces.specs.Flags.{isTail, shortFlag, longFlag, flagsOf}
 use Rattle.plan_pieces.specs.Output.{Output, outputOf, hasRoom, handedOutOf}
 use Rattle.plan_pieces.specs.PlanAlong.{planPieces, planCuts}
 use Rattle.planner.specs.Operation.{End, endOf, candidatesWith, plannedOf, planOf}
@@ -181,6 +181,16 @@ byCountScore most cs =
     let under = lengthsByCount grid3 (upTo (ByCount 2) most) (span3 most .first) (span3 most .last) 2 most in
     pathScore under (leftsOf grid3 cs) (rightsOf grid3 cs) (costsOf cs) (pathByCount grid3 (upTo (ByCount 2) most) (span3 most) 2 most cs)
 
+-- ---- document 02, S-5: the tail
+
+-- minimum and target 2 s, a maximum in seconds, and the default weights
+abbrev fromTwo : Mode → Gap → ℕ → PlanConfig
+fromTwo mode gap most = record { min = 2000000000; target = 2000000000; max = most * 1000000000; mode = mode; gap = gap; placement = Quietest; weights = plan2 .weights }
+
+-- a second of silence kept before sound, where there is room for it
+abbrev padded : SegmentConfig
+padded = record { threshold = Auto; «min_silence» = 250000000; «min_sound» = 100000000; pre = 1000000000; tail = 0 }
+
 -- a is what the output held, b, c and x what the work lists held, and d what the parent list held; a work list has 128 entries, 16 for each of R's eight frame boundaries
 module _ (a b c d : ℕ) (x : Float) where
   abbrev output : ℕ → ℕ → Output
@@ -199,9 +209,12 @@ module _ (a b c d : ℕ) (x : Float) where
   later answer out parents = endOf answer out (workOf (replicate 128 0) (replicate 128 0) (replicate 128 (ofBits binary64 0))) (replicate parents 0)
 
   -- a call over frames of a second whose output has room for two pieces
+  abbrev callSecondsWith : SegmentConfig → PlanConfig → List Float → ℕ → End
+  callSecondsWith segment settings values parents =
+      planOf (seconds (length values)) segment settings values (replicate (length values) 0) [] (output 6 3) (workOf (replicate 64 b) (replicate 64 c) (replicate 64 x)) (replicate parents d)
+
   abbrev callSeconds : PlanConfig → List Float → ℕ → End
-  callSeconds settings values parents =
-      planOf (seconds (length values)) defaults settings values (replicate (length values) 0) [] (output 6 3) (workOf (replicate 64 b) (replicate 64 c) (replicate 64 x)) (replicate parents d)
+  callSeconds = callSecondsWith defaults
 
   -- and what it leaves
   abbrev laterSeconds : ℕ → List ℕ → List ℕ → ℕ → End
@@ -261,10 +274,18 @@ module _ (a b c d : ℕ) (x : Float) where
     -- and under 4 s that over the completed ones, 0.82
     pub count-score-to : byCountScore 4 (completedByCount grid3 (upTo (ByCount 2) 4) (span3 4) (secondsWith (ByCount 2) 4 three) 2 4)
         ≡ record { over = 0; cost = ofBits binary64 0x3fea_4fa4_fa4f_a4fa }
+    -- S-5 by length, gaps kept: the tail of a second is not flagged
+    pub tail-by-length : callSeconds (fromTwo ByLength Keep 2) three 0 ≡ laterSeconds 2 (0 ∷ 2 ∷ 0 ∷ 2 ∷ 3 ∷ 0 ∷ []) (2 ∷ 2 ∷ 0 ∷ []) 0
+    -- a first piece of a second is
+    pub short-by-length : callSeconds (fromTwo ByLength Keep 2) (none ∷ none ∷ one ∷ []) 0 ≡ laterSeconds 2 (0 ∷ 1 ∷ 1 ∷ 1 ∷ 3 ∷ 0 ∷ []) (1 ∷ 1 ∷ 0 ∷ []) 0
+    -- by count 2, gaps dropped: both are below the minimum, and the first is flagged
+    pub tail-by-count : callSecondsWith padded (fromTwo (ByCount 2) Drop 3) (none ∷ one ∷ []) 8 ≡ laterSeconds 2 (0 ∷ 1 ∷ 1 ∷ 1 ∷ 2 ∷ 0 ∷ []) (1 ∷ 1 ∷ 2 ∷ []) 8
+    -- under 2 s there is no room for the silence: a plan of one piece is flagged as before
+    pub short-alone : callSecondsWith padded (fromTwo (ByCount 2) Drop 2) (none ∷ one ∷ []) 8 ≡ laterSeconds 1 (1 ∷ 2 ∷ 1 ∷ a ∷ a ∷ a ∷ []) (a ∷ a ∷ a ∷ []) 8
 
   -- each by computation
   pub plan-trials : PlanTrials
-  unfolding pathScore scoreFrom minOf maxOf clampOf square offOf short lengthCost filled onto tabulate allOf workOk startOf boundaryOf covers framesIn framesCeil framesFloor samplesFloor samplesIn secondsOf frameSecs isUpTo frameStepOk framesOk listsOk valuesOk lengthOk validityOf isScore isFinite isUnflagged withSignal levelsOver levelsOf autoOf resolveOf thresholdOk filledAs fillShort reached soundAt soundsAfter hysteresis belowAt belowOff quietRuns withFrame runs rewritten rewrittenAll eachRun silentRuns silencesOf isSilent anySound fillSilence soundsOf durationsOk soundsIn silencesIn lowestLeast predecessorOf isWithin pieceLength lengthCostOf overOf mayStart withPiece withCut withCutAt nextScore tableOf bestScore parentOf wayBack bestPath bestWith parentWith wayWith bestPathByCount bestScoreByCount isCount countOk ratioOk isWeight isCutCost isReference weightsOk lowOf highOf isInner isGap innerGaps gapsOf dropped keptFrames boundaries blockOf paddingOf edgeLimit spacingOf isLeading isTrailing allSilent emptySpan firstOf lastOf divisionsOf keeps anyOf isFeasible getsGrid touches opens blocksAt blockedBy isBlocked openTo blockEnd pointsFrom gridPoints splitPoint leastLevelFrom leastLevel openCut silenceCut shareOf chosenBy pauseOf cutCost smoothedAt frameLevel levelAt boundaryLevels rangeOf normalizeOf quieter quietestIn quietestOf mostOf stretchAt secsOf clipped windowOf widthOf sumFrom sumOf meanOf pieceLengthsOk allDurationsOk firstRefusalOf pausesBy inPause pointReason pointAt ownAt ownFrom allListed withLeft cheaper cheapestOf cheapest survivors candidatesOf costsOf runsIn boundaryLevelsIn bridgeFrom greedyCutsFrom pointsIn nextAt placeAt leastLimitFrom reachOf reachableIn targetByCount lengthsWith cutNumbersFrom pieceNumbersFrom piecesAlongNumbers cutsAlongNumbers shortFlag longFlag flagsOf hasRoom handedOutOf planPieces planCuts plannedOf planOf planByLength hasParents suffices plannedUnder planByCount planBy span climb size odd units round sum add neg sub mul div lt eq le isNan ofInt ofBits
+  unfolding pathScore scoreFrom minOf maxOf clampOf square offOf short lengthCost filled onto tabulate allOf workOk startOf boundaryOf covers framesIn framesCeil framesFloor samplesFloor samplesIn secondsOf frameSecs isUpTo frameStepOk framesOk listsOk valuesOk lengthOk validityOf isScore isFinite isUnflagged withSignal levelsOver levelsOf autoOf resolveOf thresholdOk filledAs fillShort reached soundAt soundsAfter hysteresis belowAt belowOff quietRuns withFrame runs rewritten rewrittenAll eachRun silentRuns silencesOf isSilent anySound fillSilence soundsOf durationsOk soundsIn silencesIn lowestLeast predecessorOf isWithin pieceLength lengthCostOf overOf mayStart withPiece withCut withCutAt nextScore tableOf bestScore parentOf wayBack bestPath bestWith parentWith wayWith bestPathByCount bestScoreByCount isCount countOk ratioOk isWeight isCutCost isReference weightsOk lowOf highOf isInner isGap innerGaps gapsOf dropped keptFrames boundaries blockOf paddingOf edgeLimit spacingOf isLeading isTrailing allSilent emptySpan firstOf lastOf divisionsOf keeps anyOf isFeasible getsGrid touches opens blocksAt blockedBy isBlocked openTo blockEnd pointsFrom gridPoints splitPoint leastLevelFrom leastLevel openCut silenceCut shareOf chosenBy pauseOf cutCost smoothedAt frameLevel levelAt boundaryLevels rangeOf normalizeOf quieter quietestIn quietestOf mostOf stretchAt secsOf clipped windowOf widthOf sumFrom sumOf meanOf pieceLengthsOk allDurationsOk firstRefusalOf pausesBy inPause pointReason pointAt ownAt ownFrom allListed withLeft cheaper cheapestOf cheapest survivors candidatesOf costsOf runsIn boundaryLevelsIn bridgeFrom greedyCutsFrom pointsIn nextAt placeAt leastLimitFrom reachOf reachableIn targetByCount lengthsWith cutNumbersFrom pieceNumbersFrom piecesAlongNumbers cutsAlongNumbers isTail shortFlag longFlag flagsOf hasRoom handedOutOf planPieces planCuts plannedOf planOf planByLength hasParents suffices plannedUnder planByCount planBy span climb size odd units round sum add neg sub mul div lt eq le isNan ofInt ofBits
   plan-trials = record {
     printed = refl;
     count-two = refl;
@@ -287,4 +308,8 @@ module _ (a b c d : ℕ) (x : Float) where
     count-enough = (refl, refl);
     count-score-from = refl;
     count-score-to = refl;
+    tail-by-length = refl;
+    short-by-length = refl;
+    tail-by-count = refl;
+    short-alone = refl;
   }

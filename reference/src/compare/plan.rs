@@ -42,8 +42,8 @@ fn plan(amount: Amount, rng: &mut Rng, tally: &mut Tally) {
     }
 }
 
-/// Document 01's trial cuts, a reach of the whole span, and the plans that cost more under a longer
-/// maximum.
+/// Document 01's trial cuts, a reach of the whole span, short pieces, and the plans that cost more
+/// under a longer maximum.
 fn first_inputs() -> Vec<(Job, Planned)> {
     let raised = trials::raised();
     for (job, _, score) in &raised {
@@ -54,7 +54,7 @@ fn first_inputs() -> Vec<(Job, Planned)> {
     }
     let raised = raised.map(|(job, planned, _)| (job, planned));
     let planned = trials::planned().into_iter().chain([trials::whole()]);
-    planned.chain(raised).collect()
+    planned.chain(trials::tails()).chain(raised).collect()
 }
 
 /// So few frames that every plan is held against all divisions.

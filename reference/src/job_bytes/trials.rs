@@ -1,5 +1,5 @@
 //! The trial cuts of document 01 that the program runs, recording R and what is printed for it, with
-//! the empty job and the rates of document 02.
+//! the empty job, the rates and the short pieces of document 02.
 
 use std::time::Duration;
 
@@ -73,6 +73,16 @@ cut 500 500 forced
 cut 600 600 forced
 ";
 
+/// Document 02, S-5: pieces below the minimum, by length the tail and a first piece, by count both
+/// of two, twice, and a piece that is alone.
+pub const TAILS: [&str; 5] = [
+    "plan 2 1\npiece 0 2 -\npiece 2 3 -\ncut 2 2 silence\n",
+    "plan 2 1\npiece 0 1 s\npiece 1 3 -\ncut 1 1 silence\n",
+    "plan 2 1\npiece 0 1 s\npiece 1 2 -\ncut 1 1 forced\n",
+    "plan 2 1\npiece 0 1 s\npiece 1 2 -\ncut 1 1 forced\n",
+    "plan 1 0\npiece 1 2 s\n",
+];
+
 /// R as printed.
 pub fn printed() -> Job {
     let [(job, _), _, _] = plan_job::trials::planned();
@@ -102,6 +112,9 @@ pub fn trials() -> Vec<(Vec<u8>, Said)> {
         (at(768_000, 537_600), Said::Accepts),
         (at(768_001, 700), Said::Prints("refused 1\n")),
     ];
+    let tails = plan_job::trials::tails().into_iter().map(|(job, _)| job);
+    let tails = tails.zip(TAILS.map(Said::Prints));
+    let others = tails.chain(others);
     let others = others.map(|(job, said)| (encode(&job, ALL).bytes, said));
     let first = (PRINTED.to_vec(), Said::Prints(PRINTED_LISTING));
     let empty = (Vec::new(), Said::Prints(EMPTY_LISTING));

@@ -11,17 +11,29 @@ use super::places::Places;
 use super::{Job, reason};
 use crate::path_job::{self, Score};
 
-/// The Rust's plan, as the port gives it.
+/// The Rust's plan, as the port gives it: every flag is the Rust's, but that the tail is not short.
 #[derive(Clone, Debug, Default, PartialEq)]
 pub struct Planned {
     /// Start, end and flags of each piece: 1 short, 2 long.
     pub pieces: Vec<u64>,
     /// Previous end, next start and reason of each cut.
     pub cuts: Vec<u64>,
+    /// Whether the tail has lost its flag: the Rust calls it short.
+    pub unflagged: bool,
+}
+
+/// Document 02's S-5, which the Rust does not have: the last of several pieces is not short. True
+/// where it was.
+pub fn unflag_tail(plan: &mut Plan) -> bool {
+    match &mut plan.pieces[..] {
+        [_, .., tail] => std::mem::take(&mut tail.too_short),
+        _ => false,
+    }
 }
 
 impl From<Plan> for Planned {
-    fn from(plan: Plan) -> Self {
+    fn from(mut plan: Plan) -> Self {
+        let unflagged = unflag_tail(&mut plan);
         let pieces = plan.pieces.iter().flat_map(|p| {
             let flags = u64::from(p.too_short) + 2 * u64::from(p.too_long);
             [p.start, p.end, flags]
@@ -31,6 +43,7 @@ impl From<Plan> for Planned {
         Self {
             pieces: pieces.collect(),
             cuts: cuts.collect(),
+            unflagged,
         }
     }
 }
@@ -76,6 +89,7 @@ impl Job {
         plan(&analysis, &segment, &config)
     }
 
+    /// The same, as the port gives it.
     pub fn planned(&self) -> Planned {
         self.rust_plan().into()
     }

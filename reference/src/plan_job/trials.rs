@@ -1,5 +1,5 @@
-//! The trial cuts of document 01 that a plan of recording R has, and plans that cost more under a
-//! longer maximum.
+//! The trial cuts of document 01 that a plan of recording R has, short pieces, and plans that cost
+//! more under a longer maximum.
 
 use super::planned::Planned;
 use super::{Job, Settings};
@@ -44,10 +44,45 @@ pub fn whole() -> (Job, Planned) {
     (trial(300, Some(1)), planned_of(&[0, 700], &[2], &[]))
 }
 
+/// Document 02's S-5, pieces below a minimum of 2 s. By length: the tail, which is not flagged, and a
+/// first piece. By count: both of two, gaps kept and dropped, and a piece that is alone.
+pub fn tails() -> [(Job, Planned); 5] {
+    let from_two = |values: &[f32], count: Option<u32>| {
+        let mut job = seconds(values, 2, count);
+        (job.plan.min, job.plan.target) = (2 * SECOND, 2 * SECOND);
+        job
+    };
+    [
+        (
+            from_two(&[1.0, 0.0, 0.0], None),
+            unflagged(planned_of(&[0, 2, 3], &[0, 0], &[0])),
+        ),
+        (
+            from_two(&[0.0, 0.0, 1.0], None),
+            planned_of(&[0, 1, 3], &[1, 0], &[0]),
+        ),
+        (
+            from_two(&[1.0, 1.0], Some(2)),
+            unflagged(planned_of(&[0, 1, 2], &[1, 0], &[2])),
+        ),
+        (padded(3), unflagged(planned_of(&[0, 1, 2], &[1, 0], &[2]))),
+        (padded(2), planned_of(&[1, 2], &[1], &[])),
+    ]
+}
+
+/// A plan whose tail is short to the Rust.
+fn unflagged(planned: Planned) -> Planned {
+    Planned {
+        unflagged: true,
+        ..planned
+    }
+}
+
 /// Document 02 says nothing of a plan whose maximum is raised: recordings by length, by count, and
 /// by count with gaps dropped, each with its plan and the score of that before and after.
 pub fn raised() -> [(Job, Planned, Score); 6] {
     let score = |cost| Score { over: 0, cost };
+    let [.., (several, two), (alone, one)] = tails();
     [
         (
             seconds(&[0.0, 1.0], 2, None),
@@ -69,8 +104,8 @@ pub fn raised() -> [(Job, Planned, Score); 6] {
             planned_of(&[0, 1, 3], &[0, 0], &[0]),
             score(0.8222222222222222),
         ),
-        (padded(2), planned_of(&[1, 2], &[1], &[]), score(3.0)),
-        (padded(3), planned_of(&[0, 1, 2], &[1, 1], &[2]), score(4.6)),
+        (alone, one, score(3.0)),
+        (several, two, score(4.6)),
     ]
 }
 
@@ -118,6 +153,7 @@ pub fn planned_of(ends: &[u64], flags: &[u64], reasons: &[u64]) -> Planned {
             .flat_map(|(ends, f)| [ends[0], ends[1], *f])
             .collect(),
         cuts: cuts.flat_map(|(at, reason)| [*at, *at, *reason]).collect(),
+        unflagged: false,
     }
 }
 

@@ -7,19 +7,20 @@
 //! | bytes of the listing l, at most 4,096 | u16 |
 //! | the listing, with a line feed after each of its lines | l × u8 |
 //!
-//! The first eleven are document 01's trial cuts, with document 02's empty job, the second, and its
-//! rates among them. Then come jobs on either side of each limit, one for each refusal number among
+//! The first sixteen are document 01's trial cuts, with document 02's empty job, the second, its
+//! short pieces, the five that follow, and its rates among them. Then come jobs on either side of each limit, one for each refusal number among
 //! them and 14 for either path; then one for each damage: every job of one byte, R's job cut short at
 //! each byte behind its first, each unknown bit and kind, a byte after the end, 511 and 512 frames,
 //! 8,192 and 8,193 bytes. The rest is random, by length and by count.
 //! Spoiled are, of the first, a digit of a piece, its flags, a digit of a cut, its reason, a count;
 //! a leading zero, a line feed less in the middle and at the end, a line less, nothing at all, and a
 //! refusal; of others the number of a refusal and a plan in its place; the empty job as one that is
-//! refused, and a job of one byte as an empty one.
+//! refused, and a job of one byte as an empty one; a tail that is flagged short, and a piece alone
+//! that is not.
 
 use super::Bytes;
 use crate::job_bytes::make::{accepted, write};
-use crate::job_bytes::trials::{EMPTY_LISTING, PRINTED_LISTING};
+use crate::job_bytes::trials::{EMPTY_LISTING, PRINTED_LISTING, TAILS};
 use crate::job_bytes::{MOST_BYTES, expected, fixed, trials};
 use crate::rng::Rng;
 
@@ -71,6 +72,9 @@ pub fn spoiled(bytes: &mut Bytes) {
     put(bytes, refused, listing.as_bytes());
     put(bytes, &[], b"refused 19\n");
     put(bytes, &[0], EMPTY_LISTING.as_bytes());
+    let [tail, .., alone] = TAILS;
+    put(bytes, &trials[2], tail.replace("2 3 -", "2 3 s").as_bytes());
+    put(bytes, &trials[6], alone.replace(" s", " -").as_bytes());
 }
 
 fn put(bytes: &mut Bytes, job: &[u8], listing: &[u8]) {

@@ -23,9 +23,10 @@
 //! | start, end and flags of each piece: 1 short, 2 long | 3p × u64 |
 //! | previous end, next start and reason of each cut: 0 silence, 1 quiet, 2 forced | 3c × u64 |
 //!
-//! The first three are document 01's trial cuts. Of eight records one is refused by its parent list
+//! The first three are document 01's trial cuts, and five with short pieces follow. Of eight records one is refused by its parent list
 //! or its output, and one otherwise; none by 4. Spoiled are, of the second: each number of a piece
-//! and of a cut, one piece less, one more, a cut less, and a refusal; and the number of a refusal.
+//! and of a cut, one piece less, one more, a cut less, and a refusal; and the number of a refusal; a
+//! tail that is flagged short, and a piece alone that is not.
 
 use super::Bytes;
 use super::candidates::put_settings;
@@ -68,7 +69,8 @@ fn parents(job: &Job) -> Vec<usize> {
 }
 
 pub fn record(bytes: &mut Bytes, rng: &mut Rng, i: u64) {
-    let trial = trials::planned().into_iter().nth(i as usize);
+    let mut first = trials::planned().into_iter().chain(trials::tails());
+    let trial = first.nth(i as usize);
     let kind = if trial.is_some() { 0 } else { i % 8 };
     let mut job = trial.map_or_else(|| any_job(rng), |(job, _)| job);
     let planned = job.planned();
@@ -118,6 +120,12 @@ pub fn spoiled(bytes: &mut Bytes) {
     put(bytes, &job, &lists, 14, &Planned::default());
     lists.parent -= 1;
     put(bytes, &job, &lists, 12, &Planned::default());
+    let [tail, .., alone] = trials::tails();
+    for (job, mut planned) in [tail, alone] {
+        let flags = planned.pieces.last_mut().expect("a piece");
+        *flags ^= 1;
+        put(bytes, &job, &Lists::enough(&job, &planned), 0, &planned);
+    }
 }
 
 /// One in four of very few frames, one of more than a few.

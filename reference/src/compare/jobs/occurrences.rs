@@ -107,6 +107,9 @@ fn answers(tally: &mut Tally, planned: Option<&Planned>) {
         let so = is(&|p| p.pieces.chunks(3).any(|piece| piece[2] == flags));
         tally.occurs(what, so);
     }
+    tally.occurs("a tail that lost its flag", is(&|p| p.unflagged));
+    let alone = is(&|p| p.pieces.len() == 3 && p.pieces[2] == 1);
+    tally.occurs("a plan of one short piece", alone);
     for (reason, what) in ["a cut in silence", "a quiet cut", "a forced cut"]
         .into_iter()
         .enumerate()

@@ -104,14 +104,18 @@ fn all_single(planned: &Planned, course: &Course) -> bool {
     })
 }
 
-/// A piece whose flags are not those of its own length beside the minimum and the maximum.
+/// A piece whose flags are not those of its own length beside the minimum and the maximum; the last
+/// of several is never short.
 fn flags(planned: &Planned, course: &Course) -> Option<String> {
-    let wrong = planned.pieces.chunks(3).find(|p| {
+    let count = planned.pieces.len() / 3;
+    let mut pieces = planned.pieces.chunks(3).enumerate();
+    let wrong = pieces.find(|(i, p)| {
         let length = p[1] - p[0];
-        let (short, long) = ((length as f64) < course.minimum, length > course.maximum);
-        p[2] != u64::from(short) + 2 * u64::from(long)
+        let tail = count >= 2 && i + 1 == count;
+        let short = !tail && (length as f64) < course.minimum;
+        p[2] != u64::from(short) + 2 * u64::from(length > course.maximum)
     });
-    wrong.map(|piece| format!("flags of piece {piece:?}"))
+    wrong.map(|(_, piece)| format!("flags of piece {piece:?}"))
 }
 
 /// Panics if a plan of document 01's trials is refused here, or another plan of one of them is not
@@ -142,7 +146,29 @@ pub fn try_on_trials() {
         let fault = fault(job, &planned, &job.course());
         assert!(fault.is_some_and(|f| f.contains(why)), "{planned:?}: {why}");
     }
+    try_tails();
     try_reach();
+}
+
+/// Panics if a plan with short pieces is refused here, or one with other flags is not: the tail's,
+/// none on the first of two, the tail's for the first's, long for it, and none on a piece alone.
+fn try_tails() {
+    let tails = trials::tails();
+    for (job, planned) in &tails {
+        assert_eq!(fault(job, planned, &job.course()), None, "a short piece");
+    }
+    let [.., (several, _), (alone, _)] = tails;
+    let wrong = [
+        (&several, planned_of(&[0, 1, 2], &[1, 1], &[2])),
+        (&several, planned_of(&[0, 1, 2], &[0, 0], &[2])),
+        (&several, planned_of(&[0, 1, 2], &[0, 1], &[2])),
+        (&several, planned_of(&[0, 1, 2], &[1, 2], &[2])),
+        (&alone, planned_of(&[1, 2], &[0], &[])),
+    ];
+    for (job, planned) in wrong {
+        let fault = fault(job, &planned, &job.course());
+        assert!(fault.is_some_and(|f| f.contains("flags")), "{planned:?}");
+    }
 }
 
 /// Panics if the reach of the whole span is refused here, or one that is longer is not.

@@ -30,6 +30,7 @@ pub fn count(
     tally.occurs("12", refusal == 12);
     if refusal == 0 {
         answers(tally, planned);
+        tails(tally, job, planned);
     }
 }
 
@@ -116,4 +117,19 @@ fn answers(tally: &mut Tally, planned: &Planned) {
     tally.occurs("a quiet cut", cut(&|c| c[2] == 1));
     tally.occurs("a forced cut", cut(&|c| c[2] == 2));
     tally.occurs("a cut that drops a gap", cut(&|c| c[0] < c[1]));
+}
+
+/// Tails that are short to the Rust, and here by document 02's S-5 are not.
+fn tails(tally: &mut Tally, job: &Job, planned: &Planned) {
+    let lost = planned.unflagged;
+    tally.occurs("a tail that lost its flag", lost);
+    let (by_count, dropped) = (job.plan.by_count, job.plan.drop_gaps);
+    tally.occurs("a tail that lost its flag, by count", lost && by_count);
+    let so = lost && dropped;
+    tally.occurs("a tail that lost its flag, gaps dropped", so);
+    let several = planned.pieces.len() > 3;
+    let long = several && planned.pieces.last() == Some(&2);
+    tally.occurs("a long tail", long);
+    let alone = planned.pieces.len() == 3 && planned.pieces[2] == 1;
+    tally.occurs("a plan of one short piece", alone);
 }

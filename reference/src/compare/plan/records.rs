@@ -1,11 +1,12 @@
-//! Piece and cut records: the Rust's own, from the numbers that a plan is given by.
+//! Piece and cut records: the Rust's own, but that a tail is not short, from the numbers that a plan
+//! is given by.
 
 use std::fmt::Debug;
 
 use super::small;
 use crate::compare::Amount;
 use crate::ours::plan::{Cut, Piece, Refusal, cut_records, piece_records};
-use crate::plan_job::planned::{Planned, cut_reason};
+use crate::plan_job::planned::{Planned, cut_reason, unflag_tail};
 use crate::rng::Rng;
 use crate::tally::Tally;
 
@@ -25,7 +26,8 @@ const CUT: Cut = Cut {
 pub fn records(amount: Amount, rng: &mut Rng, tally: &mut Tally) {
     for _ in 0..amount.inputs {
         let job = small(rng);
-        let plan = job.rust_plan();
+        let mut plan = job.rust_plan();
+        tally.occurs("a tail that lost its flag", unflag_tail(&mut plan));
         let pieces = plan.pieces.iter().map(|p| Piece {
             start: p.start,
             end: p.end,

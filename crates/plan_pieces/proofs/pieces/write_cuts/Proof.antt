@@ -1,16 +1,16 @@
 -- `pieces::write_cuts`: what is written so far, and the cuts of the rest of the path, make up all cuts.
 use borrow.Author.Needs.{needs}
 use native.Mathlib.Omega.{arith}
-use Prim.Native.Nat.{_+_, _-_, _*_}
+use Prim.Native.Nat.{ℕ, _+_, _-_, _*_}
 use native.Mathlib.Numerals.{add-one}
-use lib.ListN.{length, getD, length-drop}
+use lib.ListN.{length, getD, drop, length-drop}
 use Rattle.plan_pieces.specs.Along.{reasonsIn, cutsAlongNumbers}
 use Rattle.plan_pieces.specs.AlongLaws.{cut-next, cuts-none, Writing, writing-start, writing-next, writing-done}
 use Rattle.plan_pieces.proofs.pieces.write_cuts.Statement.{statement}
 use Rattle.plan_pieces.proofs.pieces.write_cuts.Tie as tie
 
 abbrev Inv-loop : tie.InvT-loop
-Inv-loop left right entries path out₀ i₀ out i = Writing (cutsAlongNumbers left right (reasonsIn entries)) path out₀ out i
+Inv-loop left right entries path out₀ i₀ out i = Writing (λ (n : ℕ). cutsAlongNumbers left right (reasonsIn entries) (drop n path)) (length path) out₀ out i
 
 abbrev μ-loop : tie.MeasureT-loop
 μ-loop left right entries path out₀ i₀ out i = length path - i
