@@ -4,6 +4,6 @@ pub mod ShowsLaws
 pub mod EndsLaws
 pub mod FollowsLaws
 pub mod MadeLaws
-pub mod FlaggedLaws
 pub mod Theorems
+pub mod TailTheorems
 pub mod Trials
