@@ -1,11 +1,10 @@
 /* The frame grid. A record is eight words of 64 bits: the subject, six arguments, and the answer, a float as its
- * bits. Of flags the first argument is their number, and the others are their bytes. */
+ * bits. */
 #include "../include/buchawzer.h"
 #include "numbers.h"
 #include "sample.h"
 
 #define RECORD 64
-#define MOST_FLAGS 40
 
 static size_t size(const unsigned char *r, size_t left)
 {
@@ -30,11 +29,6 @@ static bool ask(const unsigned char *r, uint64_t *answer)
     case 6: *answer = bits_of(buchawzer_seconds(a)); break;
     case 7: *answer = bits_of(buchawzer_frame_secs(a32, b32)); break;
     case 8: *answer = buchawzer_covers(a32, b32, c32, d, e) ? BUCHAWZER_ACCEPTED : BUCHAWZER_REFUSED_LENGTH; break;
-    case 9:
-        if (a > MOST_FLAGS)
-            return false;
-        *answer = buchawzer_are_flags(r + 16, a);
-        break;
     default: return false;
     }
     return true;

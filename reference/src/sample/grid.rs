@@ -1,7 +1,6 @@
 //! The frame grid. A record is eight little-endian words: the subject, six arguments, the answer.
 //! Subject 0 is `boundary`, 1 to 7 are the conversions in their order, 8 is coverage (0 accepted,
-//! else 6), 9 is flags: how many, then their bytes in order in the five words behind, and 1 where
-//! each is 0 or 1, else 0. The Rust has no flag bytes, so that answer is the driver's own.
+//! else 6).
 //!
 //! Spoiled are one answer of each subject, and a subject that there is not.
 
@@ -16,11 +15,7 @@ use crate::rng::Rng;
 
 const BOUNDARY: u64 = 0;
 const COVERAGE: u64 = CONVERSIONS.len() as u64 + 1;
-const FLAGS: u64 = COVERAGE + 1;
-const SUBJECTS: u64 = FLAGS + 1;
-
-/// As many flags as five words hold: up to five words of them and all that can remain.
-const MOST_FLAGS: usize = 40;
+const SUBJECTS: u64 = COVERAGE + 1;
 
 /// One recording in so many may have frames up to the limit, and one a length up to it.
 const LARGE: u64 = 64;
@@ -46,7 +41,6 @@ fn ask(subject: u64, rng: &mut Rng) -> (Words, u64) {
     match subject {
         BOUNDARY => boundary(rng),
         COVERAGE => coverage(rng),
-        FLAGS => flags(rng),
         _ => conversion(&CONVERSIONS[subject as usize - 1], rng),
     }
 }
@@ -103,21 +97,4 @@ fn coverage(rng: &mut Rng) -> (Words, u64) {
         Err(other) => panic!("{other:?} on an accepted grid"),
     };
     (words(&made, 0), answer)
-}
-
-/// One byte of them may be any; behind them stand bytes that are no flags and must not be looked at.
-fn flags(rng: &mut Rng) -> (Words, u64) {
-    let count = rng.below(MOST_FLAGS as u64 + 1) as usize;
-    let mut bytes = [2; MOST_FLAGS];
-    let flags = &mut bytes[..count];
-    flags.fill_with(|| rng.below(2) as u8);
-    if count > 0 && rng.one_in(2) {
-        flags[rng.below(count as u64) as usize] = rng.word() as u8;
-    }
-    let answer = flags.iter().all(|flag| *flag <= 1);
-    let mut words = [count as u64; 6];
-    for (word, eight) in words[1..].iter_mut().zip(bytes.chunks_exact(8)) {
-        *word = u64::from_le_bytes(eight.try_into().expect("eight bytes"));
-    }
-    (words, answer.into())
 }
