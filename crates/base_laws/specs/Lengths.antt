@@ -140,6 +140,11 @@ short_falls f ws m x x' p fw q v n h k =
     (float_mul_mono f ws ws (sub f m x') (sub f m x) p g'.1.1 (float_le_refl ws (nonneg-number ws p)) d
     (float_mul-number f ws (sub f m x') fw g'.1.0) (float_mul-number f ws (sub f m x) fw g.1.0))
 
+-- both formats hold 2 ^ 100, above any length over any target
+wide_enough : (f : Format) → 60 + suc 39 ≤ emax f
+wide_enough binary32 = lit≤ tt
+wide_enough binary64 = lit≤ tt
+
 -- ---- the cost, and its bound
 
 module _ {f : Format} {wt ws m t : Float} (ok : Preferences f wt ws m t) where
@@ -153,8 +158,7 @@ module _ {f : Format} {wt ws m t : Float} (ok : Preferences f wt ws m t) where
   -- so the offset of a length is finite
   finite_off : (x : Float) → Length x → T (finite (off_of f t x))
   finite_off x l =
-      let wide : 60 + suc 39 ≤ emax f = elim f [ binary32 ↦ lit≤ tt | binary64 ↦ lit≤ tt ] in
-      off_finite f t x 60 39 wide l.length_nonneg l.length_high ok.target_low ok.target_high
+      off_finite f t x 60 39 (wide_enough f) l.length_nonneg l.length_high ok.target_low ok.target_high
 
   -- a minimum above a length is above zero
   min_positive : (x : Float) → T (nonneg x) → T (lt x m) → T (positive m)
