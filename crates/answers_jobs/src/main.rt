@@ -1,6 +1,8 @@
 // Replays a stored sample of jobs with the listings of the Rust's plans, which stands on standard input, and prints how
 // many records agree and how many differ.
 // What a record holds is said in record.rt.
+#![tactic(auto)]
+
 mod record;
 mod report;
 

@@ -9,7 +9,7 @@ use cutplan::plan::LONGEST_LISTING;
 use numbers_in::number;
 
 // What came of a record: the number of bytes that were read, and whether the port's answer is the stored one.
-#[derive(Drop)]
+#[derive(Clone, Copy)]
 pub struct Replayed {
     pub size: usize,
     pub same: bool,

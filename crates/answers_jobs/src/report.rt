@@ -8,7 +8,7 @@ pub const MOST: usize = 131_072;
 // How many records were replayed, how many of them before the first that differs, and how many were answered otherwise
 // or are not whole.
 // The last records of a sample are spoiled on purpose: where these three are known, so is which records differ.
-#[derive(Drop)]
+#[derive(Clone, Copy)]
 pub struct Tally {
     pub records: u64,
     pub agreeing: u64,

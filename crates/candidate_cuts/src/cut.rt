@@ -10,7 +10,7 @@ use candidate_span::padding::Padding;
 use plan_settings::config::{Gap, Placement};
 
 // The earlier piece ends at frame boundary `left`, the later starts at `right`; `level` is what the cut is charged for.
-#[derive(Drop)]
+#[derive(Clone, Copy)]
 pub struct SilenceCut {
     pub left: usize,
     pub right: usize,

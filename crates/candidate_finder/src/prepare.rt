@@ -16,7 +16,7 @@ use silence_list::config::SegmentConfig;
 
 // What a recording and settings leave: an empty span, or one that is held, with what its candidates are made with
 // and the grid.
-#[derive(Drop)]
+#[derive(Clone, Copy)]
 pub enum Prepared {
     Empty,
     Ready(Context, FrameGrid, HeldSpan),

@@ -49,7 +49,7 @@ fn needed_levels(
 }
 
 // Levels and number of silences.
-#[derive(Drop)]
+#[derive(Clone, Copy)]
 pub struct LevelsAndSilences {
     pub levels: Levels,
     pub silences: usize,

@@ -17,7 +17,7 @@ use plan_tests::refusal::{Refusal, Verdict};
 use silence_list::config::SegmentConfig;
 
 // What the operation answers: how many candidates it wrote, or why it wrote none.
-#[derive(Drop)]
+#[derive(Clone, Copy)]
 pub enum Answer {
     Found(usize),
     Refused(Refusal),

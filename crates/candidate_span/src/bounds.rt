@@ -6,7 +6,7 @@ use crate::padding::Padding;
 use base_code::sizes;
 
 // Frame boundaries, both inclusive.
-#[derive(Drop)]
+#[derive(Clone, Copy)]
 pub struct Bounds {
     pub lo: usize,
     pub hi: usize,

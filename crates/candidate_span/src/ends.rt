@@ -9,7 +9,7 @@ use base_code::sizes;
 use plan_settings::config::Gap;
 
 // First and last frame boundary of the plan, or that there is nothing to keep.
-#[derive(Drop)]
+#[derive(Clone, Copy)]
 pub enum SpanEnds {
     Empty,
     Between(usize, usize),

@@ -1,5 +1,5 @@
 // A span as work memory holds it.
-#[derive(Drop)]
+#[derive(Clone, Copy)]
 pub struct HeldSpan {
     // How many silences stand at the front of the list.
     pub silences: usize,

@@ -1,5 +1,5 @@
 // How many frames a recording has, and how many frames of silence are kept beside sound.
-#[derive(Drop)]
+#[derive(Clone, Copy)]
 pub struct Padding {
     pub frames: usize,
     // Before sound.

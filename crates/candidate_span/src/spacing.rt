@@ -9,7 +9,7 @@ use base_code::numbers;
 use grid::{FrameGrid, durations};
 
 // All of it, in frames but for the edge limit.
-#[derive(Drop)]
+#[derive(Clone, Copy)]
 pub struct Spacing {
     // Block size in frames, at least one.
     pub block: usize,

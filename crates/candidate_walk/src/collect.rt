@@ -18,7 +18,7 @@ use candidates::candidate::Candidate;
 use candidates::context::Context;
 
 // What the walk over the boundaries holds.
-#[derive(Drop)]
+#[derive(Clone, Copy)]
 pub struct Walk {
     // The next silence, and its own candidate.
     pub silence: usize,

@@ -3,7 +3,7 @@ ghost use Rattle.std.specs.Prelude.{◌≡◌};
 ghost use Rattle.candidates.specs.Candidates.{reason_number, node, cheaper};
 
 // What a cut falls in.
-#[derive(Drop)]
+#[derive(Clone, Copy)]
 pub enum Reason {
     // A silence's own candidate, or a point in silence outside the padding.
     Silence,
@@ -14,7 +14,7 @@ pub enum Reason {
 }
 
 // A possible cut: the earlier piece ends at frame boundary `left`, the later starts at `right`.
-#[derive(Drop)]
+#[derive(Clone, Copy)]
 pub struct Candidate {
     pub left: usize,
     pub right: usize,

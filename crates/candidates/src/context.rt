@@ -5,7 +5,7 @@ use path_pieces::weights::Weights;
 use plan_settings::config::{Gap, Placement};
 
 // The settings and numbers that every candidate of a plan is made with.
-#[derive(Drop)]
+#[derive(Clone, Copy)]
 pub struct Context {
     pub gap: Gap,
     pub placement: Placement,

@@ -1,4 +1,6 @@
 // What C and Rust programs call. No function asks anything of its caller but what its types say.
+#![tactic(auto)]
+
 pub mod best_path;
 pub mod candidates;
 pub mod convert;

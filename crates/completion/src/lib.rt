@@ -2,6 +2,8 @@
 // between neighbours.
 // Contracts cite specs/Shares for `shares`, Bridge and Complete for `bridge`, and Cuts of completion_reach; laws stand
 // beside each.
+#![tactic(auto)]
+
 pub mod bridge;
 pub mod far;
 pub mod shares;

@@ -19,7 +19,7 @@ use completion_reach::place::HeldCut;
 use plan_settings::config::Gap;
 
 // The silences whose gaps are passed, and how many frames these drop.
-#[derive(Drop)]
+#[derive(Clone, Copy)]
 pub struct Passed {
     pub silences: usize,
     pub removed: usize,
@@ -75,7 +75,7 @@ fn pass(gap: Gap, p: Padding, silences: &[u32], at: usize, passed: Passed) -> Pa
 }
 
 // A cut, and the gaps that are passed before it.
-#[derive(Drop)]
+#[derive(Clone, Copy)]
 pub struct Share {
     pub cut: HeldCut,
     pub passed: Passed,

@@ -6,7 +6,7 @@ use grid::FrameGrid;
 use plan_settings::config::Gap;
 
 // All of it, by value.
-#[derive(Drop)]
+#[derive(Clone, Copy)]
 pub struct Ground {
     pub grid: FrameGrid,
     pub gap: Gap,

@@ -8,7 +8,7 @@ use crate::ground::Ground;
 use crate::{place, reachable};
 
 // Where the piece that starts at a boundary ends: at the span's end, nowhere within the limit, or at a cut.
-#[derive(Drop)]
+#[derive(Clone, Copy)]
 pub enum Next {
     Whole,
     Stuck,

@@ -11,7 +11,7 @@ use candidate_span::{bounds, ending, listed};
 use plan_settings::config::Gap;
 
 // A piece ends at boundary `left`, the next starts at `right`.
-#[derive(Drop)]
+#[derive(Clone, Copy)]
 pub struct HeldCut {
     pub left: usize,
     pub right: usize,

@@ -12,7 +12,7 @@ use plan_pieces::answer;
 use plan_pieces::answer::Answer;
 
 // How many bytes a listing has, and the number of the refusal that it says, 0 where it has a plan.
-#[derive(Drop)]
+#[derive(Clone, Copy)]
 pub struct Answered {
     pub size: usize,
     pub refused: u32,

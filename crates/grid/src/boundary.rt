@@ -4,7 +4,7 @@ ghost use Rattle.grid.specs.Boundary.{Bounded, boundary_of, start_of, covers};
 
 // The numbers of a recording that its frame grid stands on.
 // Frame k holds the samples from boundary k up to boundary k + 1.
-#[derive(Drop)]
+#[derive(Clone, Copy)]
 pub struct FrameGrid {
     pub sample_rate: u32,
     pub frame_rate: u32,

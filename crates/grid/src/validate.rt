@@ -18,7 +18,7 @@ pub const MAX_FRAMES: usize = 1_048_576;
 pub const MAX_LEN: u64 = 1_099_511_627_776;
 
 // What the frame values of a recording measure.
-#[derive(Drop)]
+#[derive(Clone, Copy)]
 pub enum Domain {
     // Frame level in dBFS of the high-passed signal.
     Decibels,
@@ -27,7 +27,7 @@ pub enum Domain {
 }
 
 // The numbers of a recording. Its values, flags and levels are lent beside it.
-#[derive(Drop)]
+#[derive(Clone, Copy)]
 pub struct Recording {
     pub sample_rate: u32,
     pub channels: u16,
@@ -38,7 +38,7 @@ pub struct Recording {
 }
 
 // Whether a recording is accepted, or the first test that it fails.
-#[derive(Drop)]
+#[derive(Clone, Copy)]
 pub enum Validity {
     Valid,
     BadSampleRate,

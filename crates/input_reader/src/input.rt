@@ -3,14 +3,14 @@ ghost use Rattle.std.specs.Prelude.{◌<◌, ◌≡◌, length};
 ghost use Rattle.input_reader.specs.Input.{step_of, ReadBehind, Reads};
 
 // How many bytes were read, or that a read failed: the end of the input is no failure.
-#[derive(Drop)]
+#[derive(Clone, Copy)]
 pub enum Input {
     Read(usize),
     Failed,
 }
 
 // What an answer of `read` says: so many bytes more, the end of the input, or that the read failed.
-#[derive(Drop)]
+#[derive(Clone, Copy)]
 pub enum Step {
     More(usize),
     End,

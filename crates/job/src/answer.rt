@@ -7,7 +7,7 @@ use plan_settings::config::PlanConfig;
 use silence_list::config::SegmentConfig;
 
 // What a job asks for, but for its lists: these begin at a place of the job, and there is one value for each frame.
-#[derive(Drop)]
+#[derive(Clone, Copy)]
 pub struct Head {
     pub recording: Recording,
     pub segment: SegmentConfig,
@@ -17,7 +17,7 @@ pub struct Head {
 }
 
 // Why bytes are no job.
-#[derive(Drop)]
+#[derive(Clone, Copy)]
 pub enum Fault {
     TooLong,
     UnknownBit,
@@ -28,7 +28,7 @@ pub enum Fault {
 }
 
 // The job, or why there is none and the place where that shows.
-#[derive(Drop)]
+#[derive(Clone, Copy)]
 pub enum Reading {
     Job(Head),
     Refused(Fault, usize),

@@ -6,28 +6,28 @@ ghost use Rattle.job.specs.Fields.{u64_field, f32_field, kind_field, first_unkno
 use numbers_in::number;
 
 // A number, and the place behind it.
-#[derive(Drop)]
+#[derive(Clone, Copy)]
 pub struct NumberField {
     pub value: u64,
     pub next: usize,
 }
 
 // A float, and the place behind it.
-#[derive(Drop)]
+#[derive(Clone, Copy)]
 pub struct FloatField {
     pub value: f32,
     pub next: usize,
 }
 
 // Whether every kind is one that there is, or the place of the first that is not.
-#[derive(Drop)]
+#[derive(Clone, Copy)]
 pub enum Kinds {
     Known,
     Unknown(usize),
 }
 
 // The number of a kind, whether there is one of this number, and the place behind it.
-#[derive(Drop)]
+#[derive(Clone, Copy)]
 pub struct KindField {
     pub number: u8,
     pub kinds: Kinds,

@@ -16,7 +16,7 @@ pub const MOST_BYTES: usize = 8192;
 pub const MOST_FRAMES: usize = 511;
 
 // All of a job that comes before its lists, and the first kind in it that there is not.
-#[derive(Drop)]
+#[derive(Clone, Copy)]
 pub struct Numbers {
     pub head: Head,
     pub kinds: Kinds,

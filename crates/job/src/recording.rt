@@ -9,7 +9,7 @@ use kinds::flagged;
 use numbers_in::number;
 
 // The recording, whether its domain is known, how many frames it has, and the place behind.
-#[derive(Drop)]
+#[derive(Clone, Copy)]
 pub struct Recorded {
     pub recording: Recording,
     pub kinds: Kinds,

@@ -9,7 +9,7 @@ use silence_levels::threshold::Threshold;
 use silence_list::config::SegmentConfig;
 
 // The threshold, whether its kind is known, and the place behind it.
-#[derive(Drop)]
+#[derive(Clone, Copy)]
 pub struct ThresholdField {
     pub threshold: Threshold,
     pub kinds: Kinds,
@@ -17,7 +17,7 @@ pub struct ThresholdField {
 }
 
 // Four durations, and the place behind them.
-#[derive(Drop)]
+#[derive(Clone, Copy)]
 pub struct Durations {
     pub min_silence: u64,
     pub min_sound: u64,
@@ -27,7 +27,7 @@ pub struct Durations {
 }
 
 // The segment settings, whether their kind is known, and the place behind them.
-#[derive(Drop)]
+#[derive(Clone, Copy)]
 pub struct Segment {
     pub segment: SegmentConfig,
     pub kinds: Kinds,

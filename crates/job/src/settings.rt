@@ -12,7 +12,7 @@ use path_pieces::weights::Weights;
 use plan_settings::config::{Gap, Placement, PlanConfig};
 
 // How long pieces should be, and the place behind these fields.
-#[derive(Drop)]
+#[derive(Clone, Copy)]
 pub struct LengthFields {
     pub min: u64,
     pub target: u64,
@@ -21,14 +21,14 @@ pub struct LengthFields {
 }
 
 // The mode, and the place behind it.
-#[derive(Drop)]
+#[derive(Clone, Copy)]
 pub struct ModeField {
     pub mode: Mode,
     pub next: usize,
 }
 
 // The placement, whether its kind is known, and the place behind it.
-#[derive(Drop)]
+#[derive(Clone, Copy)]
 pub struct PlacementField {
     pub placement: Placement,
     pub kinds: Kinds,
@@ -36,7 +36,7 @@ pub struct PlacementField {
 }
 
 // What is asked for besides lengths and costs.
-#[derive(Drop)]
+#[derive(Clone, Copy)]
 pub struct Shape {
     pub mode: Mode,
     pub gap: Gap,
@@ -46,14 +46,14 @@ pub struct Shape {
 }
 
 // The weights, and the place behind them.
-#[derive(Drop)]
+#[derive(Clone, Copy)]
 pub struct WeightsField {
     pub weights: Weights,
     pub next: usize,
 }
 
 // The settings of a plan, whether their kinds are known, and the place behind them.
-#[derive(Drop)]
+#[derive(Clone, Copy)]
 pub struct Settings {
     pub settings: PlanConfig,
     pub kinds: Kinds,

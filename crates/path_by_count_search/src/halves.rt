@@ -12,7 +12,7 @@ use path_pieces::score;
 use path_pieces::score::Score;
 
 // A half: its node, its range, and its outlook.
-#[derive(Drop)]
+#[derive(Clone, Copy)]
 pub struct Half {
     pub node: usize,
     pub lo: usize,
@@ -21,7 +21,7 @@ pub struct Half {
 }
 
 // Two halves, the one with the better outlook first.
-#[derive(Drop)]
+#[derive(Clone, Copy)]
 pub struct Ordered {
     pub first: Half,
     pub second: Half,

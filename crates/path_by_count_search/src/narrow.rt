@@ -11,7 +11,7 @@ use crate::{range, visit};
 use path_pieces::best::Best;
 
 // A node with its range.
-#[derive(Drop)]
+#[derive(Clone, Copy)]
 pub struct Place {
     pub node: usize,
     pub lo: usize,

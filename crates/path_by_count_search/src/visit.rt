@@ -24,7 +24,7 @@ pub const FEW: usize = 16;
 //
 // Of the preferences it holds the five numbers that a length's cost and its bound look at: every call of `visit` copies
 // the query, and the weights of a cut made it slower by up to 8 %.
-#[derive(Drop)]
+#[derive(Clone, Copy)]
 pub struct Query {
     pub min: f64,
     pub target: f64,

@@ -13,7 +13,7 @@ use path_pieces::score::Score;
 use path_pieces::{lengths, score};
 
 // How far a walk back has come: the best of the candidates from `at` on.
-#[derive(Drop)]
+#[derive(Clone, Copy)]
 pub struct Walk {
     pub best: Best,
     pub at: usize,

@@ -19,7 +19,7 @@ use path_rules::solved::Solved;
 use path_tests::refusal::Refusal;
 
 // What the operation answers: the path's score and the number of its candidates, or why it wrote none.
-#[derive(Drop)]
+#[derive(Clone, Copy)]
 pub enum Answer {
     Found(Solved),
     Refused(Refusal),

@@ -7,7 +7,7 @@ use crate::weights::Weights;
 
 // What is preferred of a piece's length: the minimum and the target, the limit that it should not pass, and the
 // weights, of which those of being off the target and below the minimum count here.
-#[derive(Drop)]
+#[derive(Clone, Copy)]
 pub struct Lengths {
     pub min: f64,
     pub target: f64,

@@ -1,7 +1,7 @@
 // What a path is asked for.
 
 // Any number of pieces, or exactly this many where there are candidates enough.
-#[derive(Drop)]
+#[derive(Clone, Copy)]
 pub enum Mode {
     ByLength,
     ByCount(u32),

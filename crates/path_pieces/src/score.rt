@@ -8,7 +8,7 @@ use crate::lengths;
 use crate::lengths::Lengths;
 
 // How many pieces are over the limit, and what the path costs.
-#[derive(Drop)]
+#[derive(Clone, Copy)]
 pub struct Score {
     pub over: u32,
     pub cost: f64,

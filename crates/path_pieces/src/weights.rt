@@ -4,7 +4,7 @@ ghost use Rattle.std.specs.Prelude.{◌≡◌};
 ghost use Rattle.path_pieces.specs.Pieces.{length_weights};
 
 // Document 01's weights.
-#[derive(Drop)]
+#[derive(Clone, Copy)]
 pub struct Weights {
     // Fixed cost of every cut. Keeps free cuts in digital silence from multiplying.
     pub cut: f64,

@@ -2,7 +2,7 @@
 use path_pieces::score::Score;
 
 // A path's score and the number of its candidates.
-#[derive(Drop)]
+#[derive(Clone, Copy)]
 pub struct Solved {
     pub score: Score,
     pub len: usize,

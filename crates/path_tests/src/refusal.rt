@@ -11,7 +11,7 @@ use path_pieces::mode::Mode;
 const MAX_COUNT: u32 = 1048576;
 
 // Why a test fails.
-#[derive(Drop)]
+#[derive(Clone, Copy)]
 pub enum Refusal {
     BadLists,
     BadEnds,
@@ -21,7 +21,7 @@ pub enum Refusal {
 }
 
 // What the tests say: that none fails, or the first that does.
-#[derive(Drop)]
+#[derive(Clone, Copy)]
 pub enum Verdict {
     Fine,
     Fails(Refusal),

@@ -2,6 +2,8 @@
 // costs moved, the walk back; and whether the parent list is long enough.
 // Contracts cite specs/Within for the parts of a list, specs/Positions for the ends in samples, specs/Back for the walk
 // and specs/Parents.
+#![tactic(auto)]
+
 pub mod back;
 pub mod copy;
 pub mod parents;

@@ -6,7 +6,7 @@ use plan_tests::refusal;
 use plan_tests::refusal::Refusal;
 
 // How many pieces the plan has, or why there is none.
-#[derive(Drop)]
+#[derive(Clone, Copy)]
 pub enum Answer {
     Planned(usize),
     Refused(Refusal),

@@ -7,7 +7,7 @@ ghost use Rattle.plan_pieces.specs.Drawn.{Drawn};
 use crate::flags;
 
 // Where a piece lies, in samples.
-#[derive(Drop)]
+#[derive(Clone, Copy)]
 pub struct PieceEnds {
     pub start: u64,
     pub end: u64,

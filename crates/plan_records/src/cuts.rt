@@ -7,7 +7,7 @@ ghost use Rattle.plan_records.specs.Cuts.{reason_of, cut_of};
 // Laid out as C does: two 64-bit numbers and a byte, 24 bytes.
 // A number leaves the byte free in memory that C lends, where an enum would not.
 #[repr(C)]
-#[derive(Drop)]
+#[derive(Clone, Copy)]
 pub struct Cut {
     pub previous_end: u64,
     pub next_start: u64,

@@ -1,5 +1,7 @@
 // The pieces and cuts of a plan as records, each made of its three numbers.
 // Contracts cite the file of specs/ that has the module's name, and Records.
 // capi writes whole lists of them; what its proofs by hand cite of such a function stands in proofs/.
+#![tactic(auto)]
+
 pub mod cuts;
 pub mod pieces;

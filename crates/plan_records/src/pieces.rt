@@ -6,7 +6,7 @@ ghost use Rattle.plan_records.specs.Pieces.{piece_of};
 // A piece of the recording, from sample `start` to the one before `end`.
 // Laid out as C does: two 64-bit numbers and two bools, 24 bytes.
 #[repr(C)]
-#[derive(Drop)]
+#[derive(Clone, Copy)]
 pub struct Piece {
     pub start: u64,
     pub end: u64,

@@ -3,7 +3,7 @@ use path_pieces::mode::Mode;
 use path_pieces::weights::Weights;
 
 // What happens to the silence at a cut.
-#[derive(Drop)]
+#[derive(Clone, Copy)]
 pub enum Gap {
     // Nothing is dropped: the pieces joined in order are the recording.
     Keep,
@@ -13,7 +13,7 @@ pub enum Gap {
 }
 
 // Where to cut inside a silence that is longer than its padding.
-#[derive(Drop)]
+#[derive(Clone, Copy)]
 pub enum Placement {
     // At the lowest smoothed level.
     Quietest,
@@ -24,7 +24,7 @@ pub enum Placement {
 }
 
 // How long pieces shall be, in time or by their number, what becomes of silence, and what cuts and lengths cost.
-#[derive(Drop)]
+#[derive(Clone, Copy)]
 pub struct PlanConfig {
     pub min: u64,
     pub target: u64,

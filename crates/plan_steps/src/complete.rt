@@ -67,7 +67,7 @@ fn mark_cuts(x: Ground, count: usize, limit: u64, work_u32: &mut [u32])
 }
 
 // Under which limit the candidates are completed by count, and how many there are then.
-#[derive(Drop)]
+#[derive(Clone, Copy)]
 pub struct Completed {
     pub limit: u64,
     pub candidates: usize,

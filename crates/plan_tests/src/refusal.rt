@@ -7,7 +7,7 @@ use plan_settings::config::PlanConfig;
 use silence_list::config::SegmentConfig;
 
 // Why a test fails.
-#[derive(Drop)]
+#[derive(Clone, Copy)]
 pub enum Refusal {
     BadRecording(Validity),
     BadDurations,
@@ -19,7 +19,7 @@ pub enum Refusal {
 }
 
 // What the tests say: that none fails, or the first that does.
-#[derive(Drop)]
+#[derive(Clone, Copy)]
 pub enum Verdict {
     Fine,
     Fails(Refusal),

@@ -1,5 +1,7 @@
 // Shows the frame grid of document 01's recording R: its frames, which lengths its seven frames cover, and durations on
 // its grid.
+#![tactic(auto)]
+
 use capi::{convert, recording};
 
 const SAMPLE_RATE: u32 = 1_000;

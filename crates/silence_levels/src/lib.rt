@@ -1,5 +1,7 @@
 // The levels of a recording: percentiles 10 and 99 of the frames with signal, and the thresholds of sound.
 // Contracts cite specs/Levels; laws about its definitions stand in specs/LevelsLaws.
+#![tactic(auto)]
+
 pub mod keys;
 pub mod percentile;
 pub mod select;

@@ -4,14 +4,14 @@ ghost use Rattle.silence_levels.specs.Select.{counts_of, hits, total_count, Digi
 ghost use Rattle.silence_levels.specs.Sorted.{sorted};
 
 // Where a rank falls in a table of counts: the digit, and the rank among the keys with that digit.
-#[derive(Drop)]
+#[derive(Clone, Copy)]
 pub struct Place {
     pub digit: usize,
     pub rank: usize,
 }
 
 // The keys whose bits above a shift are `prefix`, and a rank among them.
-#[derive(Drop)]
+#[derive(Clone, Copy)]
 pub struct Block {
     pub prefix: u32,
     pub rank: usize,

@@ -6,7 +6,7 @@ use base_code::floats;
 use grid::validate::Domain;
 
 // How the thresholds are chosen: decibels for a recording of decibels, probabilities for scores.
-#[derive(Drop)]
+#[derive(Clone, Copy)]
 pub enum Threshold {
     // Derived from the recording itself, with hysteresis.
     Auto,
@@ -17,7 +17,7 @@ pub enum Threshold {
 }
 
 // The levels of one recording under one threshold setting.
-#[derive(Drop)]
+#[derive(Clone, Copy)]
 pub struct Levels {
     // Percentile 10 of the values of frames with signal.
     pub floor: f32,
@@ -30,7 +30,7 @@ pub struct Levels {
 }
 
 // The two thresholds of a recording alone.
-#[derive(Drop)]
+#[derive(Clone, Copy)]
 pub struct Thresholds {
     pub on: f32,
     pub off: f32,

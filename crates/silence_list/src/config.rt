@@ -7,7 +7,7 @@ use grid::durations;
 use silence_levels::threshold::Threshold;
 
 // Durations are in nanoseconds.
-#[derive(Drop)]
+#[derive(Clone, Copy)]
 pub struct SegmentConfig {
     pub threshold: Threshold,
     // Silence shorter than this counts as sound, so stop closures inside words stay whole.

@@ -13,7 +13,7 @@ use grid::validate::Recording;
 use silence_runs::one_pass;
 
 // What the operation answers: how many silences it wrote, or why it wrote none.
-#[derive(Drop)]
+#[derive(Clone, Copy)]
 pub enum Answer {
     Found(usize),
     Refused(Refusal),

@@ -9,7 +9,7 @@ use grid::validate;
 use grid::validate::{Recording, Validity};
 
 // Why a test fails.
-#[derive(Drop)]
+#[derive(Clone, Copy)]
 pub enum Refusal {
     BadRecording(Validity),
     LongDuration,
@@ -18,7 +18,7 @@ pub enum Refusal {
 }
 
 // What the tests say: that none fails, or the first that does.
-#[derive(Drop)]
+#[derive(Clone, Copy)]
 pub enum Verdict {
     Fine,
     Fails(Refusal),

@@ -2,6 +2,8 @@
 // is. The contract of `one_pass::list_silences` cites specs/Sounds and specs/Silences, where hysteresis and the two
 // fillings are definitions on lists of sound flags; that of `quiet::quiet_runs` cites specs/Quiet. Laws about them
 // stand beside them.
+#![tactic(auto)]
+
 pub mod fill;
 pub mod one_pass;
 pub mod quiet;
