@@ -6,8 +6,7 @@ use Rattle.base_terms.specs.Floats.{nought, nonneg}
 use Rattle.base_laws.specs.Order.{float_lt-le, float_lt-le_trans, float_le-lt_trans}
 use Rattle.base_laws.specs.Sums.{float_add-nonneg, float_add_mono}
 use Rattle.base_code.specs.RoundLaws.{doubled}
-use Rattle.base_code.proofs.floats.round_half_away.Statement.{statement}
-use Rattle.base_code.proofs.floats.round_half_away.Tie as tie
+use Rattle.base_code.proofs.floats.round_half_away.Goals as goal
 
 -- the double of a value from 0 up to 2^52 lies between −1 and 2^64
 low : (x : Float) → T (nonneg x) → T (lt (fin true 1 (pos 0)) (add binary64 x x))
@@ -19,18 +18,15 @@ high x n t =
     float_le-lt_trans (add binary64 x x) (add binary64 (fin false 1 (pos 52)) (fin false 1 (pos 52))) (fin false 1 (pos 64))
     (float_add_mono binary64 x (fin false 1 (pos 52)) x (fin false 1 (pos 52)) n n l l) (unfold lt add in tt)
 
-truncating-f64-to-u64-requires : tie.Need-truncating-f64-to-u64-requires
-truncating-f64-to-u64-requires c κs = (low c.args.x c.requires.0, high c.args.x c.requires.0 c.requires.1)
+pub truncating_f64_to_u64-requires : goal.truncating_f64_to_u64-requires
+truncating_f64_to_u64-requires c = record { lower_bound = low c.args.x c.requires.t; upper_bound = high c.args.x c.requires.t c.requires.t_2 }
 
-add-result : tie.Need-overflow-add-result
-add-result c =
-    let d = doubled c.before.args.x (holds c.before.well-formed.0.1) c.before.requires.0 c.before.requires.1 in
-    omega (arith, d.within, c.truncating-f64-to-u64.ensures)
+pub overflow_add-result : goal.overflow_add-result
+overflow_add-result c =
+    let d = doubled c.args.x (holds c.well_formed.0.1) c.requires.t c.requires.t_2 in
+    omega (arith, d.within, c.truncating_f64_to_u64.ensures)
 
-returns : tie.Need-returns
+pub returns : goal.returns
 returns c =
-    let d = doubled c.before.args.x (holds c.before.well-formed.0.1) c.before.requires.0 c.before.requires.1 in
-    ap (λ (n : ℕ). (n + 1) / 2) c.truncating-f64-to-u64.ensures ∙ d.rounds
-
-pub round-half-away-spec : {M : Type 1} → statement M
-round-half-away-spec = tie.close (tie.spec truncating-f64-to-u64-requires add-result returns)
+    let d = doubled c.args.x (holds c.well_formed.0.1) c.requires.t c.requires.t_2 in
+    ap (λ (n : ℕ). (n + 1) / 2) c.truncating_f64_to_u64.ensures ∙ d.rounds

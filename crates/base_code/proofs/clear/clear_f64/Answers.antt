@@ -1,0 +1,11 @@
+-- `clear::clear_f64` fills the list with zero from the left.
+use Rattle.std.proofs.Common.{rules}
+use lib.Ieee.{binary64, of_bits}
+use Rattle.base_code.specs.ListsLaws.{filling_next, filling_done}
+use Rattle.base_code.proofs.clear.clear_f64.Goals as goal
+
+pub loop-i-preserved : goal.loop-i-preserved
+loop-i-preserved c = filling_next (of_bits binary64 0) _ _ _ _ (search rules) c.loop-i.invariant
+
+pub returns : goal.returns
+returns c = filling_done (of_bits binary64 0) _ _ _ _ (search rules) c.loop-i.invariant
