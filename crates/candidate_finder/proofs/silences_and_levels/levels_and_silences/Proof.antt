@@ -25,7 +25,7 @@ returns : tie.Need-returns
 unfolding onto
 returns c =
     let s = c.before.before.before.before.before.before.before.before.before.before.before.before.before in
-    (c.before.before.before.before.before.before.before.before.needed_levels_lem.ensures, silences-front s.args.r s.args.segment s.args.values.now s.args.flags.now c.before.before.before.before.before.before.before.before.needed_levels_lem.result _ _ c.before.before.before.before.before.before.before.before.needed_levels_lem.ensures c.before.before.before.before.before.frames-in.ensures c.before.before.before.before.frames-in2.ensures _ _ _ c.before.before.list-silences.ensures.0 c.before.before.list-silences.ensures.1)
+    (c.before.before.before.before.before.before.before.before.needed_levels.ensures, silences-front s.args.r s.args.segment s.args.values.now s.args.flags.now c.before.before.before.before.before.before.before.before.needed_levels.result _ _ c.before.before.before.before.before.before.before.before.needed_levels.ensures c.before.before.before.before.before.frames-in.ensures c.before.before.before.before.frames-in2.ensures _ _ _ c.before.before.list-silences.ensures.0 c.before.before.list-silences.ensures.1)
 
 pub levels-and-silences-spec : {M : Type 1} → statement M
 levels-and-silences-spec =

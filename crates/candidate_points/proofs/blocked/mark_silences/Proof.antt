@@ -42,7 +42,7 @@ part-mark-silence-end c = search rules
 
 mark-silence-requires : tie.Need-mark-silence-requires invariant-loop decreases-loop
 mark-silence-requires c κs =
-    marking_silent _ _ _ _ _ _ _ _ _ c.before.before.before.before.before.before.loop.invariant _ _ _ (search rules) c.before.before.before.start_at_lem.ensures c.before.end-at.ensures refl
+    marking_silent _ _ _ _ _ _ _ _ _ c.before.before.before.before.before.before.loop.invariant _ _ _ (search rules) c.before.before.before.start_at.ensures c.before.end-at.ensures refl
 
 add-i : tie.Need-overflow-add-i invariant-loop decreases-loop
 add-i c = search rules
@@ -53,7 +53,7 @@ loop-less c = search rules
 loop-again : tie.Need-loop-preserved invariant-loop decreases-loop
 loop-again c =
     marking_next _ _ _ _ _ _ _ _ _ c.before.before.before.before.before.before.before.before.before.loop.invariant _ _ _ (search rules)
-    c.before.before.before.before.before.before.start_at_lem.ensures c.before.before.before.before.end-at.ensures c.before.before.mark-silence.ensures
+    c.before.before.before.before.before.before.start_at.ensures c.before.before.before.before.end-at.ensures c.before.before.mark-silence.ensures
 
 same_length : tie.Need-same-length invariant-loop decreases-loop
 same_length c = search rules

@@ -23,7 +23,7 @@ returns-2 : tie.Need-returns-2
 returns-2 c =
     let s = c.before.before.before.before.before.before.before in
     let g : ◌≡◌ {A = Gap} s.args.gap Drop = cc in
-    ends_silent s.args.p s.args.silences.now s.args.gap g c.before.before.before.before.if1.false (sym c.before.all_silent_lem.ensures ∙ c.if2.true)
+    ends_silent s.args.p s.args.silences.now s.args.gap g c.before.before.before.before.if1.false (sym c.before.all_silent.ensures ∙ c.if2.true)
 
 first-requires : tie.Need-first-requires
 first-requires c κs = search rules
@@ -41,7 +41,7 @@ returns-4 : tie.Need-returns-4
 returns-4 c =
     let s = c.before.before.before.before.before.before.before.before.before in
     let g : ◌≡◌ {A = Gap} s.args.gap Drop = cc in
-    ends_sound s.args.p s.args.silences.now s.args.gap c.before.first.result c.last.result g c.before.before.before.before.before.before.if1.false (sym c.before.before.before.all_silent_lem.ensures ∙ c.before.before.if2.false)
+    ends_sound s.args.p s.args.silences.now s.args.gap c.before.first.result c.last.result g c.before.before.before.before.before.before.if1.false (sym c.before.before.before.all_silent.ensures ∙ c.before.before.if2.false)
     c.before.first.ensures c.last.ensures
 
 pub ends-spec : {M : Type 1} → statement M

@@ -13,7 +13,7 @@ start-at-requires c κs = search rules
 returns-2 : tie.Need-returns-2
 returns-2 c =
     let s = c.before.before.before.before in
-    first_unled s.args.silences.now c.before.before.if1.false s.args.p c.before.start_at_lem.result c.before.start_at_lem.ensures c.if2.true
+    first_unled s.args.silences.now c.before.before.if1.false s.args.p c.before.start_at.result c.before.start_at.ensures c.if2.true
 
 end-at-requires : tie.Need-end-at-requires
 end-at-requires c κs = search rules
@@ -24,8 +24,8 @@ less-requires c κs = search rules
 returns-3 : tie.Need-returns-3
 returns-3 c =
     let s = c.before.before.before.before.before.before in
-    first_led s.args.silences.now c.before.before.before.before.if1.false s.args.p c.before.before.before.start_at_lem.result c.before.end-at.result c.less.result
-    c.before.before.before.start_at_lem.ensures c.before.before.if2.false c.before.end-at.ensures c.less.ensures
+    first_led s.args.silences.now c.before.before.before.before.if1.false s.args.p c.before.before.before.start_at.result c.before.end-at.result c.less.result
+    c.before.before.before.start_at.ensures c.before.before.if2.false c.before.end-at.ensures c.less.ensures
 
 pub first_spec : {M : Type 1} → statement M
 first_spec =

@@ -30,8 +30,8 @@ after-requires c κs = search rules
 returns-3 : tie.Need-returns-3
 returns-3 c =
     let s = c.before.before.before.before.before.before.before in
-    last_trailed s.args.silences.now c.before.before.before.before.before.if1.false s.args.p c.before.before.before.before.end-at.result c.before.start_at_lem.result c.after.result
-    c.before.before.before.before.end-at.ensures c.before.before.if2.false c.before.start_at_lem.ensures c.after.ensures
+    last_trailed s.args.silences.now c.before.before.before.before.before.if1.false s.args.p c.before.before.before.before.end-at.result c.before.start_at.result c.after.result
+    c.before.before.before.before.end-at.ensures c.before.before.if2.false c.before.start_at.ensures c.after.ensures
 
 pub last-spec : {M : Type 1} → statement M
 last-spec =

@@ -38,7 +38,7 @@ loop-less c = search rules
 loop-again : tie.Need-loop-preserved invariant-loop decreases-loop
 loop-again c =
     next_gap_taken _ _ _ _ _ _ _ c.before.before.before.before.before.loop.invariant c.before.gap-width.result _ c.before.before.before.before.loop-test.true
-    (rw (c.before.before.before.start_at_lem.ensures, c.before.before.end-at.ensures) at c.before.gap-width.ensures) c.less2.ensures
+    (rw (c.before.before.before.start_at.ensures, c.before.before.end-at.ensures) at c.before.gap-width.ensures) c.less2.ensures
 
 returns : tie.Need-returns invariant-loop decreases-loop
 returns c = all_gaps_taken _ _ _ _ _ _ _ c.before.loop.invariant (search rules)

@@ -19,7 +19,7 @@ next-own-requires c κs =
 pass-all-requires : tie.Need-pass-all-requires
 pass-all-requires c κs =
     let p = c.before.before.before.before.before.before.before.before.before.before.before.requires in
-    (p, (all_ranged p c.before.before.before.before.before.before.before.inner-from.ensures c.before.before.before.before.before.inner-to.ensures, c.before.before.next_own_lem.ensures))
+    (p, (all_ranged p c.before.before.before.before.before.before.before.inner-from.ensures c.before.before.before.before.before.inner-to.ensures, c.before.before.next_own.ensures))
 
 node-requires : tie.Need-node-requires
 node-requires c κs = search rules

@@ -19,13 +19,13 @@ returns-2 : tie.Need-returns-2
 unfolding inner_from
 returns-2 c =
     let s = c.before.before.before.before in
-    rw (lt-ltb 0 s.args.silences (omega (arith, c.before.before.if1.false)), eq-eqb (start_at s.args.work-u32.now 0) 0 (sym c.before.start_at_lem.ensures ∙ c.if2.true))
+    rw (lt-ltb 0 s.args.silences (omega (arith, c.before.before.if1.false)), eq-eqb (start_at s.args.work-u32.now 0) 0 (sym c.before.start_at.ensures ∙ c.if2.true))
 
 returns-3 : tie.Need-returns-3
 unfolding inner_from
 returns-3 c =
     let s = c.before.before.before.before in
-    rw (lt-ltb 0 s.args.silences (omega (arith, c.before.before.if1.false)), ne_eqb (start_at s.args.work-u32.now 0) 0 (λ e. c.if2.false (c.before.start_at_lem.ensures ∙ e)))
+    rw (lt-ltb 0 s.args.silences (omega (arith, c.before.before.if1.false)), ne_eqb (start_at s.args.work-u32.now 0) 0 (λ e. c.if2.false (c.before.start_at.ensures ∙ e)))
 
 pub inner-from-spec : {M : Type 1} → statement M
 inner-from-spec = tie.close (tie.spec returns start-at-requires returns-2 returns-3)

@@ -21,7 +21,7 @@ with-point-requires c κs = search rules
 add-next-own : tie.Need-overflow-add-next-own
 add-next-own c =
     let s = c.before.before.before.before.before.before.before.before.before in
-    let q = own_parts s.args.w s.args.stop s.args.k (sym c.before.before.before.before.before.own_here_lem.ensures ∙ c.before.before.before.before.if1.true) in
+    let q = own_parts s.args.w s.args.stop s.args.k (sym c.before.before.before.before.before.own_here.ensures ∙ c.before.before.before.before.if1.true) in
     omega (arith, q.0, s.requires.stops, s.requires.holding.apart, s.requires.holding.few)
 
 next-own-requires : tie.Need-next-own-requires
@@ -31,12 +31,12 @@ put-requires : tie.Need-put-requires
 put-requires c κs =
     let s = c.before.before.before.before.before.before.before.before.before.before.before.before.before.before in
     let a = s.args in
-    own_puttable a.x a.silences a.stop a.k a.marked a.w a.work-u32.now a.work-f64.now (sym c.before.before.before.before.before.before.before.before.before.before.own_here_lem.ensures ∙ c.before.before.before.before.before.before.before.before.before.if1.true) c.before.before.before.before.before.before.with-point.result c.before.before.before.before.before.before.with-point.ensures s.requires
+    own_puttable a.x a.silences a.stop a.k a.marked a.w a.work-u32.now a.work-f64.now (sym c.before.before.before.before.before.before.before.before.before.before.own_here.ensures ∙ c.before.before.before.before.before.before.before.before.before.if1.true) c.before.before.before.before.before.before.with-point.result c.before.before.before.before.before.before.with-point.ensures s.requires
 
 add-t19 : tie.Need-overflow-add-t19
 add-t19 c =
     let s = c.before.before.before.before.before.before.before.before.before.before.before.before.before.before.before.before.before.before.before.before in
-    let q = own_parts s.args.w s.args.stop s.args.k (sym c.before.before.before.before.before.before.before.before.before.before.before.before.before.before.before.before.own_here_lem.ensures ∙ c.before.before.before.before.before.before.before.before.before.before.before.before.before.before.before.if1.true) in
+    let q = own_parts s.args.w s.args.stop s.args.k (sym c.before.before.before.before.before.before.before.before.before.before.before.before.before.before.before.before.own_here.ensures ∙ c.before.before.before.before.before.before.before.before.before.before.before.before.before.before.before.if1.true) in
     omega (arith, q.0, s.requires.stops, s.requires.holding.apart, s.requires.holding.few)
 
 add-t29 : tie.Need-overflow-add-t29
@@ -55,10 +55,10 @@ returns c =
     let n = a.x.padding.frames in
     let work = a.work-u32.now in
     let workf = a.work-f64.now in
-    let o = sym c.before.before.before.before.before.before.before.before.before.before.before.before.before.before.before.before.before.own_here_lem.ensures ∙ c.before.before.before.before.before.before.before.before.before.before.before.before.before.before.before.before.if1.true in
+    let o = sym c.before.before.before.before.before.before.before.before.before.before.before.before.before.before.before.before.before.own_here.ensures ∙ c.before.before.before.before.before.before.before.before.before.before.before.before.before.before.before.before.if1.true in
     let v = c.before.before.before.before.before.before.before.before.before.before.before.before.before.with-point in
     let h = own_here_lem a.x a.silences a.stop a.k a.marked a.w work workf o v.result v.ensures in
-    (own_walk a.x a.silences a.stop a.k a.marked a.w work workf o v.result v.ensures c.before.before.before.before.before.before.before.before.before.next_own_lem.result c.before.before.before.before.before.before.before.before.before.next_own_lem.ensures, (c.before.before.before.before.before.before.put.ensures.0 ∙ ap (λ (cs : List Candidate). placed (entries_at n + 3 * a.w.written) (entries_of cs) work) h, c.before.before.before.before.before.before.put.ensures.1 ∙ ap (λ (cs : List Candidate). placed (costs_at n + a.w.written) (costs_of cs) workf) h))
+    (own_walk a.x a.silences a.stop a.k a.marked a.w work workf o v.result v.ensures c.before.before.before.before.before.before.before.before.before.next_own.result c.before.before.before.before.before.before.before.before.before.next_own.ensures, (c.before.before.before.before.before.before.put.ensures.0 ∙ ap (λ (cs : List Candidate). placed (entries_at n + 3 * a.w.written) (entries_of cs) work) h, c.before.before.before.before.before.before.put.ensures.1 ∙ ap (λ (cs : List Candidate). placed (costs_at n + a.w.written) (costs_of cs) workf) h))
 
 point-in-requires : tie.Need-point-in-requires
 point-in-requires c κs = search rules
@@ -67,7 +67,7 @@ put-requires-2 : tie.Need-put-requires-2
 put-requires-2 c κs =
     let s = c.before.before.before.before.before.before.before.before.before.before.before in
     let a = s.args in
-    point_puttable a.x a.silences a.stop a.k a.marked a.w a.work-u32.now a.work-f64.now (sym c.before.before.before.before.before.before.before.own_here_lem.ensures ∙ c.before.before.before.before.before.before.if1.false) c.before.before.before.before.before.if2.true c.before.before.point-in.result c.before.before.point-in.ensures s.requires
+    point_puttable a.x a.silences a.stop a.k a.marked a.w a.work-u32.now a.work-f64.now (sym c.before.before.before.before.before.before.before.own_here.ensures ∙ c.before.before.before.before.before.before.if1.false) c.before.before.before.before.before.if2.true c.before.before.point-in.result c.before.before.point-in.ensures s.requires
 
 add-t40 : tie.Need-overflow-add-t40
 add-t40 c = search rules
@@ -85,7 +85,7 @@ returns-2 c =
     let n = a.x.padding.frames in
     let work = a.work-u32.now in
     let workf = a.work-f64.now in
-    let o = sym c.before.before.before.before.before.before.before.before.before.before.before.before.before.own_here_lem.ensures ∙ c.before.before.before.before.before.before.before.before.before.before.before.before.if1.false in
+    let o = sym c.before.before.before.before.before.before.before.before.before.before.before.before.before.own_here.ensures ∙ c.before.before.before.before.before.before.before.before.before.before.before.before.if1.false in
     let v = c.before.before.before.before.before.before.before.before.point-in in
     let h = point-here a.x a.silences a.stop a.k a.marked a.w work workf o c.before.before.before.before.before.before.before.before.before.before.before.if2.true v.result v.ensures in
     (point_walk a.x a.silences a.stop a.k a.marked a.w work workf o c.before.before.before.before.before.before.before.before.before.before.before.if2.true v.result v.ensures, (c.before.before.before.before.before.put2.ensures.0 ∙ ap (λ (cs : List Candidate). placed (entries_at n + 3 * a.w.written) (entries_of cs) work) h, c.before.before.before.before.before.put2.ensures.1 ∙ ap (λ (cs : List Candidate). placed (costs_at n + a.w.written) (costs_of cs) workf) h))
@@ -96,7 +96,7 @@ returns-3 c =
     let a = s.args in
     let work = a.work-u32.now in
     let workf = a.work-f64.now in
-    let o = sym c.before.before.own_here_lem.ensures ∙ c.before.if1.false in
+    let o = sym c.before.before.own_here.ensures ∙ c.before.if1.false in
     (none_walk a.x a.silences a.stop a.k a.marked a.w work workf o c.if2.false, (none_entries a.x a.silences a.stop a.k a.marked a.w work workf o c.if2.false, none_costs a.x a.silences a.stop a.k a.marked a.w work workf o c.if2.false))
 
 pub pass_spec : {M : Type 1} → statement M

@@ -68,7 +68,7 @@ loop-again c =
     let read = ap (λ (at : ℕ). not (eqb (get_or l.work-u32 (at + l.k) 0) 0)) c.before.before.before.before.before.before.marks-at.ensures in
     ⊎_elim
     (λ w. walk_next s.requires.0 s.requires.1.0 l.invariant t read (w.10 ∙ w.3.ensures.0) (w.8 ∙ w.3.ensures.1.0) (w.9 ∙ w.3.ensures.1.1))
-    (λ w. rw (w.1, w.2, w.3) (walk_none s.requires.0 s.requires.1.0 l.invariant t read (ap (λ (b : Bool). not (eqb (get_or l.work-u32 (c.before.before.before.before.before.before.marks-at.result + l.k) 0) 0) || b) (sym c.before.own_here_lem.ensures) ∙ w.0.left)))
+    (λ w. rw (w.1, w.2, w.3) (walk_none s.requires.0 s.requires.1.0 l.invariant t read (ap (λ (b : Bool). not (eqb (get_or l.work-u32 (c.before.before.before.before.before.before.marks-at.result + l.k) 0) 0) || b) (sym c.before.own_here.ensures) ∙ w.0.left)))
     c.if1.branch
 
 same_length : tie.Need-same-length invariant-loop decreases-loop

@@ -28,7 +28,7 @@ cut-cost-requires c κs = search rules
 returns : tie.Need-returns
 returns c =
     let s = c.before.before.before.before.before.before.before.before.before in
-    own_is s.args.x s.args.silences.now s.args.levels.now s.args.i c.before.before.before.before.before.before.start_at_lem.result c.before.before.before.before.before.end-at.result c.before.before.silence-cut.result c.before.secs-of.result c.cut_cost_lem.result c.before.before.before.before.before.before.start_at_lem.ensures c.before.before.before.before.before.end-at.ensures c.before.before.silence-cut.ensures c.before.secs-of.ensures c.cut_cost_lem.ensures
+    own_is s.args.x s.args.silences.now s.args.levels.now s.args.i c.before.before.before.before.before.before.start_at.result c.before.before.before.before.before.end-at.result c.before.before.silence-cut.result c.before.secs-of.result c.cut_cost.result c.before.before.before.before.before.before.start_at.ensures c.before.before.before.before.before.end-at.ensures c.before.before.silence-cut.ensures c.before.secs-of.ensures c.cut_cost.ensures
 
 pub own-spec : {M : Type 1} → statement M
 own-spec =

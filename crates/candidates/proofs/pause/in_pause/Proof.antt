@@ -24,12 +24,12 @@ silence-bounds-requires c κs = search rules
 returns-2 : tie.Need-returns-2
 returns-2 c =
     let s = c.before.before.before.before.before.before.before.before.before in
-    pause_before s.args.x s.args.silences.now s.args.k c.before.before.before.before.before.before.before.first-ending.result c.before.before.before.before.before.start_at_lem.result c.before.before.before.before.end-at.result c.before.before.silence-bounds.result s.requires c.before.before.before.before.before.before.before.first-ending.ensures c.before.before.before.before.before.before.if1.false c.before.before.before.before.before.start_at_lem.ensures c.before.before.before.before.end-at.ensures c.before.before.silence-bounds.ensures c.if2.true
+    pause_before s.args.x s.args.silences.now s.args.k c.before.before.before.before.before.before.before.first-ending.result c.before.before.before.before.before.start_at.result c.before.before.before.before.end-at.result c.before.before.silence-bounds.result s.requires c.before.before.before.before.before.before.before.first-ending.ensures c.before.before.before.before.before.before.if1.false c.before.before.before.before.before.start_at.ensures c.before.before.before.before.end-at.ensures c.before.before.silence-bounds.ensures c.if2.true
 
 returns-3 : tie.Need-returns-3
 returns-3 c =
     let s = c.before.before.before.before.before.before.before.before.before.before in
-    pause_from s.args.x s.args.silences.now s.args.k c.before.before.before.before.before.before.before.before.first-ending.result c.before.before.before.before.before.before.start_at_lem.result c.before.before.before.before.before.end-at.result c.before.before.before.silence-bounds.result s.requires c.before.before.before.before.before.before.before.before.first-ending.ensures c.before.before.before.before.before.before.before.if1.false c.before.before.before.before.before.before.start_at_lem.ensures c.before.before.before.before.before.end-at.ensures c.before.before.before.silence-bounds.ensures c.before.if2.false
+    pause_from s.args.x s.args.silences.now s.args.k c.before.before.before.before.before.before.before.before.first-ending.result c.before.before.before.before.before.before.start_at.result c.before.before.before.before.before.end-at.result c.before.before.before.silence-bounds.result s.requires c.before.before.before.before.before.before.before.before.first-ending.ensures c.before.before.before.before.before.before.before.if1.false c.before.before.before.before.before.before.start_at.ensures c.before.before.before.before.before.end-at.ensures c.before.before.before.silence-bounds.ensures c.before.if2.false
 
 pub in-pause-spec : {M : Type 1} → statement M
 in-pause-spec =

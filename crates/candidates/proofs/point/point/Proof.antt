@@ -25,7 +25,7 @@ point-reason-requires c κs = search rules
 returns : tie.Need-returns
 returns c =
     let s = c.before.before.before.before.before.before.before.before.before in
-    point_is s.args.x s.args.silences.now s.args.levels.now s.args.runs.now s.args.k c.before.before.before.before.before.stretch-at.result c.before.before.before.before.secs-of.result c.before.cut_cost_lem.result c.point-reason.result c.before.before.before.before.before.stretch-at.ensures c.before.before.before.before.secs-of.ensures c.before.cut_cost_lem.ensures c.point-reason.ensures
+    point_is s.args.x s.args.silences.now s.args.levels.now s.args.runs.now s.args.k c.before.before.before.before.before.stretch-at.result c.before.before.before.before.secs-of.result c.before.cut_cost.result c.point-reason.result c.before.before.before.before.before.stretch-at.ensures c.before.before.before.before.secs-of.ensures c.before.cut_cost.ensures c.point-reason.ensures
 
 pub point-spec : {M : Type 1} → statement M
 point-spec =

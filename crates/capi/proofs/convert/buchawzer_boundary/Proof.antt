@@ -10,13 +10,13 @@ grid-args-requires : tie.Need-grid-args-requires
 grid-args-requires c κs = search rules
 
 returns : tie.Need-returns
-returns c = rw (← c.before.grid_args_lem.ensures, not-true c.before.grid_args_lem.result c.if1.true)
+returns c = rw (← c.before.grid_args.ensures, not-true c.before.grid_args.result c.if1.true)
 
 position-requires : tie.Need-position-requires
-position-requires c κs = grid_args_lem _ (sym c.before.grid_args_lem.ensures ∙ not-false c.before.grid_args_lem.result c.if1.false)
+position-requires c κs = grid_args_lem _ (sym c.before.grid_args.ensures ∙ not-false c.before.grid_args.result c.if1.false)
 
 returns-2 : tie.Need-returns-2
-returns-2 c = rw (← c.before.before.grid_args_lem.ensures, not-false c.before.before.grid_args_lem.result c.before.if1.false) c.position.ensures
+returns-2 c = rw (← c.before.before.grid_args.ensures, not-false c.before.before.grid_args.result c.before.if1.false) c.position.ensures
 
 pub buchawzer-boundary-spec : {M : Type 1} → statement M
 buchawzer-boundary-spec = tie.close (tie.spec grid-args-requires returns position-requires returns-2)

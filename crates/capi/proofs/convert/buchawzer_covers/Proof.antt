@@ -10,13 +10,13 @@ grid-args-requires : tie.Need-grid-args-requires
 grid-args-requires c κs = search rules
 
 returns : tie.Need-returns
-returns c = rw (← c.before.grid_args_lem.ensures, not-true c.before.grid_args_lem.result c.if1.true)
+returns c = rw (← c.before.grid_args.ensures, not-true c.before.grid_args.result c.if1.true)
 
 covered-requires : tie.Need-covered-requires
-covered-requires c κs = grid_args_lem _ (sym c.before.grid_args_lem.ensures ∙ not-false c.before.grid_args_lem.result c.if1.false)
+covered-requires c κs = grid_args_lem _ (sym c.before.grid_args.ensures ∙ not-false c.before.grid_args.result c.if1.false)
 
 returns-2 : tie.Need-returns-2
-returns-2 c = rw (← c.before.before.grid_args_lem.ensures, not-false c.before.before.grid_args_lem.result c.before.if1.false) c.covered.ensures
+returns-2 c = rw (← c.before.before.grid_args.ensures, not-false c.before.before.grid_args.result c.before.if1.false) c.covered.ensures
 
 pub buchawzer-covers-spec : {M : Type 1} → statement M
 buchawzer-covers-spec = tie.close (tie.spec grid-args-requires returns covered-requires returns-2)

@@ -10,13 +10,13 @@ frames-args-requires c κs = search rules
 
 returns : tie.Need-returns
 unfolding of_bits neg
-returns c = rw (← c.before.frames_args_lem.ensures, not-true c.before.frames_args_lem.result c.if1.true)
+returns c = rw (← c.before.frames_args.ensures, not-true c.before.frames_args.result c.if1.true)
 
 frame-secs-requires : tie.Need-frame-secs-requires
 frame-secs-requires c κs = search rules
 
 returns-2 : tie.Need-returns-2
-returns-2 c = rw (← c.before.before.frames_args_lem.ensures, not-false c.before.before.frames_args_lem.result c.before.if1.false) c.frame-secs.ensures
+returns-2 c = rw (← c.before.before.frames_args.ensures, not-false c.before.before.frames_args.result c.before.if1.false) c.frame-secs.ensures
 
 pub buchawzer-frame-secs-spec : {M : Type 1} → statement M
 buchawzer-frame-secs-spec = tie.close (tie.spec frames-args-requires returns frame-secs-requires returns-2)

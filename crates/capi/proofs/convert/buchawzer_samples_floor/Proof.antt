@@ -10,13 +10,13 @@ samples-args-requires : tie.Need-samples-args-requires
 samples-args-requires c κs = search rules
 
 returns : tie.Need-returns
-returns c = rw (← c.before.samples_args_lem.ensures, not-true c.before.samples_args_lem.result c.if1.true)
+returns c = rw (← c.before.samples_args.ensures, not-true c.before.samples_args.result c.if1.true)
 
 samples-floor-requires : tie.Need-samples-floor-requires
-samples-floor-requires c κs = samples_args_lem _ _ (sym c.before.samples_args_lem.ensures ∙ not-false c.before.samples_args_lem.result c.if1.false)
+samples-floor-requires c κs = samples_args_lem _ _ (sym c.before.samples_args.ensures ∙ not-false c.before.samples_args.result c.if1.false)
 
 returns-2 : tie.Need-returns-2
-returns-2 c = rw (← c.before.before.samples_args_lem.ensures, not-false c.before.before.samples_args_lem.result c.before.if1.false) c.samples-floor.ensures
+returns-2 c = rw (← c.before.before.samples_args.ensures, not-false c.before.before.samples_args.result c.before.if1.false) c.samples-floor.ensures
 
 pub buchawzer-samples-floor-spec : {M : Type 1} → statement M
 buchawzer-samples-floor-spec = tie.close (tie.spec samples-args-requires returns samples-floor-requires returns-2)

@@ -12,13 +12,13 @@ samples-args-requires c κs = search rules
 
 returns : tie.Need-returns
 unfolding of_bits neg
-returns c = rw (← c.before.samples_args_lem.ensures, not-true c.before.samples_args_lem.result c.if1.true)
+returns c = rw (← c.before.samples_args.ensures, not-true c.before.samples_args.result c.if1.true)
 
 samples-in-requires : tie.Need-samples-in-requires
-samples-in-requires c κs = samples_args_lem _ _ (sym c.before.samples_args_lem.ensures ∙ not-false c.before.samples_args_lem.result c.if1.false)
+samples-in-requires c κs = samples_args_lem _ _ (sym c.before.samples_args.ensures ∙ not-false c.before.samples_args.result c.if1.false)
 
 returns-2 : tie.Need-returns-2
-returns-2 c = rw (← c.before.before.samples_args_lem.ensures, not-false c.before.before.samples_args_lem.result c.before.if1.false) c.samples-in.ensures
+returns-2 c = rw (← c.before.before.samples_args.ensures, not-false c.before.before.samples_args.result c.before.if1.false) c.samples-in.ensures
 
 pub buchawzer-samples-in-spec : {M : Type 1} → statement M
 buchawzer-samples-in-spec = tie.close (tie.spec samples-args-requires returns samples-in-requires returns-2)

@@ -10,13 +10,13 @@ samples-args-requires c κs = search rules
 
 returns : tie.Need-returns
 unfolding of_bits neg
-returns c = rw (← c.before.samples_args_lem.ensures, not-true c.before.samples_args_lem.result c.if1.true)
+returns c = rw (← c.before.samples_args.ensures, not-true c.before.samples_args.result c.if1.true)
 
 as-secs-f64-requires : tie.Need-as-secs-f64-requires
 as-secs-f64-requires c κs = search rules
 
 returns-2 : tie.Need-returns-2
-returns-2 c = rw (← c.before.before.samples_args_lem.ensures, not-false c.before.before.samples_args_lem.result c.before.if1.false) c.as_secs_f64.ensures
+returns-2 c = rw (← c.before.before.samples_args.ensures, not-false c.before.before.samples_args.result c.before.if1.false) c.as_secs_f64.ensures
 
 pub buchawzer-seconds-spec : {M : Type 1} → statement M
 buchawzer-seconds-spec = tie.close (tie.spec samples-args-requires returns as-secs-f64-requires returns-2)

@@ -36,8 +36,8 @@ returns c =
     let l = c.before.before.before.before.before.loop in
     record {
       counting = l.invariant;
-      here = counted_here a.p a.silences.now a.at l.i l.removed l.invariant c.before.before.before.before.loop-test.true c.before.before.before.start_at_lem.result c.before.before.end-at.result
-          c.before.before.before.start_at_lem.ensures c.before.before.end-at.ensures c.before.is-ahead.result c.before.is-ahead.ensures c.if1.true;
+      here = counted_here a.p a.silences.now a.at l.i l.removed l.invariant c.before.before.before.before.loop-test.true c.before.before.before.start_at.result c.before.before.end-at.result
+          c.before.before.before.start_at.ensures c.before.before.end-at.ensures c.before.is-ahead.result c.before.is-ahead.ensures c.if1.true;
     }
 
 gap-width-requires : tie.Need-gap-width-requires invariant-loop decreases-loop
@@ -52,7 +52,7 @@ add-removed c =
       c.gap-width.ensures,
       c.before.before.before.before.before.before.before.before.requires.1,
       counting_width a.p a.silences.now a.at l.i l.removed l.invariant c.before.before.before.before.before.loop-test.true
-          c.before.before.before.before.start_at_lem.result c.before.before.before.end-at.result c.before.before.before.before.start_at_lem.ensures c.before.before.before.end-at.ensures,
+          c.before.before.before.before.start_at.result c.before.before.before.end-at.result c.before.before.before.before.start_at.ensures c.before.before.before.end-at.ensures,
     )
 
 add-i : tie.Need-overflow-add-i invariant-loop decreases-loop
@@ -65,8 +65,8 @@ loop-again : tie.Need-loop-preserved invariant-loop decreases-loop
 loop-again c =
     let a = c.before.before.before.before.before.before.before.before.args in
     let l = c.before.before.before.before.before.before.loop in
-    counting_next a.p a.silences.now a.at l.i l.removed l.invariant c.before.before.before.before.before.loop-test.true c.before.before.before.before.start_at_lem.result c.before.before.before.end-at.result
-    c.before.before.before.before.start_at_lem.ensures c.before.before.before.end-at.ensures c.before.before.is-ahead.result c.before.before.is-ahead.ensures c.before.if1.false c.gap-width.result c.gap-width.ensures
+    counting_next a.p a.silences.now a.at l.i l.removed l.invariant c.before.before.before.before.before.loop-test.true c.before.before.before.before.start_at.result c.before.before.before.end-at.result
+    c.before.before.before.before.start_at.ensures c.before.before.before.end-at.ensures c.before.before.is-ahead.result c.before.before.is-ahead.ensures c.before.if1.false c.gap-width.result c.gap-width.ensures
 
 returns-2 : tie.Need-returns-2 invariant-loop decreases-loop
 returns-2 c =

@@ -31,14 +31,14 @@ returns-2 : tie.Need-returns-2
 returns-2 c =
     let s = c.before.before.before.before.before.before.before.before in
     dropped-held s.args.p s.args.silences.now s.args.k c.before.before.before.before.before.before.first-ending.result s.requires c.before.before.before.before.before.before.first-ending.ensures
-    c.before.before.before.before.start_at_lem.result c.before.before.before.end-at.result c.before.before.before.before.start_at_lem.ensures c.before.before.before.end-at.ensures c.before.before.is_held_lem.result c.before.before.is_held_lem.ensures
+    c.before.before.before.before.start_at.result c.before.before.before.end-at.result c.before.before.before.before.start_at.ensures c.before.before.before.end-at.ensures c.before.before.is_held.result c.before.before.is_held.ensures
     c.before.before.before.before.before.if1.false c.before.if2.true c.silence-bounds.result c.silence-bounds.ensures
 
 returns-3 : tie.Need-returns-3
 returns-3 c =
     let s = c.before.before.before.before.before.before.before in
     dropped_unheld s.args.p s.args.silences.now s.args.k c.before.before.before.before.before.first-ending.result s.requires c.before.before.before.before.before.first-ending.ensures
-    c.before.before.before.start_at_lem.result c.before.before.end-at.result c.before.before.before.start_at_lem.ensures c.before.before.end-at.ensures c.before.is_held_lem.result c.before.is_held_lem.ensures c.if2.false
+    c.before.before.before.start_at.result c.before.before.end-at.result c.before.before.before.start_at.ensures c.before.before.end-at.ensures c.before.is_held.result c.before.is_held.ensures c.if2.false
 
 pub dropped-place-spec : {M : Type 1} → statement M
 dropped-place-spec =

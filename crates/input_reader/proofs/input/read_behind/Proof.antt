@@ -30,7 +30,7 @@ returns : tie.Need-returns
 returns c =
     let start = c.before.before.before.before.before.before in
     let back : to_z w64 (of_z w64 c.before.before.before.read.result) ≡ c.before.before.before.read.result = search rules in
-    reads_behind start.args.done start.args.buf.now c.before.before.before.read.new.1.0 c.before.before.before.read.result _ start.requires c.before.before.buf.given.0 c.before.before.before.read.ensures (c.step_of_lem.ensures ∙ ap step_of back)
+    reads_behind start.args.done start.args.buf.now c.before.before.before.read.new.1.0 c.before.before.before.read.result _ start.requires c.before.before.buf.given.0 c.before.before.before.read.ensures (c.step_of.ensures ∙ ap step_of back)
 
 pub read-behind-spec : {M : Type 1} → statement M
 read-behind-spec =

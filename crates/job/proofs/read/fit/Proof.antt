@@ -27,7 +27,7 @@ returns-3 c =
     let few = size.before.before in
     let s = few.before.before in
     cut_in_lists s.args.len s.args.head few.before.if1.false few.if2.false _
-    (ap (λ (n : ℕ). s.args.head.lists + n) size.lists_size_lem.ensures.1) c.if3.true
+    (ap (λ (n : ℕ). s.args.head.lists + n) size.lists_size.ensures.1) c.if3.true
 
 returns-4 : tie.Need-returns-4
 returns-4 c =
@@ -35,7 +35,7 @@ returns-4 c =
     let few = size.before.before in
     let s = few.before.before in
     bytes_after s.args.len s.args.head few.before.if1.false few.if2.false _
-    (ap (λ (n : ℕ). s.args.head.lists + n) size.lists_size_lem.ensures.1) c.before.if3.false c.if4.true
+    (ap (λ (n : ℕ). s.args.head.lists + n) size.lists_size.ensures.1) c.before.if3.false c.if4.true
 
 returns-5 : tie.Need-returns-5
 returns-5 c =
@@ -43,7 +43,7 @@ returns-5 c =
     let few = size.before.before in
     let s = few.before.before in
     all_read s.args.len s.args.head few.before.if1.false few.if2.false _
-    (ap (λ (n : ℕ). s.args.head.lists + n) size.lists_size_lem.ensures.1) c.before.if3.false c.if4.false
+    (ap (λ (n : ℕ). s.args.head.lists + n) size.lists_size.ensures.1) c.before.if3.false c.if4.false
 
 pub fit_spec : {M : Type 1} → statement M
 fit_spec = tie.close (tie.spec returns sub-t11 returns-2 lists-size-requires add-end returns-3 returns-4 returns-5)

@@ -62,7 +62,7 @@ returns c = (
     c.before.before.before.before.u16-at.ensures,
     c.before.before.before.before.before.u32-at.ensures,
     c.before.before.before.before.before.before.domain-of.ensures,
-    c.before.before.before.before.before.before.before.before.kind_field_lem.ensures.1,
+    c.before.before.before.before.before.before.before.before.kind_field.ensures.1,
   ),
 )
 

@@ -40,7 +40,7 @@ returns c = (
     c.before.before.before.stands3.ensures,
     c.before.before.before.before.u64-field2.ensures.1,
     c.before.before.before.before.before.stands2.ensures,
-    c.before.before.before.before.before.before.u64_field_lem.ensures.1,
+    c.before.before.before.before.before.before.u64_field.ensures.1,
     c.before.before.before.before.before.before.before.stands.ensures,
   ),
 )

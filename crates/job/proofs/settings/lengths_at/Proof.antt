@@ -32,7 +32,7 @@ returns c = (
     c.before.stands3.ensures,
     c.before.before.u64-field2.ensures.1,
     c.before.before.before.stands2.ensures,
-    c.before.before.before.before.u64_field_lem.ensures.1,
+    c.before.before.before.before.u64_field.ensures.1,
     c.before.before.before.before.before.stands.ensures,
   ),
 )

@@ -23,8 +23,8 @@ returns c = (
   omega arith,
   rw (
     c.placement-of.ensures,
-    c.before.f32_field_lem.ensures.1,
-    c.before.before.before.kind_field_lem.ensures.1,
+    c.before.f32_field.ensures.1,
+    c.before.before.before.kind_field.ensures.1,
     c.before.before.before.before.stands.ensures,
   ),
 )

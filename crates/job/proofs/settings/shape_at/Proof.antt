@@ -31,7 +31,7 @@ returns c = (
     c.first-unknown.ensures,
     c.before.gap_of.ensures,
     c.before.before.before.placement-at.ensures.1,
-    c.before.before.before.before.kind_field_lem.ensures.1,
+    c.before.before.before.before.kind_field.ensures.1,
     c.before.before.before.before.before.stands.ensures,
     c.before.before.before.before.before.before.mode-at.ensures.1,
   ),

@@ -32,7 +32,7 @@ number-of-requires c κs = search rules
 returns-2 : tie.Need-returns-2
 returns-2 c =
     let s = c.before.before.before.before.before in
-    rw (c.number_of_lem.ensures, part_to_end) (number-rest s.args.s.now s.args.at s.args.size (omega (arith, c.before.before.if2.true)))
+    rw (c.number_of.ensures, part_to_end) (number-rest s.args.s.now s.args.at s.args.size (omega (arith, c.before.before.if2.true)))
 
 add-end : tie.Need-overflow-add-end
 add-end c = search rules

@@ -41,16 +41,16 @@ search-requires : tie.Need-search-requires
 search-requires c κs =
     let start = c.before.before.before.before.before.before.before in
     let inside = arrival-nonneg start.requires.0 c.before.lesser.result (omega (arith, c.before.lesser.ensures, start.requires.1.1.0)) in
-    (starts_held start.requires.0, (start.requires.1.0, (start.requires.1.1.1, subst (λ (s : Score). T (nonneg s.cost)) (sym c.score_from_lem.ensures) inside)))
+    (starts_held start.requires.0, (start.requires.1.0, (start.requires.1.1.1, subst (λ (s : Score). T (nonneg s.cost)) (sym c.score_from.ensures) inside)))
 
 returns-2 : tie.Need-returns-2
 unfolding with_piece length_cost_of
 returns-2 c =
     let start = c.before.before.before.before.before.before.before.before in
     visit_is_least (arrival_at start.args.lengths start.args.right.now start.args.over.now start.args.cost.now start.args.leaves start.args.end)
-    start.args.leaves start.args.from start.args.to c.before.before.lesser.result c.before.score_from_lem.result c.search.result (arrival-nonneg start.requires.0)
+    start.args.leaves start.args.from start.args.to c.before.before.lesser.result c.before.score_from.result c.search.result (arrival-nonneg start.requires.0)
     (omega (arith, c.before.before.lesser.ensures, c.before.before.before.larger.ensures, start.requires.1.1.0)) (omega (arith, c.before.before.lesser.ensures, start.requires.1.1.0))
-    start.requires.1.1.1 c.before.score_from_lem.ensures c.search.ensures
+    start.requires.1.1.1 c.before.score_from.ensures c.search.ensures
 
 pub least-predecessor-spec : {M : Type 1} → statement M
 least-predecessor-spec =

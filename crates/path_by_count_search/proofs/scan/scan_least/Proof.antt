@@ -27,7 +27,7 @@ add-i c = search rules
 loop-holds : tie.Need-loop-init invariant-loop decreases-loop
 loop-holds c =
     let start = c.before.before.before.before in
-    (omega arith, omega (arith, start.requires.1), scan_first start.requires.0 start.args.from c.score_from_lem.result start.requires.1 c.score_from_lem.ensures)
+    (omega arith, omega (arith, start.requires.1), scan_first start.requires.0 start.args.from c.score_from.result start.requires.1 c.score_from.ensures)
 
 add-score-from-2 : tie.Need-overflow-add-score-from-2 invariant-loop decreases-loop
 add-score-from-2 c = let start = c.before.before.before.before.before.before in omega (arith, start.requires.0.overs)

@@ -17,7 +17,7 @@ first-of-requires : tie.Need-first-of-requires
 first-of-requires c κs = search rules
 
 returns : tie.Need-returns
-returns c = rw (← c.before.before.before.query-lengths.ensures, ← c.before.score_from_lem.ensures) c.first_of.ensures
+returns c = rw (← c.before.before.before.query-lengths.ensures, ← c.before.score_from.ensures) c.first_of.ensures
 
 pub at-leaf-spec : {M : Type 1} → statement M
 at-leaf-spec = tie.close (tie.spec query-lengths-requires add-score-from score-from-requires first-of-requires returns)

@@ -32,11 +32,11 @@ is-tail-requires c κs = search rules
 
 sub-flags-of : tie.Need-overflow-sub-flags-of invariant-loop decreases-loop
 sub-flags-of c =
-    piece_rises _ _ _ c.before.before.before.before.before.before.before.before.before.requires.0 c.before.before.before.before.loop.i (omega (arith, c.before.before.before.loop-test.true)) _ c.before.before.piece_at_lem.ensures
+    piece_rises _ _ _ c.before.before.before.before.before.before.before.before.before.requires.0 c.before.before.before.before.loop.i (omega (arith, c.before.before.before.loop-test.true)) _ c.before.before.piece_at.ensures
 
 flags-of-requires : tie.Need-flags-of-requires invariant-loop decreases-loop
 flags-of-requires c κs =
-    piece_small _ _ _ c.before.before.before.before.before.before.before.before.before.requires.0 c.before.before.before.before.loop.i (omega (arith, c.before.before.before.loop-test.true)) _ c.before.before.piece_at_lem.ensures
+    piece_small _ _ _ c.before.before.before.before.before.before.before.before.before.requires.0 c.before.before.before.before.loop.i (omega (arith, c.before.before.before.loop-test.true)) _ c.before.before.piece_at.ensures
 
 mul-put-three : tie.Need-overflow-mul-put-three invariant-loop decreases-loop
 mul-put-three c = search rules
@@ -53,7 +53,7 @@ loop-less c = search rules
 loop-again : tie.Need-loop-preserved invariant-loop decreases-loop
 loop-again c =
     let l = c.before.before.before.before.before.before.before.before.before.loop in
-    let p = c.before.before.before.before.before.before.before.piece_at_lem in
+    let p = c.before.before.before.before.before.before.before.piece_at in
     let s = c.before.before.before.before.before.before.before.before.before.before.before.before.before.before in
     writing_next _ _ _ _ l.i l.invariant (omega (arith, c.before.before.before.before.before.before.before.before.loop-test.true)) p.result.start p.result.end c.before.before.before.before.flags_of.result _
     (piece_next _ _ _ s.requires.0 l.i (omega (arith, c.before.before.before.before.before.before.before.before.loop-test.true)) _ p.ensures _ _ _ _ _ c.before.before.before.before.before.before.is-tail.ensures c.before.before.before.before.flags_of.ensures)

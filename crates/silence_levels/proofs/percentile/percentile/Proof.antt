@@ -25,7 +25,7 @@ value-of-requires c κs =
 returns : tie.Need-returns
 returns c =
     let start = c.before.before.before.before in
-    rw (c.value_of_lem.ensures, c.before.select.ensures, c.before.before.percentile-index.ensures)
+    rw (c.value_of.ensures, c.before.select.ensures, c.before.before.percentile-index.ensures)
     (percentile_of_keys start.args.keys.now start.args.p start.requires.0 start.requires.1.1.0 (λ i. (c.before.before.before.shared-slice-known.given i).fits)
     start.requires.1.1.1.0)
 

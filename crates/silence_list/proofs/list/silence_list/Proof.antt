@@ -35,7 +35,7 @@ silences-in-requires c κs =
     (p.0, omega (arith, p.1.enough32))
 
 hand-out-requires : tie.Need-hand-out-requires
-hand-out-requires c κs = omega (arith, front_fits _ _ _ c.before.before.before.before.before.before.silences_in_lem.ensures.0 c.before.before.before.before.before.before.silences_in_lem.ensures.1)
+hand-out-requires c κs = omega (arith, front_fits _ _ _ c.before.before.before.before.before.before.silences_in.ensures.0 c.before.before.before.before.before.before.silences_in.ensures.1)
 
 -- src/list.rt:86:1
 same_length : tie.Need-same-length
@@ -57,9 +57,9 @@ same-length-4 c = search rules
 returns-2 : tie.Need-returns-2
 returns-2 c =
     let found = c.before.before.before.before.before.before.before.before.before.before.before.before.before.before.before in
-    let same : length c.before.before.before.before.before.before.before.before.before.before.before.before.before.before.before.silences_in_lem.new.1.1.1.1.0 ≡ length c.before.before.before.before.before.before.before.before.before.before.before.before.before.before.before.before.before.before.before.before.before.before.before.before.before.before.before.args.work-u32.now = search rules in
+    let same : length c.before.before.before.before.before.before.before.before.before.before.before.before.before.before.before.silences_in.new.1.1.1.1.0 ≡ length c.before.before.before.before.before.before.before.before.before.before.before.before.before.before.before.before.before.before.before.before.before.before.before.before.before.before.before.args.work-u32.now = search rules in
     let fine = sym found.before.before.enum_told.given.1 ∙ found.before.before.before.before.first-refusal.ensures in
-    c.before.before.before.before.before.before.before.before.hand-out.ensures ∙ list_front _ _ _ _ _ _ _ found.silences_in_lem.new.1.1.1.1.0 found.silences_in_lem.result same found.silences_in_lem.ensures.1 fine
+    c.before.before.before.before.before.before.before.before.hand-out.ensures ∙ list_front _ _ _ _ _ _ _ found.silences_in.new.1.1.1.1.0 found.silences_in.result same found.silences_in.ensures.1 fine
 
 pub silence-list-spec : {M : Type 1} → statement M
 silence-list-spec =

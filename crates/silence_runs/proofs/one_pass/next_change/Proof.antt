@@ -29,7 +29,7 @@ sound-by-requires : tie.Need-sound-by-requires invariant-loop decreases-loop
 sound-by-requires c κs = search rules
 
 returns : tie.Need-returns invariant-loop decreases-loop
-returns c = change_found _ _ _ _ _ _ _ c.before.before.before.before.before.loop.invariant c.before.before.before.before.loop-test.true (λ e. c.if1.true (c.before.sound_by_lem.ensures ∙ e))
+returns c = change_found _ _ _ _ _ _ _ c.before.before.before.before.before.loop.invariant c.before.before.before.before.loop-test.true (λ e. c.if1.true (c.before.sound_by.ensures ∙ e))
 
 add-i : tie.Need-overflow-add-i invariant-loop decreases-loop
 add-i c = search rules
@@ -38,7 +38,7 @@ loop-less : tie.Need-loop-smaller invariant-loop decreases-loop
 loop-less c = search rules
 
 loop-again : tie.Need-loop-preserved invariant-loop decreases-loop
-loop-again c = change_next _ _ _ _ _ _ _ c.before.before.before.before.before.loop.invariant c.before.before.before.before.loop-test.true (sym c.before.sound_by_lem.ensures ∙ c.if1.false)
+loop-again c = change_next _ _ _ _ _ _ _ c.before.before.before.before.before.loop.invariant c.before.before.before.before.loop-test.true (sym c.before.sound_by.ensures ∙ c.if1.false)
 
 returns-2 : tie.Need-returns-2 invariant-loop decreases-loop
 returns-2 c = change_done _ _ _ _ _ _ _ c.before.loop.invariant c.loop-test.false
