@@ -21,7 +21,7 @@ use Rattle.base_laws.specs.Clamp.{clamp_between}
 use Rattle.base_terms.specs.Lengths.{square, off_of, short, length_cost, length_bound}
 use Rattle.base_laws.specs.Square.{square_mono, square-fits, square-nonneg}
 use Rattle.base_laws.specs.Tests.{passes}
-use Rattle.base_laws.specs.Sums.{float_add_mono, float_add-nonneg, float_add_grows}
+use Rattle.base_laws.specs.Sums.{add_mono, float_add-nonneg, float_add_grows}
 use Rattle.base_laws.specs.Products.{float_mul-number, float_mul_mono, float_mul-nonneg}
 
 -- ---- order and sign
@@ -218,7 +218,7 @@ module _ {f : Format} {wt ws m t : Float} (ok : Preferences f wt ws m t) where
             let j : T (lt x m) = float_le-lt_trans x hi m k i in
             let nh : T (nonneg hi) = float_le_trans nought x hi l.length_nonneg k in
             rw (is_true (lt hi m) i, is_true (lt x m) j)
-            (float_add_mono f b c (short f ws m hi) (short f ws m x) nb (below_min hi nh i) q
+            (add_mono f b c (short f ws m hi) (short f ws m x) nb (below_min hi nh i) q
             (short_falls f ws m x hi ok.short_weight_nonneg ok.short_weight_finite (min_positive x l.length_nonneg j)
             ok.min_high l.length_nonneg k (float_lt-le hi m i)))
         | inr i ↦ elim (passes (lt x m)) [

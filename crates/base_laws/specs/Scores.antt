@@ -11,7 +11,7 @@ use Rattle.base_laws.specs.Tests.{or_l, or_r, or_split, same_test, lt_or_le}
 use Rattle.base_laws.specs.Order.{float_le_refl, float_le-total, float_le_trans, float_lt_is, float_eq_is, float_lt-le, float_lt-le_trans, float_le-lt_trans}
 use Rattle.base_terms.specs.Floats.{nonneg}
 use Rattle.base_laws.specs.Nonneg.{nonneg-number}
-use Rattle.base_laws.specs.Sums.{float_add_mono, float_add-nonneg}
+use Rattle.base_laws.specs.Sums.{add_mono, float_add-nonneg}
 
 -- ---- steps: fewer, or as many and a test of the costs
 
@@ -131,7 +131,7 @@ score_bound f a x b y k l c d p q m g h = elim (split a b (le x y) h) [
   | inl i ↦ fewer (a + k) (b + l) (le (add f x c) (add f y d)) (omega arith)
   | inr i ↦ let e = i.0 in elim (lt_or_le k l) [
     | inl j ↦ fewer (a + k) (b + l) (le (add f x c) (add f y d)) (omega arith)
-    | inr j ↦ as_many (a + k) (b + l) (le (add f x c) (add f y d)) (omega arith) (float_add_mono f x y c d p q i.1 g)
+    | inr j ↦ as_many (a + k) (b + l) (le (add f x c) (add f y d)) (omega arith) (add_mono f x y c d p q i.1 g)
   ]
 ]
 
@@ -145,7 +145,7 @@ pub score-cut : (f : Format) (a : ℕ) (x : Float) (b : ℕ) (y e : Float) → T
     → T (score_le a (add f x e) b (add f y e))
 score-cut f a x b y e p q h = elim (split a b (le x y) h) [
   | inl l ↦ fewer a b (le (add f x e) (add f y e)) l
-  | inr l ↦ as_many a b (le (add f x e) (add f y e)) l.0 (float_add_mono f x y e e p q l.1 (float_le_refl e (nonneg-number e q)))
+  | inr l ↦ as_many a b (le (add f x e) (add f y e)) l.0 (add_mono f x y e e p q l.1 (float_le_refl e (nonneg-number e q)))
 ]
 
 -- the same piece and then the same cut on both sides: a step of the dynamic program

@@ -138,9 +138,9 @@ add-number f (fin s m e) nan h k = absurd k
 add-number f (fin s m e) (inf t) h k = tt
 add-number f (fin s m e) (fin t n d) h k = sum_number f s (m * up e * down d) t (n * up d * down e) (down e * down d)
 
--- a sum of values that are not negative grows with each part
-pub float_add_mono : (f : Format) (x x' y y' : Float) → T (nonneg x) → T (nonneg y) → T (le x x') → T (le y y') → T (le (add f x y) (add f x' y'))
-float_add_mono f x x' y y' p q h k =
+-- a sum of values that are not negative grows with each part, as the laws of this crate cite it
+pub add_mono : (f : Format) (x x' y y' : Float) (p : T (nonneg x)) (q : T (nonneg y)) (h : T (le x x')) (k : T (le y y')) → T (le (add f x y) (add f x' y'))
+add_mono f x x' y y' p q h k =
     let X : Le nought x = le→Le nought x p in
     let Y : Le nought y = le→Le nought y q in
     let h' : Le x x' = le→Le x x' h in
@@ -148,11 +148,15 @@ float_add_mono f x x' y y' p q h k =
     Le→le (add f x y) (add f x' y')
     (add-le f x x' y y' h' k' (add-number f x y X Y) (add-number f x' y' (Le-trans nought x x' X h') (Le-trans nought y y' Y k')))
 
+-- a sum of values that are not negative grows with each part
+pub float_add_mono : (f : Format) (x x' y y' : Float) → T (nonneg x) → T (nonneg y) → T (le x x') → T (le y y') → T (le (add f x y) (add f x' y'))
+float_add_mono f x x' y y' p q h k = add_mono f x x' y y' p q h k
+
 -- and is not negative
 pub float_add-nonneg : (f : Format) (x y : Float) → T (nonneg x) → T (nonneg y) → T (nonneg (add f x y))
 float_add-nonneg f x y h k =
     let start : T (nonneg (add f nought nought)) = unfold add in rw (sum_is f false 0 false 0 1) (sign_nonneg (round f false 0 1) (round_has f false 0 1)) in
-    float_le_trans nought (add f nought nought) (add f x y) start (float_add_mono f nought x nought y nought-nonneg nought-nonneg h k)
+    float_le_trans nought (add f nought nought) (add f x y) start (add_mono f nought x nought y nought-nonneg nought-nonneg h k)
 
 add-nought : (f : Format) (m : ℕ) (e : ℤ) → add f (fin false m e) nought ≡ round f false (m * up e) (down e)
 unfolding add
@@ -166,7 +170,7 @@ add-nought f m e =
 pub float_add_grows : (f : Format) (x y : Float) → T (nonneg x) → T (fits f x) → T (nonneg y) → T (le x (add f x y))
 float_add_grows f x y p v q =
     float_le_trans x (add f x nought) (add f x y) (Le→le x (add f x nought) (go x (le→Le nought x p) v))
-    (float_add_mono f x x nought y p nought-nonneg (float_le_refl x (nonneg-number x p)) q)
+    (add_mono f x x nought y p nought-nonneg (float_le_refl x (nonneg-number x p)) q)
   where
     go : (z : Float) → Le nought z → T (fits f z) → Le z (add f z nought)
     go nan h w = absurd h
