@@ -74,8 +74,8 @@ pub fn clamp_f64(x: f64, lo: f64, hi: f64) -> f64
 // The nearest whole number, halves away from zero, of a value that is not negative. A double is exact, so nothing is
 // rounded on the way.
 pub fn round_half_away(x: f64) -> u64
-    requires t { T (Ieee.le (fin false 0 (pos 0)) x) }
-    requires t_2 { T (Ieee.lt x (fin false 1 (pos 52))) }
+    requires low { T (Ieee.le (fin false 0 (pos 0)) x) }
+    requires high { T (Ieee.lt x (fin false 1 (pos 52))) }
     ensures { result ≡ half_away x }
 {
     (std::num::truncating_f64_to_u64(x + x) + 1) / 2

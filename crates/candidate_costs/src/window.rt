@@ -23,7 +23,7 @@ pub fn smoothing_width(frame_rate: u32, hop: u32) -> usize
 // The sum of a part, left to right from its first value.
 fn sum(part: &[f32]) -> f64
     requires part_nonzero { 0 < length part.now }
-    requires part_value { all_of is_finite part.now ≡ true }
+    requires part_finite { all_of is_finite part.now ≡ true }
     ensures { result ≡ sum_of part.now }
 {
     let mut total = part[0] as f64;

@@ -10,7 +10,7 @@ use plan_settings::config::Placement;
 
 // This fraction of so many frames, as the nearest whole number.
 fn share(ratio: f32, frames: usize) -> usize
-    requires ratio_value { is_score ratio ≡ true }
+    requires ratio_is_score { is_score ratio ≡ true }
     requires frames_le_max_frames { frames ≤ max_frames }
     ensures { result ≡ share_of ratio frames }
 {

@@ -31,7 +31,7 @@ fn needed_levels(
     requires values_len_bound { length values.now ≤ max_frames }
     requires flags_len { length flags.now ≡ length values.now }
     requires values_in_bounds { length values.now ≤ length keys.old }
-    requires values_value { all_of is_finite values.now ≡ true }
+    requires values_finite { all_of is_finite values.now ≡ true }
     ensures { result ≡ needed_levels domain (levels_of domain threshold values.now flags.now) }
 {
     match domain {

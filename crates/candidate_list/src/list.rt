@@ -55,7 +55,7 @@ fn copy_out(
     costs: &mut [f64],
 )
     requires copyable { Copyable frames candidates work_u32.now work_f64.now }
-    requires costs_value { has_room candidates (length ends.old) (length costs.old) ≡ true }
+    requires room { has_room candidates (length ends.old) (length costs.old) ≡ true }
     ensures ends_after { ends.new
         ≡ onto (take (3 * candidates) (drop (entries_at frames) work_u32.now)) ends.old }
     ensures costs_after { costs.new
@@ -110,7 +110,7 @@ pub fn candidate_list(
     ends: &mut [u32],
     costs: &mut [f64],
 ) -> Answer
-    ensures work_f64_after { end_of result (output_of ends.new costs.new)
+    ensures answer { end_of result (output_of ends.new costs.new)
         (work_of work_u32.new work_u64.new work_f64.new)
         ≡ candidate_list_of r segment settings values.now flags.now levels.now
         (output_of ends.old costs.old)

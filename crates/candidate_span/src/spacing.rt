@@ -61,9 +61,9 @@ fn edge_limit(g: FrameGrid, block: u64, max: u64) -> u64
 
 // The spacing of a plan with these settings, in nanoseconds: padding before and after sound, minimum and maximum.
 pub fn spacing_of(g: FrameGrid, pre: u64, tail: u64, min: u64, max: u64) -> Spacing
-    requires spaced { Spaced g max }
-    requires spaced_2 { Spaced g pre }
-    requires spaced_3 { Spaced g tail }
+    requires max_spaced { Spaced g max }
+    requires pre_spaced { Spaced g pre }
+    requires tail_spaced { Spaced g tail }
     ensures { result ≡ spacing_of g pre tail min max }
 {
     let block = block_of(g, min, max);

@@ -24,8 +24,8 @@ pub struct Numbers {
 
 // Settings, segment settings and recording, one behind another.
 fn numbers_of(job: &[u8], map: u16) -> Numbers
-    ensures le_lists { 4 ≤ result.head.lists }
-    ensures lists_bound { result.head.lists ≤ 148 }
+    ensures lists_low { 4 ≤ result.head.lists }
+    ensures lists_high { result.head.lists ≤ 148 }
     ensures value { result ≡ numbers_of job.now map }
 {
     let asked = settings::settings_at(job, map, 2);
@@ -63,8 +63,8 @@ fn lists_size(domain: Domain, frames: usize) -> usize
 
 // The tests of a job's length, with the numbers before its lists read.
 fn fit(len: usize, head: Head) -> Reading
-    requires le_lists { 4 ≤ head.lists }
-    requires lists_bound { head.lists ≤ 148 }
+    requires lists_low { 4 ≤ head.lists }
+    requires lists_high { head.lists ≤ 148 }
     ensures { result ≡ fitted len head }
 {
     let lists = head.lists;

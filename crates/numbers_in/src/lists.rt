@@ -18,8 +18,8 @@ pub fn put_zeros(n: usize, list: &mut [u8])
 
 // Bytes, each in one place.
 pub fn copy_bytes(s: &[u8], at: usize, n: usize, list: &mut [u8])
-    requires n_in_bounds { at + n ≤ length s.now }
-    requires n_in_bounds_2 { n ≤ length list.old }
+    requires s_in_bounds { at + n ≤ length s.now }
+    requires list_in_bounds { n ≤ length list.old }
     ensures { list.new
         ≡ onto (tabulate (λ i. byte_at s.now (at + i)) n) list.old }
 {
@@ -30,8 +30,8 @@ pub fn copy_bytes(s: &[u8], at: usize, n: usize, list: &mut [u8])
 
 // Numbers of 64 bits, each in eight bytes.
 pub fn copy_u64(s: &[u8], at: usize, n: usize, list: &mut [u64])
-    requires n_in_bounds { at + 8 * n ≤ length s.now }
-    requires n_in_bounds_2 { n ≤ length list.old }
+    requires s_in_bounds { at + 8 * n ≤ length s.now }
+    requires list_in_bounds { n ≤ length list.old }
     ensures { list.new
         ≡ onto (tabulate (λ i. u64_at s.now (at + 8 * i)) n) list.old }
 {
@@ -42,8 +42,8 @@ pub fn copy_u64(s: &[u8], at: usize, n: usize, list: &mut [u64])
 
 // Floats of 32 bits, each in four bytes.
 pub fn copy_f32(s: &[u8], at: usize, n: usize, list: &mut [f32])
-    requires n_in_bounds { at + 4 * n ≤ length s.now }
-    requires n_in_bounds_2 { n ≤ length list.old }
+    requires s_in_bounds { at + 4 * n ≤ length s.now }
+    requires list_in_bounds { n ≤ length list.old }
     ensures { list.new
         ≡ onto (tabulate (λ i. f32_at s.now (at + 4 * i)) n) list.old }
 {
@@ -54,8 +54,8 @@ pub fn copy_f32(s: &[u8], at: usize, n: usize, list: &mut [f32])
 
 // Floats of 64 bits, each in eight bytes.
 pub fn copy_f64(s: &[u8], at: usize, n: usize, list: &mut [f64])
-    requires n_in_bounds { at + 8 * n ≤ length s.now }
-    requires n_in_bounds_2 { n ≤ length list.old }
+    requires s_in_bounds { at + 8 * n ≤ length s.now }
+    requires list_in_bounds { n ≤ length list.old }
     ensures { list.new
         ≡ onto (tabulate (λ i. f64_at s.now (at + 8 * i)) n) list.old }
 {

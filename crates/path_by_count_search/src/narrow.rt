@@ -49,7 +49,7 @@ pub fn search(right: &[u64], over: &[u32], cost: &[f64], query: Query, best: Bes
         query.leaves query.to query.end }
     requires covers { Covers query.leaves query.to over.now cost.now 1 0 query.leaves }
     requires to_le_leaves { query.to ≤ query.leaves }
-    requires t { T (nonneg best.score.cost) }
+    requires nonneg { T (nonneg best.score.cost) }
     ensures { FirstIn (through query right.now over.now cost.now) 0 query.leaves
         query.from query.to best result }
 {

@@ -71,7 +71,7 @@ fn at_leaves(
 ) -> Best
     requires starts { Starts (query_lengths query) right.now over.now cost.now
         query.leaves query.to query.end }
-    requires t { T (nonneg best.score.cost) }
+    requires nonneg { T (nonneg best.score.cost) }
     ensures { FirstIn (through query right.now over.now cost.now) lo hi query.from
         query.to best result }
 {
@@ -100,7 +100,7 @@ pub fn visit(
     requires starts { Starts (query_lengths query) right.now over.now cost.now
         query.leaves query.to query.end }
     requires covers { Covers query.leaves query.to over.now cost.now node lo hi }
-    requires t { T (nonneg best.score.cost) }
+    requires nonneg { T (nonneg best.score.cost) }
     ensures { FirstIn (through query right.now over.now cost.now) lo hi query.from
         query.to best result }
 {

@@ -33,8 +33,8 @@ fn lesser_score(a: Score, b: Score) -> Score
 // No candidate stands at the nodes from..to: more pieces over the limit than a path can have.
 pub fn pad_leaves(tree_over: &mut [u32], tree_cost: &mut [f64], from: usize, to: usize)
     requires from_le_to { from ≤ to }
-    requires to_in_bounds { to ≤ length tree_over.old }
-    requires to_in_bounds_2 { to ≤ length tree_cost.old }
+    requires over_in_bounds { to ≤ length tree_over.old }
+    requires cost_in_bounds { to ≤ length tree_cost.old }
     ensures { Padded tree_over.old tree_cost.old from tree_over.new
         tree_cost.new to }
 {
@@ -46,8 +46,8 @@ pub fn pad_leaves(tree_over: &mut [u32], tree_cost: &mut [f64], from: usize, to:
 
 // Each node's score is the lesser of its children's, from the leaves up.
 pub fn link_nodes(tree_over: &mut [u32], tree_cost: &mut [f64], leaves: usize)
-    requires leaves_in_bounds { leaves * 2 ≤ length tree_over.old }
-    requires leaves_in_bounds_2 { leaves * 2 ≤ length tree_cost.old }
+    requires over_in_bounds { leaves * 2 ≤ length tree_over.old }
+    requires cost_in_bounds { leaves * 2 ≤ length tree_cost.old }
     ensures { Linked tree_over.old tree_cost.old leaves tree_over.new
         tree_cost.new 1 }
 {

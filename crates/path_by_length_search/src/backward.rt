@@ -24,10 +24,10 @@ pub struct Walk {
 // Where both have as many pieces over the limit, one `<` chooses, in one expression: that compiles to the least of two
 // costs, while a `<=` or an early return compiles to a branch, which goes either way at random.
 fn or_better(score: Score, i: usize, best: Best) -> Best
-    requires t { T (nonneg score.cost) }
-    requires t_2 { T (nonneg best.score.cost) }
-    ensures result_value { held_of result ≡ or_better score i (held_of best) }
-    ensures t_3 { T (nonneg result.score.cost) }
+    requires score_nonneg { T (nonneg score.cost) }
+    requires best_nonneg { T (nonneg best.score.cost) }
+    ensures value { held_of result ≡ or_better score i (held_of best) }
+    ensures nonneg { T (nonneg result.score.cost) }
 {
     let held = best.score;
     if score.over == held.over {
@@ -57,7 +57,7 @@ pub fn short_pieces(
     requires scored { Scored left.now right.now over.now cost.now j }
     requires costed { Costed lengths cost.now j }
     requires walked { Walked lengths left.now right.now over.now cost.now from j walk.best walk.at }
-    ensures walked_2 { Walked lengths left.now right.now over.now cost.now from j
+    ensures walked_after { Walked lengths left.now right.now over.now cost.now from j
         result.best result.at }
     ensures long { Long lengths left.now right.now from j result.at }
 {
@@ -125,7 +125,7 @@ fn long_pieces(
 // piece costs no less, and this one alone costs more.
 fn none_better(best: Score, lengths: Lengths, len: u64) -> bool
     requires len_le_max_len { len ≤ max_len }
-    requires len_value { IsShort lengths len ≡ false }
+    requires not_short { IsShort lengths len ≡ false }
     ensures { result ≡ is_beyond lengths best len }
 {
     if !lengths::passes_target(lengths, len) {

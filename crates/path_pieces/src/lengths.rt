@@ -52,7 +52,7 @@ pub fn passes_target(lengths: Lengths, len: u64) -> bool
 // its own for every piece.
 pub fn long_cost(lengths: Lengths, len: u64) -> f64
     requires len_le_max_len { len ≤ max_len }
-    requires len_value { IsShort lengths len ≡ false }
+    requires not_short { IsShort lengths len ≡ false }
     ensures { result ≡ length_cost_of lengths len }
 {
     let len = len as f64;

@@ -31,7 +31,7 @@ pub fn piece_score(prior: Score, lengths: Lengths, len: u64) -> Score
 pub fn long_score(prior: Score, lengths: Lengths, len: u64) -> Score
     requires over_le_max_index { prior.over ≤ max_index }
     requires len_le_max_len { len ≤ max_len }
-    requires len_value { IsShort lengths len ≡ false }
+    requires not_short { IsShort lengths len ≡ false }
     ensures { result ≡ with_piece lengths prior len }
 {
     let limit = lengths.limit;

@@ -72,7 +72,7 @@ pub fn plan(
     pieces: &mut [u64],
     cuts: &mut [u64],
 ) -> Answer
-    ensures parent_after { end_of result (output_of pieces.new cuts.new)
+    ensures answer { end_of result (output_of pieces.new cuts.new)
         (work_of work_u32.new work_u64.new work_f64.new) parent.new
         ≡ plan_of r segment settings values.now flags.now levels.now
         (output_of pieces.old cuts.old)

@@ -35,7 +35,7 @@ pub fn value_of(k: u32) -> f32
 pub fn collect(values: &[f32], flags: &[u8], keys: &mut [u32]) -> usize
     requires flags_len { length flags.now ≡ length values.now }
     requires values_in_bounds { length values.now ≤ length keys.old }
-    requires values_value { all_of is_finite values.now ≡ true }
+    requires values_finite { all_of is_finite values.now ≡ true }
     ensures { Collected values.now flags.now keys.old keys.new result }
 {
     let mut n = 0;

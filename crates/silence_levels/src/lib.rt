@@ -22,7 +22,7 @@ use threshold::{Levels, Threshold, Thresholds};
 // The levels of the values whose keys are given.
 fn over_keys(domain: Domain, threshold: Threshold, keys: &[u32]) -> Levels
     requires keys_len_bound { length keys.now ≤ max_frames }
-    requires keys_value { all_of is_key keys.now ≡ true }
+    requires keys_valid { all_of is_key keys.now ≡ true }
     ensures { result ≡ levels_over domain threshold (map value_of keys.now) }
 {
     if keys.len() == 0 {
@@ -46,7 +46,7 @@ pub fn levels(
     requires values_len_bound { length values.now ≤ max_frames }
     requires flags_len { length flags.now ≡ length values.now }
     requires values_in_bounds { length values.now ≤ length keys.old }
-    requires values_value { all_of is_finite values.now ≡ true }
+    requires values_finite { all_of is_finite values.now ≡ true }
     ensures result { result ≡ levels_of domain threshold values.now flags.now }
     ensures list { keys.new
         ≡ keys_collected values.now flags.now keys.old }
@@ -62,7 +62,7 @@ fn fixed_thresholds(
     values: &[f32],
     flags: &[u8],
 ) -> Thresholds
-    requires threshold_value { is_fixed domain threshold ≡ true }
+    requires threshold_fixed { is_fixed domain threshold ≡ true }
     requires flags_len { length flags.now ≡ length values.now }
     ensures { result ≡ thresholds_of domain threshold values.now flags.now }
 {
@@ -92,7 +92,7 @@ pub fn thresholds(
     requires values_len_bound { length values.now ≤ max_frames }
     requires flags_len { length flags.now ≡ length values.now }
     requires values_in_bounds { length values.now ≤ length keys.old }
-    requires values_value { all_of is_finite values.now ≡ true }
+    requires values_finite { all_of is_finite values.now ≡ true }
     ensures { result ≡ thresholds_of domain threshold values.now flags.now }
 {
     if threshold::is_fixed(domain, threshold) {

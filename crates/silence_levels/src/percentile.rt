@@ -23,7 +23,7 @@ pub fn percentile(keys: &[u32], first: [usize; 2048], p: usize) -> f32
     requires keys_nonzero { 0 < length keys.now }
     requires keys_len_bound { length keys.now ≤ max_frames }
     requires p_bound { p ≤ 100 }
-    requires keys_value { all_of is_key keys.now ≡ true }
+    requires keys_valid { all_of is_key keys.now ≡ true }
     requires first_value { first ≡ counts_of keys.now 22 0 }
     ensures { result ≡ percentile_of (map value_of keys.now) p }
 {

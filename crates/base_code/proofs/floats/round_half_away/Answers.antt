@@ -19,14 +19,14 @@ high x n t =
     (float_add_mono binary64 x (fin false 1 (pos 52)) x (fin false 1 (pos 52)) n n l l) (unfold lt add in tt)
 
 pub truncating_f64_to_u64-requires : goal.truncating_f64_to_u64-requires
-truncating_f64_to_u64-requires c = record { lower_bound = low c.args.x c.requires.t; upper_bound = high c.args.x c.requires.t c.requires.t_2 }
+truncating_f64_to_u64-requires c = record { lower_bound = low c.args.x c.requires.low; upper_bound = high c.args.x c.requires.low c.requires.high }
 
 pub overflow_add-result : goal.overflow_add-result
 overflow_add-result c =
-    let d = doubled c.args.x (holds c.well_formed.0.1) c.requires.t c.requires.t_2 in
+    let d = doubled c.args.x (holds c.well_formed.0.1) c.requires.low c.requires.high in
     omega (arith, d.within, c.truncating_f64_to_u64.ensures)
 
 pub returns : goal.returns
 returns c =
-    let d = doubled c.args.x (holds c.well_formed.0.1) c.requires.t c.requires.t_2 in
+    let d = doubled c.args.x (holds c.well_formed.0.1) c.requires.low c.requires.high in
     ap (λ (n : ℕ). (n + 1) / 2) c.truncating_f64_to_u64.ensures ∙ d.rounds

@@ -13,4 +13,4 @@ int_to_float-len c = le→leb c.args.len (2 ^ 53) (omega arith)
 
 pub returns : goal.returns
 unfolding length_cost_of length_cost square off_of
-returns c = rw c.requires.len_value
+returns c = rw c.requires.not_short
