@@ -1,0 +1,15 @@
+-- A pattern up to the infinity's is no NaN's, and one above it is.
+use mathlib.Core.Path.{ap}
+use lib.Ieee.{binary32, of_bits, div}
+use Rattle.numbers_in.specs.Patterns.{no_nan, nan_pattern}
+use Rattle.numbers_in.proofs.number.f32_at.Goals as goal
+
+pub returns-then-w-gt-INFINITY_F32 : goal.returns-then-w-gt-INFINITY_F32
+unfolding of_bits div
+returns-then-w-gt-INFINITY_F32 c = rw (← c.u32_at-w.ensures) (nan_pattern binary32 c.u32_at-w.result c.if-w-gt-INFINITY_F32.true)
+
+pub float_from_bits-result : goal.float_from_bits-result
+float_from_bits-result c = no_nan binary32 _ c.if-w-gt-INFINITY_F32.false
+
+pub returns : goal.returns
+returns c = ap (of_bits binary32) c.u32_at-w.ensures
