@@ -25,7 +25,7 @@ pub none_better-requires : goal.none_better-requires
 unfolding piece_length
 none_better-requires c = let k = c.loop-i.i - 1 in
     let t = within_yes c.args.lengths.limit c.args.left.now c.args.right.now c.args.j k c.if-limit-len.false in
-    record { len_le_max_len = piece_bounded c.requires.scored.candidates k c.args.j c.requires.scored.inside; len_value = c.loop-i.invariant.2.none_short k (omega arith) (omega arith) t }
+    record { len_le_max_len = piece_bounded c.requires.scored.candidates k c.args.j c.requires.scored.inside; not_short = c.loop-i.invariant.2.none_short k (omega arith) (omega arith) t }
 
 pub returns-then-none_better : goal.returns-then-none_better
 unfolding piece_length

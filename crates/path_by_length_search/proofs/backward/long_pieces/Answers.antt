@@ -25,18 +25,18 @@ unfolding piece_length
 long_score-requires c = let ok = c.requires.scored in
     let k = c.loop-i.i - 1 in
     let t = within_yes c.args.lengths.limit c.args.left.now c.args.right.now c.args.j k c.if-limit-len.false in
-    record { over_le_max_index = omega (arith, ok.few k (omega arith), ok.candidates.few); len_le_max_len = piece_bounded ok.candidates k c.args.j ok.inside; len_value = c.loop-i.invariant.2.none_short k (omega arith) (omega arith) t }
+    record { over_le_max_index = omega (arith, ok.few k (omega arith), ok.candidates.few); len_le_max_len = piece_bounded ok.candidates k c.args.j ok.inside; not_short = c.loop-i.invariant.2.none_short k (omega arith) (omega arith) t }
 
 pub or_better-best-requires : goal.or_better-best-requires
 unfolding piece_length
-or_better-best-requires c = record { t = rw c.long_score.ensures (score-number c.requires.scored c.requires.costed (c.loop-i.i - 1) (omega arith)); t_2 = c.loop-i.invariant.1.number }
+or_better-best-requires c = record { score_nonneg = rw c.long_score.ensures (score-number c.requires.scored c.requires.costed (c.loop-i.i - 1) (omega arith)); best_nonneg = c.loop-i.invariant.1.number }
 
 pub loop-i-preserved : goal.loop-i-preserved
 unfolding piece_length
 loop-i-preserved c = (
   omega arith,
   walked_next c.requires.scored c.requires.costed c.loop-i.invariant.1 _ c.loop-i-test.true c.if-limit-len.false
-      (rw c.long_score.ensures at c.or_better-best.ensures.result_value) c.or_better-best.ensures.t_3,
+      (rw c.long_score.ensures at c.or_better-best.ensures.value) c.or_better-best.ensures.nonneg,
   long_part c.args.from (c.loop-i.i - 1) (le_refl c.args.from) (omega arith) c.loop-i.invariant.2,
 )
 

@@ -8,7 +8,7 @@ pub returns-then-not-passes_target : goal.returns-then-not-passes_target
 returns-then-not-passes_target c = rw (← c.passes_target.ensures, c.if-not-passes_target.true)
 
 pub long_score-requires : goal.long_score-requires
-long_score-requires c = record { over_le_max_index = omega arith; len_le_max_len = c.requires.len_le_max_len; len_value = c.requires.len_value }
+long_score-requires c = record { over_le_max_index = omega arith; len_le_max_len = c.requires.len_le_max_len; not_short = c.requires.not_short }
 
 pub returns : goal.returns
 returns c =

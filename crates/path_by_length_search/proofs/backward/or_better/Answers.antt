@@ -5,13 +5,13 @@ use Rattle.path_by_length_search.specs.BackwardLaws.{cost_at_most}
 use Rattle.path_by_length_search.proofs.backward.or_better.Goals as goal
 
 pub returns-then-held-score : goal.returns-then-held-score
-returns-then-held-score c = record { result_value = rw (le-ltb c.args.score.over c.args.best.score.over (omega arith), eq-eqb _ _ c.if-score-held.true, cost_at_most _ _ c.requires.t c.requires.t_2, c.if-held-score.true); t_3 = c.requires.t_2 }
+returns-then-held-score c = record { value = rw (le-ltb c.args.score.over c.args.best.score.over (omega arith), eq-eqb _ _ c.if-score-held.true, cost_at_most _ _ c.requires.score_nonneg c.requires.best_nonneg, c.if-held-score.true); nonneg = c.requires.best_nonneg }
 
 pub returns-else-held-score : goal.returns-else-held-score
-returns-else-held-score c = record { result_value = rw (le-ltb c.args.score.over c.args.best.score.over (omega arith), eq-eqb _ _ c.if-score-held.true, cost_at_most _ _ c.requires.t c.requires.t_2, c.if-held-score.false); t_3 = c.requires.t }
+returns-else-held-score c = record { value = rw (le-ltb c.args.score.over c.args.best.score.over (omega arith), eq-eqb _ _ c.if-score-held.true, cost_at_most _ _ c.requires.score_nonneg c.requires.best_nonneg, c.if-held-score.false); nonneg = c.requires.score_nonneg }
 
 pub returns-then-score-held-2 : goal.returns-then-score-held-2
-returns-then-score-held-2 c = record { result_value = rw (lt-ltb _ _ c.if-score-held-2.true); t_3 = c.requires.t }
+returns-then-score-held-2 c = record { value = rw (lt-ltb _ _ c.if-score-held-2.true); nonneg = c.requires.score_nonneg }
 
 pub returns-else-score-held-2 : goal.returns-else-score-held-2
-returns-else-score-held-2 c = record { result_value = rw (le-ltb _ _ c.if-score-held-2.false, ne_eqb _ _ c.if-score-held.false); t_3 = c.requires.t_2 }
+returns-else-score-held-2 c = record { value = rw (le-ltb _ _ c.if-score-held-2.false, ne_eqb _ _ c.if-score-held.false); nonneg = c.requires.best_nonneg }

@@ -17,7 +17,7 @@ overflow_sub-len c = ends_rise c.requires.scored.candidates (c.loop-i.i - 1) c.a
 pub returns-then-limit-len : goal.returns-then-limit-len
 unfolding piece_length
 returns-then-limit-len c = let w = c.loop-i.invariant.1 in
-    record { walked_2 = w; long = long_over c.requires.scored c.requires.costed w c.loop-i-test.true c.if-limit-len.true }
+    record { walked_after = w; long = long_over c.requires.scored c.requires.costed w c.loop-i-test.true c.if-limit-len.true }
 
 pub is_short-requires : goal.is_short-requires
 unfolding piece_length
@@ -26,7 +26,7 @@ is_short-requires c = piece_bounded c.requires.scored.candidates (c.loop-i.i - 1
 pub returns-then-not-is_short : goal.returns-then-not-is_short
 unfolding piece_length
 returns-then-not-is_short c = let w = c.loop-i.invariant.1 in
-    record { walked_2 = w; long = long_met c.requires.scored c.requires.costed w c.loop-i-test.true (sym c.is_short.ensures ∙ c.if-not-is_short.true) }
+    record { walked_after = w; long = long_met c.requires.scored c.requires.costed w c.loop-i-test.true (sym c.is_short.ensures ∙ c.if-not-is_short.true) }
 
 pub piece_score-requires : goal.piece_score-requires
 unfolding piece_length
@@ -36,15 +36,15 @@ piece_score-requires c = let ok = c.requires.scored in
 
 pub or_better-best-requires : goal.or_better-best-requires
 unfolding piece_length
-or_better-best-requires c = record { t = rw c.piece_score.ensures (score-number c.requires.scored c.requires.costed (c.loop-i.i - 1) (omega arith)); t_2 = c.loop-i.invariant.1.number }
+or_better-best-requires c = record { score_nonneg = rw c.piece_score.ensures (score-number c.requires.scored c.requires.costed (c.loop-i.i - 1) (omega arith)); best_nonneg = c.loop-i.invariant.1.number }
 
 pub loop-i-preserved : goal.loop-i-preserved
 unfolding piece_length
 loop-i-preserved c = (
   omega arith,
   walked_next c.requires.scored c.requires.costed c.loop-i.invariant.1 _ c.loop-i-test.true c.if-limit-len.false
-      (rw c.piece_score.ensures at c.or_better-best.ensures.result_value) c.or_better-best.ensures.t_3,
+      (rw c.piece_score.ensures at c.or_better-best.ensures.value) c.or_better-best.ensures.nonneg,
 )
 
 pub returns : goal.returns
-returns c = record { walked_2 = c.loop-i.invariant.1; long = long_none c.args.lengths c.args.left.now c.args.right.now c.args.from c.args.j c.loop-i.i c.loop-i-test.false }
+returns c = record { walked_after = c.loop-i.invariant.1; long = long_none c.args.lengths c.args.left.now c.args.right.now c.args.from c.args.j c.loop-i.i c.loop-i-test.false }

@@ -35,7 +35,7 @@ unfolding piece_length
 short_pieces-walk-requires c = record { scored = c.requires.scored; costed = c.requires.costed; walked = rw c.piece_score-first.ensures (walked_first c.requires.scored c.requires.costed c.args.from c.if-j-from.false c.if-limit-len.false) }
 
 pub long_parts-best-requires : goal.long_parts-best-requires
-long_parts-best-requires c = record { scored = c.requires.scored; costed = c.requires.costed; from_le_j = omega (arith, c.if-j-from.false); walked = c.short_pieces-walk.ensures.walked_2; long = c.short_pieces-walk.ensures.long }
+long_parts-best-requires c = record { scored = c.requires.scored; costed = c.requires.costed; from_le_j = omega (arith, c.if-j-from.false); walked = c.short_pieces-walk.ensures.walked_after; long = c.short_pieces-walk.ensures.long }
 
 pub returns : goal.returns
 unfolding piece_length
