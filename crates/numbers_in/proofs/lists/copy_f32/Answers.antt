@@ -12,7 +12,7 @@ loop-i-init c = (omega arith, refl, copied_start (λ (j : ℕ). f32_at c.args.s.
 
 pub loop-i-preserved : goal.loop-i-preserved
 loop-i-preserved c =
-    (omega (arith, c.loop-i-test.true), length-set c.loop-i.list c.loop-i.i c.f32_at.result ∙ c.loop-i.invariant.1, copied_next (λ (j : ℕ). f32_at c.args.s.now (c.args.at + 4 * j)) c.args.list.now c.loop-i.list c.loop-i.i c.f32_at.result (omega (arith, c.loop-i-test.true, c.requires.n_in_bounds_2)) c.loop-i.invariant.2 c.f32_at.ensures)
+    (omega (arith, c.loop-i-test.true), length-set c.loop-i.list c.loop-i.i c.f32_at.result ∙ c.loop-i.invariant.1, copied_next (λ (j : ℕ). f32_at c.args.s.now (c.args.at + 4 * j)) c.args.list.now c.loop-i.list c.loop-i.i c.f32_at.result (omega (arith, c.loop-i-test.true, c.requires.list_in_bounds)) c.loop-i.invariant.2 c.f32_at.ensures)
 
 pub returns : goal.returns
 returns c = copied_done (λ (j : ℕ). f32_at c.args.s.now (c.args.at + 4 * j)) c.args.list.now c.loop-i.list c.loop-i.i c.args.n c.loop-i.invariant.0 c.loop-i-test.false c.loop-i.invariant.2
