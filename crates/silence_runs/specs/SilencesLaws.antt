@@ -1,7 +1,7 @@
 -- A silence starts and ends where a silent and a sounding frame meet: the silent runs are the places where a walk sees an edge, in order.
 -- So they rise, are not empty and do not touch, and a frame is silent exactly where it is in one of them.
 use Rattle.std.specs.Prelude.{◌≡◌, refl, Bool, true, false, not, cond, ◌&&◌, ◌||◌, List, [], ◌∷◌, ◌++◌, ℕ, zero, suc, ◌+◌, ◌-◌, ◌*◌, ◌/◌, ◌≤◌, ◌<◌, eqb, ltb, leb, length, get_or, replicate}
-use Rattle.std.proofs.Common.{ap, subst, ◌∙◌, inl, inr, le_refl, add-suc, suc-ne-zero, add-one, arith, ltb→lt, leb→le, ne_eqb, eqb-true, lt-ltb, le-ltb, le-leb}
+use Rattle.std.proofs.Common.{ap, sym, subst, ◌∙◌, inl, inr, le_refl, add-suc, suc-ne-zero, add-one, arith, ltb→lt, leb→le, ne_eqb, eqb-true, lt-ltb, le-ltb, le-leb}
 use Rattle.std.proofs.Math.Dec.{eqb-suc-zero}
 use Rattle.std.specs.Float.Ieee.Bits.{is_true}
 use Rattle.std.specs.Float.Ieee.Fits.{and_l, and_r}
@@ -174,7 +174,7 @@ mutual
   exact_outside : (xs : List ℕ) (f k p : ℕ) → (p ≡ 0 → ⊥) → in_silence (k + f) (edges k p xs) ≡ eqb (get_or xs f 1) 0
   exact_outside [] f k p h = rw (ne_eqb p 0 h)
   exact_outside (zero ∷ xs) zero k p h = rw (ne_eqb p 0 h) (in_open xs (k + 0) k (suc k) (omega arith) (omega arith))
-  exact_outside (zero ∷ xs) (suc f) k p h = rw (ne_eqb p 0 h, one_on k f) (exact_inside xs f k (suc k) (omega arith))
+  exact_outside (zero ∷ xs) (suc f) k p h = rw (one_on k f, ne_eqb p 0 h) (exact_inside xs f k (suc k) (omega arith))
   exact_outside (suc x ∷ xs) zero k p h =
       rw (ne_eqb p 0 h, eqb-suc-zero x) (below_rising (k + 0) (suc k) (suc k + length xs) (edges (suc k) (suc x) xs) (omega arith) (edges_rise xs (suc k) (suc x) (suc k + length xs) (le_refl (suc k + length xs))))
   exact_outside (suc x ∷ xs) (suc f) k p h = rw (ne_eqb p 0 h, eqb-suc-zero x, one_on k f) (exact_outside xs f (suc k) (suc x) (suc-ne-zero x))
@@ -183,12 +183,14 @@ mutual
   exact_inside : (xs : List ℕ) (f s k : ℕ) → s ≤ k → in_silence (k + f) (s ∷ edges k 0 xs) ≡ eqb (get_or xs f 1) 0
   exact_inside [] f s k l = rw (le-leb s (k + f) (omega arith), le-ltb (k + f) k (omega arith))
   exact_inside (zero ∷ xs) zero s k l = in_open xs (k + 0) s (suc k) (omega arith) (omega arith)
-  exact_inside (zero ∷ xs) (suc f) s k l = rw (one_on k f) (exact_inside xs f s (suc k) (omega arith))
+  exact_inside (zero ∷ xs) (suc f) s k l =
+      subst (λ (g : ℕ). in_silence g (s ∷ edges (suc k) 0 xs) ≡ eqb (get_or xs f 1) 0) (sym (one_on k f)) (exact_inside xs f s (suc k) (omega arith))
   exact_inside (suc x ∷ xs) zero s k l =
       rw (eqb-suc-zero x, le-leb s (k + 0) (omega arith), le-ltb (k + 0) k (omega arith))
       (below_rising (k + 0) (suc k) (suc k + length xs) (edges (suc k) (suc x) xs) (omega arith) (edges_rise xs (suc k) (suc x) (suc k + length xs) (le_refl (suc k + length xs))))
   exact_inside (suc x ∷ xs) (suc f) s k l =
-      rw (eqb-suc-zero x, le-leb s (k + suc f) (omega arith), le-ltb (k + suc f) k (omega arith), one_on k f) (exact_outside xs f (suc k) (suc x) (suc-ne-zero x))
+      rw (eqb-suc-zero x, le-leb s (k + suc f) (omega arith), le-ltb (k + suc f) k (omega arith))
+      (subst (λ (g : ℕ). in_silence g (edges (suc k) (suc x) xs) ≡ eqb (get_or xs f 1) 0) (sym (one_on k f)) (exact_outside xs f (suc k) (suc x) (suc-ne-zero x)))
 
 -- a frame is silent exactly where it is in one of the silences (a frame past the end is in none)
 pub silences_exact : (xs : List ℕ) (f : ℕ) → in_silence f (silences_of xs) ≡ eqb (get_or xs f 1) 0

@@ -35,6 +35,8 @@ reached_mono s t v w h k = elim (tested (le s v)) [
 
 louder_length : (vs ws : List Float) → Louder vs ws → length vs ≡ length ws
 louder_length [] [] r = refl
+louder_length [] (w ∷ ws) r = elim r [ ]
+louder_length (v ∷ vs) [] r = elim r [ ]
 louder_length (v ∷ vs) (w ∷ ws) r = ap suc (louder_length vs ws r.1)
 
 -- ---- hysteresis
@@ -53,6 +55,8 @@ module _ (on off : Float) (order : T (le off on)) where
   after_mono : (vs ws : List Float) (flags : List ℕ) (b c : ℕ) → b ≤ c → Louder vs ws → (i : ℕ) → get_or (sounds_after on off b vs flags) i 0 ≤ get_or (sounds_after on off c ws flags) i 0
   unfolding sounds_after
   after_mono [] [] flags b c l r i = omega arith
+  after_mono [] (w ∷ ws) flags b c l r i = elim r [ ]
+  after_mono (v ∷ vs) [] flags b c l r i = elim r [ ]
   after_mono (v ∷ vs) (w ∷ ws) [] b c l r i = omega arith
   after_mono (v ∷ vs) (w ∷ ws) (f ∷ flags) b c l r zero = sound_mono b c v w f l r.0
   after_mono (v ∷ vs) (w ∷ ws) (f ∷ flags) b c l r (suc i) = after_mono vs ws flags (sound_at on off b v f) (sound_at on off c w f) (sound_mono b c v w f l r.0) r.1 i
