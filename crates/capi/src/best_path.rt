@@ -13,8 +13,7 @@ use path_pieces::weights;
 
 // 0 where a path was found, and else document 01's number.
 // The path's candidates stand at the front of `path`, `length` of them, and its score in `over` and `score_cost`.
-#[unsafe(no_mangle)]
-pub extern "C" fn buchawzer_path(
+pub fn buchawzer_path(
     left: &[u64],
     right: &[u64],
     cost: &[f64],

@@ -47,8 +47,7 @@ fn grid_args(g: FrameGrid) -> bool
 }
 
 // Boundary k of the grid with these numbers.
-#[unsafe(no_mangle)]
-pub extern "C" fn buchawzer_boundary(
+pub fn buchawzer_boundary(
     sample_rate: u32,
     frame_rate: u32,
     hop: u32,
@@ -73,8 +72,7 @@ pub extern "C" fn buchawzer_boundary(
 }
 
 // A duration in whole frames, rounded half up.
-#[unsafe(no_mangle)]
-pub extern "C" fn buchawzer_frames_in(frame_rate: u32, hop: u32, nanos: u64) -> u64
+pub fn buchawzer_frames_in(frame_rate: u32, hop: u32, nanos: u64) -> u64
     ensures { result ≡ number_if (frames_args frame_rate hop nanos) (frames_in frame_rate hop nanos) }
 {
     if !frames_args(frame_rate, hop, nanos) {
@@ -84,8 +82,7 @@ pub extern "C" fn buchawzer_frames_in(frame_rate: u32, hop: u32, nanos: u64) -> 
 }
 
 // A duration in whole frames, rounded up.
-#[unsafe(no_mangle)]
-pub extern "C" fn buchawzer_frames_ceil(frame_rate: u32, hop: u32, nanos: u64) -> u64
+pub fn buchawzer_frames_ceil(frame_rate: u32, hop: u32, nanos: u64) -> u64
     ensures { result ≡ number_if (frames_args frame_rate hop nanos) (frames_ceil frame_rate hop nanos) }
 {
     if !frames_args(frame_rate, hop, nanos) {
@@ -95,8 +92,7 @@ pub extern "C" fn buchawzer_frames_ceil(frame_rate: u32, hop: u32, nanos: u64) -
 }
 
 // A duration in whole frames, rounded down.
-#[unsafe(no_mangle)]
-pub extern "C" fn buchawzer_frames_floor(frame_rate: u32, hop: u32, nanos: u64) -> u64
+pub fn buchawzer_frames_floor(frame_rate: u32, hop: u32, nanos: u64) -> u64
     ensures { result ≡ number_if (frames_args frame_rate hop nanos) (frames_floor frame_rate hop nanos) }
 {
     if !frames_args(frame_rate, hop, nanos) {
@@ -106,8 +102,7 @@ pub extern "C" fn buchawzer_frames_floor(frame_rate: u32, hop: u32, nanos: u64) 
 }
 
 // A duration in whole samples, rounded down.
-#[unsafe(no_mangle)]
-pub extern "C" fn buchawzer_samples_floor(sample_rate: u32, nanos: u64) -> u64
+pub fn buchawzer_samples_floor(sample_rate: u32, nanos: u64) -> u64
     ensures { result ≡ number_if (samples_args sample_rate nanos) (samples_floor sample_rate nanos) }
 {
     if !samples_args(sample_rate, nanos) {
@@ -117,8 +112,7 @@ pub extern "C" fn buchawzer_samples_floor(sample_rate: u32, nanos: u64) -> u64
 }
 
 // A duration in samples as a float.
-#[unsafe(no_mangle)]
-pub extern "C" fn buchawzer_samples_in(sample_rate: u32, nanos: u64) -> f64
+pub fn buchawzer_samples_in(sample_rate: u32, nanos: u64) -> f64
     ensures { result ≡ float_if (samples_args sample_rate nanos) (samples_in sample_rate nanos) }
 {
     if !samples_args(sample_rate, nanos) {
@@ -128,8 +122,7 @@ pub extern "C" fn buchawzer_samples_in(sample_rate: u32, nanos: u64) -> f64
 }
 
 // A duration in seconds.
-#[unsafe(no_mangle)]
-pub extern "C" fn buchawzer_seconds(nanos: u64) -> f64
+pub fn buchawzer_seconds(nanos: u64) -> f64
     ensures { result ≡ float_if (samples_args 1 nanos) (seconds_of nanos) }
 {
     if !samples_args(1, nanos) {
@@ -139,8 +132,7 @@ pub extern "C" fn buchawzer_seconds(nanos: u64) -> f64
 }
 
 // One frame in seconds.
-#[unsafe(no_mangle)]
-pub extern "C" fn buchawzer_frame_secs(frame_rate: u32, hop: u32) -> f64
+pub fn buchawzer_frame_secs(frame_rate: u32, hop: u32) -> f64
     ensures { result ≡ float_if (frames_args frame_rate hop 0) (frame_secs_of frame_rate hop) }
 {
     if !frames_args(frame_rate, hop, 0) {
@@ -150,8 +142,7 @@ pub extern "C" fn buchawzer_frame_secs(frame_rate: u32, hop: u32) -> f64
 }
 
 // Whether the frames cover the length; no grid outside the limits does.
-#[unsafe(no_mangle)]
-pub extern "C" fn buchawzer_covers(
+pub fn buchawzer_covers(
     sample_rate: u32,
     frame_rate: u32,
     hop: u32,

@@ -8,8 +8,7 @@ use cutplan::plan;
 // A job of 0 bytes is an empty recording (document 02, S-2).
 // Where `listing` has fewer than 53,702 bytes, the longest that a listing can be, nothing is written
 // and the answer is 0.
-#[unsafe(no_mangle)]
-pub extern "C" fn buchawzer_cutplan(job: &[u8], listing: &mut [u8]) -> u64
+pub fn buchawzer_cutplan(job: &[u8], listing: &mut [u8]) -> u64
     ensures { printed result listing.new ≡ printed_into job.now listing.old }
 {
     plan::plan_job(job, listing) as u64

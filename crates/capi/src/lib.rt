@@ -2,8 +2,8 @@
 #![tactic(auto)]
 
 pub mod best_path;
-pub mod candidates;
 pub mod convert;
+pub mod cut_candidates;
 pub mod jobs;
 pub mod plan;
 pub mod recording;

@@ -19,8 +19,7 @@ use planner::operation;
 // and its flags (1 short, 2 long, 3 both) at pieces[3 i + 2];
 // the cut after it has the end of piece i at cuts[3 i], the start of the next at cuts[3 i + 1]
 // and its reason (0 silence, 1 quiet, 2 forced) at cuts[3 i + 2].
-#[unsafe(no_mangle)]
-pub extern "C" fn buchawzer_plan(
+pub fn buchawzer_plan(
     sample_rate: u32,
     channels: u16,
     frame_rate: u32,

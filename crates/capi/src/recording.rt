@@ -30,8 +30,7 @@ pub fn recording_of(
 }
 
 // Document 01's number for the first of the tests 1 to 6 that the recording fails, or 0.
-#[unsafe(no_mangle)]
-pub extern "C" fn buchawzer_validate(
+pub fn buchawzer_validate(
     sample_rate: u32,
     channels: u16,
     frame_rate: u32,
@@ -50,8 +49,7 @@ pub extern "C" fn buchawzer_validate(
 }
 
 // Whether each flag byte is 0 or 1, as test 5 asks it of decibels: by itself, for the benchmark.
-#[unsafe(no_mangle)]
-pub extern "C" fn buchawzer_are_flags(flags: &[u8]) -> bool
+pub fn buchawzer_are_flags(flags: &[u8]) -> bool
     ensures { result ≡ all_of is_flag flags.now }
 {
     grid::flags::are_flags(flags)

@@ -15,8 +15,7 @@ use plan_records::{cuts, pieces};
 // `numbers` has three numbers for each piece, as `buchawzer_plan` writes them:
 // the first 3 n of its pieces, for n pieces.
 // A rest of one or two is no piece.
-#[unsafe(no_mangle)]
-pub extern "C" fn buchawzer_piece_records(numbers: &[u64], records: &mut [Piece]) -> u32
+pub fn buchawzer_piece_records(numbers: &[u64], records: &mut [Piece]) -> u32
     ensures { records_end result records.new
         ≡ records_end_of piece_of numbers.now records.old }
 {
@@ -33,8 +32,7 @@ pub extern "C" fn buchawzer_piece_records(numbers: &[u64], records: &mut [Piece]
 }
 
 // The same of cuts: the first 3 (n - 1) numbers of `buchawzer_plan`'s cuts.
-#[unsafe(no_mangle)]
-pub extern "C" fn buchawzer_cut_records(numbers: &[u64], records: &mut [Cut]) -> u32
+pub fn buchawzer_cut_records(numbers: &[u64], records: &mut [Cut]) -> u32
     ensures { records_end result records.new
         ≡ records_end_of cut_of numbers.now records.old }
 {

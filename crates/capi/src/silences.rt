@@ -33,8 +33,7 @@ pub fn segment_of(
 
 // 0 where the list was made, and else document 01's number (`silences_called_zero`).
 // Silence i has its first frame at out[2 i] and the frame after its last at out[2 i + 1].
-#[unsafe(no_mangle)]
-pub extern "C" fn buchawzer_silence_list(
+pub fn buchawzer_silence_list(
     sample_rate: u32,
     channels: u16,
     frame_rate: u32,

@@ -3,7 +3,7 @@
 // The contracts cite specs/ under the same names.
 #![tactic(auto)]
 
-pub mod candidates;
+pub mod cut_candidates;
 pub mod path;
 pub mod plan;
 pub mod silences;
