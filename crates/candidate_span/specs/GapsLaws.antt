@@ -78,6 +78,7 @@ spread_ends a (g ∷ gs) z s = omega (arith, s.0, s.1, spread_ends g.right gs z 
 
 -- each gap lies strictly inside, and drops a frame at least
 pub spread_inside : (a : ℕ) (gs : List Cut) (z : ℕ) (g : Cut) → Spread a gs z → Memᴰ g gs → (a < g.left) × (g.left < g.right) × (g.right < z)
+spread_inside a [] z g s m = elim m [ ]
 spread_inside a (h ∷ gs) z g s (Memᴰ.head e) =
     let l = ap (λ (c : Cut). c.left) e in
     let r = ap (λ (c : Cut). c.right) e in

@@ -25,6 +25,7 @@ row_from a b (k ∷ ks) z h r = (omega arith, r.1, r.2)
 
 -- each cut of a row lies strictly inside it
 pub row_inside : (a : ℕ) (ks : List Cut) (z : ℕ) (k : Cut) → Row a ks z → Memᴰ k ks → (a < k.left) × (k.left ≤ k.right) × (k.right < z)
+row_inside a [] z k r m = elim m [ ]
 row_inside a (c ∷ cs) z k r (Memᴰ.head e) =
     subst (λ (j : Cut). (a < j.left) × (j.left ≤ j.right) × (j.right < z)) (sym e) (r.0, r.1, row_ends c.right cs z r.2)
 row_inside a (c ∷ cs) z k r (Memᴰ.tail m) = let i = row_inside c.right cs z k r.2 m in (omega arith, i.1, i.2)

@@ -157,6 +157,7 @@ of_places a (g ∷ gs) z k s m = go (of_points a (g.left - suc a) (g ∷ places_
 -- ---- two cuts of a row are one, or lie apart
 
 pub row_apart : (a : ℕ) (cs : List Cut) (z : ℕ) → Row a cs z → (j k : Cut) → Memᴰ j cs → Memᴰ k cs → j.left ≤ k.right → (j.right < k.left) ⊎ (j ≡ k)
+row_apart a [] z r j k m n h = elim m [ ]
 row_apart a (c ∷ cs) z r j k (Memᴰ.head p) (Memᴰ.head q) h = inr (p ∙ sym q)
 row_apart a (c ∷ cs) z r j k (Memᴰ.head p) (Memᴰ.tail n) h =
     inl (omega (arith, ap (λ (i : Cut). i.right) p, (row_inside c.right cs z k r.2 n).0))
