@@ -1,5 +1,5 @@
 -- The least score that any predecessor of a range can give: the score of the range's node, and the least that a piece from the range can add.
-use Rattle.std.specs.Prelude.{List, ℕ, ◌+◌, ◌-◌, min, pos, Float, get_or}
+use Rattle.std.specs.Prelude.{List, ℕ, ◌+◌, ◌-◌, pos, Float, get_or}
 use Rattle.std.specs.Float.{binary64}
 use Rattle.std.specs.Float.Ieee.{add, of_int}
 use Rattle.base_terms.specs.Lengths.{length_bound}
