@@ -50,7 +50,7 @@ pub extern "C" fn buchawzer_candidates(
     costs: &mut [f64],
     found: &mut u64,
 ) -> u32
-    ensures work_f64_after { list_called result found.new
+    ensures answer { list_called result found.new
         (output_of ends.new costs.new)
         (work_of work_u32.new work_u64.new work_f64.new)
         ≡ list_called_of
@@ -64,7 +64,7 @@ pub extern "C" fn buchawzer_candidates(
         (work_of work_u32.old work_u64.old work_f64.old))
         found.old }
     ensures fitting { Fitting values.now levels.now }
-    ensures t { T (fits binary64 cut) }
+    ensures cut_fits { T (fits binary64 cut) }
 {
     cut_candidates::buchawzer_candidates(
         sample_rate,

@@ -50,7 +50,7 @@ pub extern "C" fn buchawzer_plan(
     cuts: &mut [u64],
     found: &mut u64,
 ) -> u32
-    ensures parent_after { plan_called result found.new
+    ensures answer { plan_called result found.new
         (output_of pieces.new cuts.new)
         (work_of work_u32.new work_u64.new work_f64.new)
         parent.new
