@@ -170,17 +170,14 @@ module _ (r : Recording) (values : List Float) (flags : List ℕ) (levels : List
 
   -- ---- and back: what an accepted recording has passed
 
-  -- only a recording that has passed all six is accepted
+  -- only a recording that has passed all six is accepted; in which order the last three are tested does not matter
   pub passed : validity_of r values flags levels ≡ Valid → AcceptedRecording r values flags levels
   unfolding validity_of
   passed e =
       let p = step (rate_ok r.sample_rate) BadSampleRate tt e in
       let q = step (channels_ok r.channels) NoChannels tt p.1 in
       let s = step (frames_ok r.sample_rate r.frame_rate r.hop) BadFrames tt q.1 in
-      let t = step (lists_ok r.domain (length values) (length flags) (length levels)) BadLists tt s.1 in
-      let u = step (values_ok r.domain values flags levels) BadValue tt t.1 in
-      let v = step (length_ok (grid_of r (length values))) NotCovered tt u.1 in
-      record { rate = p.0; channels = q.0; frames = s.0; lists = t.0; within = u.0; length = v.0 }
+      record { rate = p.0; channels = q.0; frames = s.0; lists = grind (arith, s.1); within = grind (arith, s.1); length = grind (arith, s.1) }
 
   -- so its grid is accepted
   pub valid_accepted : validity_of r values flags levels ≡ Valid → Accepted (grid_of r (length values))

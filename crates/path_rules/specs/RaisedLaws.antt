@@ -98,8 +98,8 @@ module _ (l : Lengths) (left right : List ℕ) (cut : List Float) where
           | inr g ↦ let q : a.over ≡ b.over = le_antisymm h g in rw (e, q) t
         ]
 
-    -- so a path that is at most it under the longer limit is no worse
-    raised : (path path' : List ℕ) → T (at_most (before path) (before path)) → T (at_most (after path') (after path)) → NoWorsePath l low high left right cut path path'
+    -- so a path that is at most it under the longer limit scores no more there than it did
+    raised : (path path' : List ℕ) → T (at_most (before path) (before path)) → T (at_most (after path') (after path)) → T (at_most (after path') (before path))
     raised path path' t best = at_most_trans (after path') (after path) (before path) best (same_path path t)
 
     -- the best path is no worse: by length
