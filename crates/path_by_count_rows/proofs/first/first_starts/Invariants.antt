@@ -1,0 +1,11 @@
+use Rattle.path_by_count_rows.specs.FirstLaws.{Starting}
+use mathlib.Core.Path.{◌≡◌}
+use Prim.Native.Nat.{◌-◌}
+use lib.ListN.{length}
+use Rattle.path_by_count_rows.proofs.first.first_starts.Given as goal
+
+abbrev pub invariant-loop-j : goal.invariant-loop-j
+invariant-loop-j l = (l.j-end ≡ length l.left) × Starting l.limit l.left l.right l.first l.p l.j
+
+abbrev pub decreases-loop-j : goal.decreases-loop-j
+decreases-loop-j l = l.j-end - l.j
