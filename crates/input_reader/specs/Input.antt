@@ -1,26 +1,26 @@
 -- How input is read to its end: by one `read` after another, each behind what was read before it.
--- The kit's contract of `read` says how many bytes an answer may stand for (`Moved`), and nothing of the bytes. So here stands
+-- The contract of `read` says how many bytes an answer may stand for, and of standard input nothing of the bytes. So here stands
 -- what each answer leads to and what a read leaves alone; no contract can say what the bytes are, nor that a read was made.
-use Rattle.std.specs.Prelude.{◌≡◌, List, ℕ, zero, suc, ◌+◌, ◌-◌, ◌≤◌, ◌<◌, ℤ, pos, negsuc, length, take}
-use Rattle.libc.specs.Io.{Moved}
+use Rattle.std.specs.Prelude.{◌≡◌, List, ℕ, zero, suc, ◌+◌, ◌-◌, ◌≤◌, ◌<◌, length, take, Result, Ok, Err, IfOk}
+use Rattle.std.specs.declared.io.Error.{Error}
 use Rattle.input_reader.specs.declared.input.Input.{Input}
 use Rattle.input_reader.specs.declared.input.Input.TheVariants.{Read, Failed}
 use Rattle.input_reader.specs.declared.input.Step.{Step}
 use Rattle.input_reader.specs.declared.input.Step.TheVariants.{More, End, Broken}
 
--- what one answer says: above 0 so many bytes, 0 the end of the input, below 0 a failure
-abbrev pub step_of : ℤ → Step
-step_of (pos zero) = End
-step_of (pos (suc k)) = More (suc k)
-step_of (negsuc k) = Broken
+-- what one answer says: above 0 so many bytes, 0 the end of the input, an error a failure
+abbrev pub step_of : Result ℕ Error → Step
+step_of (Ok zero) = End
+step_of (Ok (suc k)) = More (suc k)
+step_of (Err e) = Broken
 
 -- one read, which had room for a byte: what was read before it stays, and so does the list's length; the step is what its answer says
 pub record ReadBehind (done : ℕ) (before : List ℕ) (step : Step) (after : List ℕ) : Type 0 where
   pub room : done < length before
   pub front_stays : take done after ≡ take done before
   pub length_stays : length after ≡ length before
-  pub answer : ℤ
-  pub moved : Moved (length before - done) answer
+  pub answer : Result ℕ Error
+  pub moved : IfOk answer (λ n. n ≤ length before - done)
   pub said : step ≡ step_of answer
 
 -- the reads from here on, behind so many bytes, and what they come to: the list is full, or a read says that the input ended,

@@ -1,9 +1,8 @@
 -- What one answer of `read` says, how a reading goes on from it, and what it leaves (`reads_fit`, `reads-length`, `reads_kept`).
-use Rattle.std.specs.Prelude.{◌≡◌, refl, Bool, true, false, List, ℕ, zero, suc, ◌+◌, ◌-◌, ◌≤◌, ◌<◌, T, ℤ, pos, negsuc, nat_abs, length, take}
-use Rattle.std.proofs.Common.{sym, ap, subst, ◌∙◌, arith, ltb→lt, lt→ltb, take-take}
-use Rattle.std.specs.Int.Signed.{lt_z, non_neg}
+use Rattle.std.specs.Prelude.{◌≡◌, refl, Bool, true, false, List, ℕ, zero, suc, ◌+◌, ◌-◌, ◌≤◌, ◌<◌, length, take, Result, Ok, Err, IfOk}
+use Rattle.std.proofs.Common.{sym, ap, subst, ◌∙◌, arith, take-take}
 use borrow.Rule.Slice.PartMut.{mid_of, put_mid, mid_len, same_len_mid, take_put}
-use Rattle.libc.specs.Io.{Moved}
+use Rattle.std.specs.declared.io.Error.{Error}
 use Rattle.base_laws.specs.Tests.{holds}
 use Rattle.input_reader.specs.Input.{step_of, ReadBehind, Reads, full, ended, failed, more, FitsIn}
 use Rattle.input_reader.specs.declared.input.Input.{Input}
@@ -24,57 +23,40 @@ size_of Broken = 0
 
 -- ---- one answer
 
--- above 0
-positive : (z : ℤ) → lt_z (pos 0) z ≡ true → T (non_neg z) × (More (nat_abs z) ≡ step_of z)
-positive (pos zero) e = absurd (holds e)
-positive (pos (suc n)) e = (tt, refl)
-positive (negsuc n) e = absurd (holds e)
-
--- below 0
-negative : (z : ℤ) → lt_z z (pos 0) ≡ true → Broken ≡ step_of z
-negative (pos n) e = absurd (omega (arith, ltb→lt n 0 (holds e)))
-negative (negsuc n) e = refl
-
--- neither, and so 0
-neither : (z : ℤ) → lt_z (pos 0) z ≡ false → lt_z z (pos 0) ≡ false → End ≡ step_of z
-neither (pos zero) e f = refl
-neither (pos (suc n)) e f = absurd (subst T e (lt→ltb 0 (suc n) (omega arith)))
-neither (negsuc n) e f = absurd (holds (sym f))
-
--- the same by tests of what the machine reads back from an answer's bits
-module _ {answer back : ℤ} (same : back ≡ answer) where
+module _ {answer : Result ℕ Error} where
   -- a number above 0 is one of bytes
-  pub told_more : lt_z (pos 0) back ≡ true → T (non_neg back) × (More (nat_abs back) ≡ step_of answer)
-  told_more e = rw (← same) (positive back e)
+  pub told_more : (n : ℕ) → answer ≡ Ok n → 0 < n → More n ≡ step_of answer
+  told_more zero e h = absurd (omega (arith, h))
+  told_more (suc n) e h = rw e
 
-  -- one below 0 is a failure
-  pub told_broken : lt_z back (pos 0) ≡ true → Broken ≡ step_of answer
-  told_broken e = rw (← same) (negative back e)
+  -- an error is a failure
+  pub told_broken : (error : Error) → answer ≡ Err error → Broken ≡ step_of answer
+  told_broken error e = rw e
 
   -- 0 is the end
-  pub told_end : lt_z (pos 0) back ≡ false → lt_z back (pos 0) ≡ false → End ≡ step_of answer
-  told_end e f = rw (← same) (neither back e f)
+  pub told_end : answer ≡ Ok 0 → End ≡ step_of answer
+  told_end e = rw e
 
 -- ---- one read
 
 -- what was put behind the front leaves it as it was
-pub reads_behind : (done : ℕ) (before last : List ℕ) (answer : ℤ) (step : Step) → done < length before
-    → length last ≡ length (mid_of done (length before - done) before) → Moved (length (mid_of done (length before - done) before)) answer → step ≡ step_of answer
+pub reads_behind : (done : ℕ) (before last : List ℕ) (answer : Result ℕ Error) (step : Step) → done < length before
+    → length last ≡ length (mid_of done (length before - done) before) → IfOk answer (λ n. n ≤ length (mid_of done (length before - done) before)) → step ≡ step_of answer
     → ReadBehind done before step (put_mid done (length before - done) before last)
 reads_behind done before last answer step h e m s = record {
   room = h;
   front_stays = take_put done (length before - done) before last (omega (arith, h));
   length_stays = same_len_mid done (length before - done) before last e;
   answer = answer;
-  moved = subst (λ (n : ℕ). Moved n answer) (mid_len done (length before) before (omega arith)) m;
+  moved = subst (λ (most : ℕ). IfOk answer (λ n. n ≤ most)) (mid_len done (length before) before (omega arith)) m;
   said = s;
 }
 
 -- an answer of some bytes is of at least one, and they had room
-more-fits : (z : ℤ) (k most : ℕ) → More k ≡ step_of z → Moved most z → (0 < k) × (k ≤ most)
-more-fits (pos zero) k most e m = absurd (holds (sym (ap is_more e)))
-more-fits (pos (suc n)) k most e m = let f : k ≡ suc n = ap size_of e in (omega (arith, f), omega (arith, f, m))
-more-fits (negsuc n) k most e m = absurd (holds (sym (ap is_more e)))
+more_fits : (answer : Result ℕ Error) (k most : ℕ) → More k ≡ step_of answer → IfOk answer (λ n. n ≤ most) → (0 < k) × (k ≤ most)
+more_fits (Ok zero) k most e m = absurd (holds (sym (ap is_more e)))
+more_fits (Ok (suc n)) k most e m = let f : k ≡ suc n = ap size_of e in (omega (arith, f), omega (arith, f, m))
+more_fits (Err error) k most e m = absurd (holds (sym (ap is_more e)))
 
 -- ---- one read after another
 
@@ -112,7 +94,7 @@ module _ {buffer₀ buffer : List ℕ} {done : ℕ} (so_far : SoFar buffer₀ bu
     module _ {k : ℕ} (e : step ≡ More k) where
       -- there are more bytes, and room for them
       pub some_more : (0 < k) × (k ≤ length buffer - done)
-      some_more = more-fits read.answer k (length buffer - done) (sym e ∙ read.said) read.moved
+      some_more = more_fits read.answer k (length buffer - done) (sym e ∙ read.said) read.moved
 
       -- and it goes on behind them
       pub read_more : SoFar buffer₀ after (done + k)
