@@ -37,6 +37,7 @@ chosen_part ks (k ∷ cs) m = elim (Memᴰ.append_cases (choices cs) m) [
 
 any_true : {A : Type 0} (p : A → Bool) (xs : List A) (x : A) → Memᴰ x xs → p x ≡ true → any_of p xs ≡ true
 unfolding any_of
+any_true p [] x m h = elim m [ ]
 any_true p (y ∷ ys) x (Memᴰ.head e) h = rw (← e, h)
 any_true p (y ∷ ys) x (Memᴰ.tail m) h = rw (any_true p ys x m h, or-true)
 
