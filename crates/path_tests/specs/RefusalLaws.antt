@@ -87,9 +87,15 @@ record AllPass (left right : List ℕ) (cost : List Float) (l : Lengths) (mode :
   -- 13
   pub work : work_ok (length left) n32 n64 nf ≡ true
 
+-- where a chain of them is fine, in this order, all of them pass
 all_pass : (left right : List ℕ) (cost : List Float) (l : Lengths) (mode : Mode) (n32 n64 nf : ℕ)
-    → first_refusal_of left right cost l mode n32 n64 nf ≡ Fine → AllPass left right cost l mode n32 n64 nf
-unfolding first_refusal_of
+    → or_else (lists_ok (length left) (length right) (length cost)) BadLists
+    (or_else (ends_ok left right l.limit) BadEnds
+    (or_else (all_of is_cost cost) BadCosts
+    (or_else (lengths_ok l) BadCosts
+    (or_else (count_ok mode) BadCount
+    (or_else (work_ok (length left) n32 n64 nf) ShortWork
+    Fine))))) ≡ Fine → AllPass left right cost l mode n32 n64 nf
 all_pass left right cost l mode n32 n64 nf e =
     let p = step (lists_ok (length left) (length right) (length cost)) BadLists e in
     let q = step (ends_ok left right l.limit) BadEnds p.1 in
@@ -120,6 +126,7 @@ pub record AcceptedLists (left right : List ℕ) (cost : List Float) (l : Length
 -- where no test fails, all of that holds
 pub accepted_lists : (left right : List ℕ) (cost : List Float) (l : Lengths) (mode : Mode) (n32 n64 nf : ℕ)
     → first_refusal_of left right cost l mode n32 n64 nf ≡ Fine → AcceptedLists left right cost l mode n32 n64 nf
+unfolding first_refusal_of
 accepted_lists left right cost l mode n32 n64 nf e =
     let p = all_pass left right cost l mode n32 n64 nf e in
     record {
@@ -137,12 +144,13 @@ accepted_lists left right cost l mode n32 n64 nf e =
 module _ (left right : List ℕ) (cost : List Float) (l : Lengths) (mode : Mode) (n32 n64 nf : ℕ) where
   -- where no test fails the limit is within 16's bound
   pub fine_limit : first_refusal_of left right cost l mode n32 n64 nf ≡ Fine → l.limit ≤ max_len
+  unfolding first_refusal_of
   fine_limit e = limit_within left right l.limit (all_pass left right cost l mode n32 n64 nf e).ends
 
   -- and none fails with any other limit within that bound and any other work lists that are long enough
   pub fine_any_limit : (limit m32 m64 mf : ℕ) → first_refusal_of left right cost l mode n32 n64 nf ≡ Fine → limit ≤ max_len → work_ok (length left) m32 m64 mf ≡ true
       → first_refusal_of left right cost (with_limit l limit) mode m32 m64 mf ≡ Fine
-  unfolding lengths_ok
+  unfolding first_refusal_of lengths_ok
   fine_any_limit limit m32 m64 mf e h w =
       let p = all_pass left right cost l mode n32 n64 nf e in
       sym (passes left right cost (with_limit l limit) mode m32 m64 mf p.lists (ends_any_limit left right l.limit limit h p.ends) p.costs p.lengths p.count w)

@@ -219,13 +219,18 @@ module _ (min : ℕ) where
 
 -- ---- the whole pass
 
--- the pass lists the silences of the sound flags
+-- the pass lists the silences that are left where short sound is filled and then short silence
+pub one_pass_filled : (on off : Float) (min_sound min_silence : ℕ) (values : List Float) (flags : List ℕ)
+    → silences_from min_sound min_silence 0 0 0 (hysteresis on off values flags) ≡ silences_of (fill_silence min_silence (fill_short 1 min_sound (hysteresis on off values flags)))
+one_pass_filled on off min_sound min_silence values flags =
+    let xs = hysteresis on off values flags in
+    filled_left min_sound min_silence xs 0 0 ∙ sym (closed_left min_silence (fill_short 1 min_sound xs) (fill_flags 1 min_sound (omega arith) xs (hysteresis-flags on off values flags)))
+
+-- those are the silences of the sound flags
 pub one_pass : (on off : Float) (min_sound min_silence : ℕ) (values : List Float) (flags : List ℕ)
     → silences_from min_sound min_silence 0 0 0 (hysteresis on off values flags) ≡ silences_of (sounds_of on off min_sound min_silence values flags)
 unfolding sounds_of
-one_pass on off min_sound min_silence values flags =
-    let xs = hysteresis on off values flags in
-    filled_left min_sound min_silence xs 0 0 ∙ sym (closed_left min_silence (fill_short 1 min_sound xs) (fill_flags 1 min_sound (omega arith) xs (hysteresis-flags on off values flags)))
+one_pass on off min_sound min_silence values flags = one_pass_filled on off min_sound min_silence values flags
 
 -- a silence takes two numbers, or none; there is a frame in it
 pub between_small : (min first end : ℕ) → first ≤ end → (length (silence_between min first end) ≤ 2) × (first + length (silence_between min first end) ≤ end + 1)

@@ -19,7 +19,7 @@ use Rattle.silence_runs.specs.HysteresisLaws.{sound_small, after_cons}
 use Rattle.silence_runs.specs.Sounds.{sounds_of}
 use Rattle.silence_runs.specs.Silences.{silences_of}
 use Rattle.silence_runs.specs.OnePass.{sound_by, stay, lasts, silence_between, last_silence, silences_from, next_frame}
-use Rattle.silence_runs.specs.OnePassLaws.{from_zeros, from-run, from_silent, from_end, one_pass, between_small, lasts_some}
+use Rattle.silence_runs.specs.OnePassLaws.{from_zeros, from-run, from_silent, from_end, one_pass_filled, between_small, lasts_some}
 
 -- ---- the next change
 
@@ -245,8 +245,8 @@ pub record PassHolds (on off : Float) (min_sound min_silence : ℕ) (values : Li
 module _ (on off : Float) (min_sound min_silence : ℕ) (values : List Float) (flags out₀ : List ℕ) where
   -- no frame is passed yet
   pub pass_start : length flags ≡ length values → length values + 2 ≤ length out₀ → PassHolds on off min_sound min_silence values flags out₀ out₀ 0 0 0
-  unfolding hysteresis
-  pass_start f r = search (arith, one_pass on off min_sound min_silence values flags)
+  unfolding hysteresis sounds_of
+  pass_start f r = search (arith, one_pass_filled on off min_sound min_silence values flags)
 
   module _ (out : List ℕ) (from last at : ℕ) (w : PassHolds on off min_sound min_silence values flags out₀ out from last at) where
     -- where the run of sound is sought
