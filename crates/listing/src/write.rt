@@ -51,9 +51,9 @@ fn put_cuts(n: usize, cuts: &[u64], at: usize, out: &mut [u8]) -> usize
 // Writes the listing of a plan of n pieces to the front of `out`, and answers how many bytes it has.
 // `Counts` lets a caller hand on that front.
 pub fn write_plan(n: usize, pieces: &[u64], cuts: &[u64], out: &mut [u8]) -> usize
-    requires n_in_bounds { 3 * n ≤ length pieces.now }
-    requires n_in_bounds_2 { 3 * (n - 1) ≤ length cuts.now }
-    requires n_in_bounds_3 { room_for n ≤ length out.old }
+    requires pieces_in_bounds { 3 * n ≤ length pieces.now }
+    requires cuts_in_bounds { 3 * (n - 1) ≤ length cuts.now }
+    requires out_in_bounds { room_for n ≤ length out.old }
     ensures value { result ≡ length (listing_of n pieces.now cuts.now) }
     ensures out_after { out.new
         ≡ onto (listing_of n pieces.now cuts.now) out.old }
