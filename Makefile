@@ -1,8 +1,8 @@
 # make run                    the main job: proves and builds the program cutplan, runs it on document 01's recording R, and
 #                             prints its listing; JOB=file runs it on a job of one's own, as tools/job makes it
-# make test                   the gate, which .ci/run calls: every crate proved from nothing; the floors, the places in work
-#                             memory, the trace, the reading lists and the declarations checked; trials and examples run,
-#                             stored answers replayed; then the comparison with the Rust
+# make test                   the gate, .ci/run: every crate proved by `rt ci`; the floors, the places in work memory, the trace,
+#                             the reading lists and the declarations checked; trials and examples run, stored answers
+#                             replayed; then the comparison with the Rust
 # make compare N=.. SEED=..   the comparison alone, N inputs a subject; SUBJECTS=silences,path names some of them,
 #                             LARGE=.. sets the number of the largest inputs
 # make bench                  times beside the Rust's; PARTS=path names some of them
@@ -40,22 +40,23 @@ job-there:
 	@[ -r "$$JOB" ] && [ ! -d "$$JOB" ] || \
 		{ echo "make run: JOB=$$JOB is no file that can be read; tools/job makes one" >&2; exit 2; }
 
+# The archive's reads name C's error number, which the kit's own archive tells.
 $(CUTPLAN): program/cutplan.c target/staticlib/libcutplan_program.a include/buchawzer.h
-	@$(CC) -O2 -Wall -Wextra -o $@ $(filter-out %.h,$^)
+	@$(CC) -O2 -Wall -Wextra -o $@ $(filter-out %.h,$^) "$$(dirname "$$(rt doc)")/c/libos_c.a"
 
 # Proving takes minutes, so an archive is made anew only where something that it is made from changed.
 target/staticlib/libcutplan_program.a: $(shell tools/prove_shown --sources cutplan_program)
 	@tools/prove_shown cutplan_program
 
-target/staticlib/libcapi.a: $(shell tools/prove_shown --sources capi)
-	@tools/prove_shown capi
+target/staticlib/libcapi_c.a: $(shell tools/prove_shown --sources capi_c)
+	@tools/prove_shown capi_c
 
 # The toolchain names an archive after its crate; programs link with the library's own name.
-$(STATICLIB): target/staticlib/libcapi.a
+$(STATICLIB): target/staticlib/libcapi_c.a
 	@cp $< $@
 
 test:
-	@tools/test
+	@.ci/run
 
 ifeq ($(wildcard $(SHARED)/docs/src),)
 

@@ -12,9 +12,13 @@ use cutplan::plan::LONGEST_LISTING;
 use cutplan::{answer, plan};
 use input_reader::input;
 use input_reader::input::Input;
+use std::io::Stdin;
 
 // One byte more than a job can have, so that a longer one is seen and not cut.
 const INPUT: usize = 8_193;
+
+// The number of standard output.
+const STDOUT: i32 = 1;
 
 // The listing for what was read; a read that failed is refused as bytes that are no job are. `Counts` lets the caller
 // hand on the listing.
@@ -35,17 +39,18 @@ fn list_input(got: Input, job: &[u8], out: &mut [u8]) -> Answered
 
 // The program's status: 0, or 1 where the listing was not written whole.
 // `refused` is then the number of the refusal that the listing says, 0 where it has a plan.
+// `stdin`, the leave to read standard input, takes no bytes, so C passes nothing for it.
 #[unsafe(no_mangle)]
-pub extern "C" fn buchawzer_cutplan_program(refused: &mut u32) -> i32
+pub extern "C" fn buchawzer_cutplan_program(refused: &mut u32, mut stdin: Stdin) -> i32
     ensures { Ran result refused.new }
 {
     let mut job = [0u8; INPUT];
     let mut out = [0u8; LONGEST_LISTING];
-    let got = input::read_to_end(libc::STDIN_FILENO, &mut job);
+    let got = input::read_to_end(&mut stdin, &mut job);
     let listed = list_input(got, &job, &mut out);
     *refused = listed.refused;
     let size = listed.size;
-    if io::write_all(libc::STDOUT_FILENO, &out[..size]) {
+    if io::write_all(STDOUT, &out[..size]) {
         return 0;
     }
     1
