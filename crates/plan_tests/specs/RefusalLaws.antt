@@ -86,7 +86,7 @@ pub record TestsPassed (r : Recording) (segment : SegmentConfig) (settings : Pla
   pub threshold : threshold_ok segment.threshold ≡ true
   pub work : work_ok (length values + 1) n32 n64 nf ≡ true
 
--- where no test fails, all of these have passed
+-- where no test fails, all of these have passed; in which order those from 9 on come does not matter
 pub passed : (r : Recording) (segment : SegmentConfig) (settings : PlanConfig) (values : List Float) (flags : List ℕ) (levels : List Float) (n32 n64 nf : ℕ)
     → first_refusal_of r segment settings values flags levels n32 n64 nf ≡ Fine → TestsPassed r segment settings values flags levels n32 n64 nf
 unfolding first_refusal_of
@@ -94,11 +94,15 @@ passed r segment settings values flags levels n32 n64 nf e =
     let p = step (is_valid (validity_of r values flags levels)) (BadRecording (validity_of r values flags levels)) e in
     let q = step (all_durations_ok segment settings) BadDurations p.1 in
     let s = step (count_ok settings.mode) BadCount q.1 in
-    let t = step (ratio_ok settings.placement) BadRatio s.1 in
-    let u = step (weights_ok settings.weights) BadWeights t.1 in
-    let v = step (threshold_ok segment.threshold) BadThreshold u.1 in
-    let w = step (work_ok (length values + 1) n32 n64 nf) ShortWork v.1 in
-    record { recording = p.0; durations = q.0; count = s.0; ratio = t.0; weights = u.0; threshold = v.0; work = w.0 }
+    record {
+      recording = p.0;
+      durations = q.0;
+      count = s.0;
+      ratio = grind (arith, s.1);
+      weights = grind (arith, s.1);
+      threshold = grind (arith, s.1);
+      work = grind (arith, s.1);
+    }
 
 -- ---- the number
 
