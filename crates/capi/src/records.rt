@@ -1,6 +1,5 @@
 // The pieces and cuts of a plan as records, in lists that the caller lends.
 // A list is lent with records in it, as zeroed memory has them: a bool is 0 or 1.
-// The walk that proves both functions is plan_records' (proofs/Walk).
 ghost use Rattle.std.specs.Prelude.{◌≡◌};
 ghost use Rattle.plan_records.specs.Records.{records_end, records_end_of};
 ghost use Rattle.plan_records.specs.Pieces.{piece_of};

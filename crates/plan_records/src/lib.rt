@@ -1,6 +1,6 @@
 // The pieces and cuts of a plan as records, each made of its three numbers.
 // Contracts cite the file of specs/ that has the module's name, and Records.
-// capi writes whole lists of them; what its proofs by hand cite of such a function stands in proofs/.
+// capi writes whole lists of them; what its proofs cite of such a list stands in specs/RecordsLaws.
 #![tactic(auto)]
 
 pub mod cuts;
