@@ -175,6 +175,7 @@ module _ (r : Recording) (segment : SegmentConfig) (settings : PlanConfig) (valu
   -- 14
   few : (fine : verdict ≡ Fine) (full : is_empty ≡ false) (m : Mode) → settings.mode ≡ m → ModeEnd g settings s with (length parent) m short_parent
       → FewParents r segment settings values flags levels (length parent)
+  few fine full ByLength e made = elim made [ ]
   few fine full (ByCount count) e (by_count c) =
       few_made r segment settings values flags levels (length work.u32s) (length work.u64s) (length work.f64s) (ready fine) full count e (length parent) c
 
