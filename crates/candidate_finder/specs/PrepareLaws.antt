@@ -16,7 +16,7 @@ use Rattle.plan_settings.specs.declared.config.PlanConfig.{PlanConfig}
 use Rattle.candidate_span.specs.ListedLaws.{Listed}
 use Rattle.candidate_span.specs.Spacing.{spacing_of}
 use Rattle.candidate_span.specs.SpacingLaws.{block_some}
-use Rattle.candidate_span.specs.Span.{empty_span, first_of, last_of, ends_of}
+use Rattle.candidate_span.specs.Span.{empty_span, ends_of}
 use Rattle.candidate_span.specs.SpanLaws.{ends-none, ends_found, ends_order}
 use Rattle.candidate_span.specs.declared.held.HeldSpan.{HeldSpan}
 use Rattle.candidate_span.specs.declared.padding.Padding.{Padding}
