@@ -1,6 +1,6 @@
-/* The program cutplan: arguments, words for a refusal and the exit status, none of which a Rattle program has, over the
- * proved function that does the work. That one reads a job from standard input, writes its listing to standard output,
- * hands over the number of the refusal that the listing says, 0 for a plan, and answers 0, or 1 on a write error. */
+/* The program cutplan: arguments, words for a refusal and the exit status, over the proved function that does the work.
+ * That one reads a job from standard input, writes its listing to standard output, hands over the number of the refusal
+ * that the listing says, 0 for a plan, and answers 0, or 1 on a write error. */
 #include "../include/buchawzer.h"
 
 #include <stdio.h>
