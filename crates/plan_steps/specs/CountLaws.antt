@@ -1,5 +1,5 @@
 -- Completion by count in work memory: what the search for the reach and the marks need of a span that is held, and what they leave.
-use Rattle.std.specs.Prelude.{◌≡◌, ℕ, ◌+◌, ◌*◌, ◌≤◌, ◌<◌, Float, length, take}
+use Rattle.std.specs.Prelude.{◌≡◌, ℕ, ◌*◌, ◌≤◌, ◌<◌, Float, length, take}
 use Rattle.std.proofs.Common.{sym, ap, subst, ◌∙◌, arith}
 use mathlib.Core.List.{List, [], Memᴰ}
 use Rattle.base_terms.specs.Layout.{marks_at, entries_at}

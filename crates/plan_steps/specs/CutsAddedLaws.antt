@@ -1,5 +1,5 @@
 -- The cuts that completion by count adds: marked one list after the other, which leaves the silences as they are.
-use Rattle.std.specs.Prelude.{◌≡◌, List, ◌++◌, ℕ, ◌+◌, ◌*◌, ◌≤◌, min, length, take}
+use Rattle.std.specs.Prelude.{◌≡◌, List, ◌++◌, ℕ, ◌*◌, ◌≤◌, min, length, take}
 use Rattle.std.proofs.Common.{sym, ap, subst, ◌∙◌, arith}
 use Rattle.base_terms.specs.Layout.{marks_at}
 use Rattle.grid.specs.Limits.{max_frames}
