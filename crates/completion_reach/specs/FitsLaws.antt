@@ -18,9 +18,9 @@ use Rattle.division.specs.PiecesLaws.{pieces_count}
 use Rattle.division.specs.PlacesLaws.{place_inside}
 use Rattle.division.specs.Greedy.{GreedyFrom, Greedy}
 use Rattle.division.specs.GreedyLaws.{MayBegin, start_first, start_right, farthest_one, greedy_divides, greedy_within}
-use Rattle.division.specs.GreedyFound.{greedy_found}
+use Rattle.division.proofs.GreedyFound.{greedy_found}
 use Rattle.division.specs.Reach.{Feasible}
-use Rattle.division.specs.ReachLaws.{feasible_greedy}
+use Rattle.division.proofs.ReachFound.{feasible_greedy}
 use Rattle.completion_reach.specs.declared.next.Next.{Next}
 use Rattle.completion_reach.specs.declared.next.Next.TheVariants.{Whole, Stuck, To}
 use Rattle.completion_reach.specs.Next.{next_cut_of}

@@ -10,19 +10,17 @@ use Rattle.candidate_span.specs.Span.{Span}
 use Rattle.division.specs.Division.{kept_in, pieces_asked, Division, Among}
 use Rattle.division.specs.Pieces.{Piece, piece_from, pieces_from, pieces_of, IsSingle, length_of, longest}
 use Rattle.division.specs.PiecesLaws.{longest_most, longest-one}
-use Rattle.division.specs.Refine.{Refined}
-use Rattle.division.specs.RefineLaws.{fewer_cuts, more-cuts, refine}
+use Rattle.division.specs.RefineLaws.{fewer_cuts}
 use Rattle.division.specs.PlacesLaws.{at_most_kept}
-use Rattle.division.specs.Greedy.{Greedy}
-use Rattle.division.specs.GreedyLaws.{greedy_divides, greedy_within}
 use Rattle.division.specs.Reach.{IsReach}
-use Rattle.division.specs.ReachLaws.{asked_some, feasible_greedy}
+use Rattle.division.specs.ReachLaws.{asked_some}
 use Rattle.division.specs.Shares.{shares_of}
 use Rattle.division.specs.SharesLaws.{shares_divide, shares_count}
 use Rattle.division.specs.Demand.{HasPiece, DemandByCount, DemandByLength}
 
 -- a division has a piece as long as its longest
-has_longest : (g : FrameGrid) (a : ℕ) (ks : List Cut) (z n : ℕ) → n ≤ longest g (pieces_from a ks z) → HasPiece g n (pieces_from a ks z)
+has_longest : (g : FrameGrid) (a : ℕ) (ks : List Cut) (z n : ℕ) → n ≤ longest g (pieces_from a ks z)
+    → (p : Piece) × Memᴰ p (pieces_from a ks z) × (n ≤ length_of g p)
 has_longest g a [] z n h = let p = longest-one g (piece_from a z) [] in (p.0, p.1, omega (arith, h, p.2))
 has_longest g a (k ∷ ks) z n h =
     let p = longest-one g (piece_from a k.left) (pieces_from k.right ks z) in
@@ -79,11 +77,3 @@ module _ (g : FrameGrid) (ok : Accepted g) (s : Span) (spread : Spread s.first s
   -- so a path over them by count has as many
   pub pieces_asked_lem : min count (length (pieces_of s all)) ≡ pieces_asked s count
   pieces_asked_lem = omega (arith, shares_suffice, at_most_kept s spread all divides)
-
-  -- and one of those paths keeps the reach
-  pub reach_kept : (maximum reach : ℕ) (far : List Cut) → IsReach g s count maximum reach → Greedy g s reach far → Among far all
-      → (r : Refined s far all (pieces_asked s count)) × (longest g (pieces_of s r.cuts) ≤ reach)
-  reach_kept maximum reach far r greedy held =
-      let d = greedy_divides g ok s spread reach far greedy in
-      let t = refine s far all d divides held (pieces_asked s count) (feasible_greedy g ok s spread count reach far greedy r.feasible) shares_suffice in
-      (t, omega (arith, more-cuts g ok s far t.cuts d t.divides t.over, greedy_within g ok s spread reach far greedy))

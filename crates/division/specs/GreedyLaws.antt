@@ -57,25 +57,6 @@ module _ (g : FrameGrid) (ok : Accepted g) (s : Span) (spread : Spread s.first s
     | inr l ↦ (omega (arith, far.after), omega (arith, start k q l, far.after, (place_inside s spread p far.place).1))
   ]
 
-  -- ---- nowhere behind
-
-  ahead-from : (limit a b : ℕ) (js ks : List Cut) → b ≤ a → MayBegin s a → GreedyFrom g s limit a js → ((k : Cut) → Memᴰ k ks → Place s k)
-      → longest g (pieces_from b ks s.last) ≤ limit → NowhereBehind js ks
-  ahead-from limit a b [] ks h start far placed short = tt
-  ahead-from limit a b (j ∷ js) [] h start far placed short = absurd (omega (arith, far.0, short, boundary_mono g ok b a h))
-  ahead-from limit a b (j ∷ js) (k ∷ ks) h start far placed short =
-      let o = keeps-ahead limit a b j k h start far.1 (placed k (Memᴰ.head refl)) (omega (arith, short)) in
-      (o.0, o.1, ahead-from limit j.right k.right js ks o.1 (start_right j far.1.place) far.2 (λ i m. placed i (Memᴰ.tail m)) (omega (arith, short)))
-
-  -- the greedy division is nowhere behind any other that keeps the limit
-  pub greedy_ahead : (limit : ℕ) (js ks : List Cut) → Greedy g s limit js → Division s ks → longest g (pieces_of s ks) ≤ limit → NowhereBehind js ks
-  greedy_ahead limit js ks far d short = ahead-from limit s.first s.first js ks (omega arith) start_first far d.placed short
-
-  -- so it has no more pieces
-  pub greedy_fewest : (limit : ℕ) (js ks : List Cut) → Greedy g s limit js → Division s ks → longest g (pieces_of s ks) ≤ limit
-      → length (pieces_of s js) ≤ length (pieces_of s ks)
-  greedy_fewest limit js ks far d short = behind_fewer s js ks (greedy_ahead limit js ks far d short)
-
   -- ---- it is a division, within the limit, and the only one of its kind
 
   greedy_row : (limit a : ℕ) (ks : List Cut) → a < s.last → GreedyFrom g s limit a ks → Row a ks s.last

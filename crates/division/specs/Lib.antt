@@ -9,7 +9,6 @@ pub mod Places
 pub mod PlacesLaws
 pub mod Greedy
 pub mod GreedyLaws
-pub mod GreedyFound
 pub mod Divisions
 pub mod DivisionsLaws
 pub mod Reach

@@ -78,18 +78,6 @@ none_over g limit (p ∷ ps) h = omega (arith, here (lt_or_le limit (length_of g
     here (inr l) = l
 
 module _ (g : FrameGrid) (ok : Accepted g) where
-  -- ---- what pieces and gaps make up
-  row_adds : (a : ℕ) (ks : List Cut) (z : ℕ) → Row a ks z → total g (pieces_from a ks z) + between g ks ≡ length_of g (piece_from a z)
-  row_adds a [] z r = omega arith
-  row_adds a (k ∷ ks) z r =
-      omega (
-        arith,
-        row_adds k.right ks z r.2,
-        boundary_mono g ok a k.left (omega (arith, r.0)),
-        boundary_mono g ok k.left k.right r.1,
-        boundary_mono g ok k.right z (omega (arith, row_ends k.right ks z r.2)),
-      )
-
   -- ---- their order
   row_order : (a : ℕ) (ks : List Cut) (z : ℕ) → z ≤ g.frames → Row a ks z → InOrder g (pieces_from a ks z)
   row_order a [] z h r = boundary_above g ok a z r h
@@ -109,6 +97,17 @@ module _ (g : FrameGrid) (ok : Accepted g) where
   -- document 01: "Pieces plus what lies between them add up to the span."
   pub pieces_add : (s : Span) (cuts : List Cut) → Division s cuts → total g (pieces_of s cuts) + between g cuts ≡ length_of g (piece_from s.first s.last)
   pieces_add s cuts d = row_adds s.first cuts s.last d.rises
+    where
+      row_adds : (a : ℕ) (ks : List Cut) (z : ℕ) → Row a ks z → total g (pieces_from a ks z) + between g ks ≡ length_of g (piece_from a z)
+      row_adds a [] z r = omega arith
+      row_adds a (k ∷ ks) z r =
+          omega (
+            arith,
+            row_adds k.right ks z r.2,
+            boundary_mono g ok a k.left (omega (arith, r.0)),
+            boundary_mono g ok k.left k.right r.1,
+            boundary_mono g ok k.right z (omega (arith, row_ends k.right ks z r.2)),
+          )
 
   -- pieces are in order, each start below its end
   pub pieces_order : (s : Span) (cuts : List Cut) → s.last ≤ g.frames → Division s cuts → InOrder g (pieces_of s cuts)

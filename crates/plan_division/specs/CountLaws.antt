@@ -19,7 +19,8 @@ use Rattle.division.specs.GreedyLaws.{greedy_divides}
 use Rattle.division.specs.ReachLaws.{asked_some}
 use Rattle.division.specs.Shares.{shares_of}
 use Rattle.division.specs.SharesLaws.{shares_divide}
-use Rattle.division.specs.DemandLaws.{pieces_asked_lem, reach_kept}
+use Rattle.division.specs.DemandLaws.{pieces_asked_lem}
+use Rattle.division.proofs.ReachFound.{reach_kept}
 use Rattle.candidates.specs.declared.candidate.Candidate.{Candidate}
 use Rattle.candidates.specs.Samples.{left_sample, lefts_of, rights_of}
 use Rattle.plan_division.specs.Along.{cuts_along, RisingPath, whole_path, all_cuts}

@@ -33,7 +33,7 @@ use Rattle.division.specs.SpanLaws.{span_spread, span-within}
 use Rattle.division.specs.Greedy.{Greedy}
 use Rattle.division.specs.GreedyLaws.{greedy_one}
 use Rattle.division.specs.Reach.{IsReach}
-use Rattle.division.specs.ReachLaws.{reach_exists}
+use Rattle.division.proofs.ReachFound.{reach_exists}
 use Rattle.division.specs.Demand.{DemandByCount, DemandByLength}
 use Rattle.candidates.specs.Entries.{costs_of}
 use Rattle.candidates.specs.Candidates.{candidates_of}

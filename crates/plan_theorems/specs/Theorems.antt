@@ -8,7 +8,7 @@
 --   plan-reach   of every recording and settings that pass the tests up to 13, whose span is not empty: there is a reach, at most the longer of the span and the maximum
 -- Of the reach and the greedy division which they name, division has
 --   reach-one (division/specs/ReachLaws)       two limits that are the reach are one
---   greedy-ahead (division/specs/GreedyLaws)   cut by cut the greedy division is nowhere behind any division that keeps its limit; by greedy-one there is only one
+--   greedy_ahead (division/proofs/AheadLaws)   cut by cut the greedy division is nowhere behind any division that keeps its limit; by greedy-one there is only one
 use Rattle.std.specs.Prelude.{◌≡◌, refl, ◌⊎◌, Bool, true, false, List, ℕ, ◌+◌, ◌*◌, ◌≤◌, ◌<◌, min, Float, length, replicate}
 use Rattle.std.proofs.Common.{sym, subst, ◌∙◌, inl, inr, arith}
 use Rattle.std.proofs.Math.Path.{ap}
