@@ -4,7 +4,6 @@ pub mod StartsLaws
 pub mod Bound
 pub mod BoundLaws
 pub mod Visit
-pub mod VisitLaws
 pub mod Narrow
 pub mod NarrowLaws
 pub mod Theorems

@@ -1,5 +1,5 @@
 -- `halves::outlook` gives the bound where the range meets the query, as the definition does.
-use Rattle.path_by_count_search.specs.VisitLaws.{ranged_at, outlook_none, outlook_some}
+use Rattle.path_by_count_search.proofs.VisitLaws.{ranged_at, outlook_none, outlook_some}
 use mathlib.Core.Path.{refl}
 use Rattle.path_by_count_search.proofs.halves.outlook.Goals as goal
 

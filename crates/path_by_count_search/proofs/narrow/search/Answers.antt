@@ -1,6 +1,6 @@
 -- `narrow::search` goes down as long as one half holds the query: the place encloses it all the way, so that the first of its range is the first of all.
 use Rattle.path_by_count_search.specs.Visit.{through}
-use Rattle.path_by_count_search.specs.VisitLaws.{whole-first}
+use Rattle.path_by_count_search.proofs.VisitLaws.{whole-first}
 use Rattle.path_by_count_search.specs.NarrowLaws.{narrower_shorter, encloses_root, encloses_some, encloses_nodes, encloses_narrower}
 use Rattle.std.proofs.Common.{arith}
 use Rattle.path_by_count_search.proofs.narrow.search.Goals as goal

@@ -3,7 +3,7 @@
 use Rattle.std.proofs.Common.{sym, arith}
 use Rattle.path_by_count_search.specs.StartsLaws.{arrival-nonneg}
 use Rattle.path_by_count_search.specs.Visit.{through}
-use Rattle.path_by_count_search.specs.VisitLaws.{first-nonneg, halved, halves_parts, left_out, join_parts}
+use Rattle.path_by_count_search.proofs.VisitLaws.{first-nonneg, halved, halves_parts, left_out, join_parts}
 use Rattle.path_by_count_search.proofs.visit.+visit.Goals as goal
 
 pub halves-parts-requires : goal.halves-parts-requires

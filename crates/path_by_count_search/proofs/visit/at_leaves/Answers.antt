@@ -1,7 +1,7 @@
 -- `visit::at_leaves` keeps the first of the best so far and the candidates passed; those before `start` and from `stop` on do not lie in the query.
 use Rattle.path_by_count_search.specs.StartsLaws.{start_at_lem, arrival-nonneg}
 use Rattle.path_by_count_search.specs.Visit.{through}
-use Rattle.path_by_count_search.specs.VisitLaws.{none_first, next_first, all_first, first-nonneg}
+use Rattle.path_by_count_search.proofs.VisitLaws.{none_first, next_first, all_first, first-nonneg}
 use Rattle.std.proofs.Common.{arith}
 use Rattle.path_by_count_search.proofs.visit.at_leaves.Goals as goal
 
