@@ -18,7 +18,7 @@ use Rattle.path_rules.specs.PathsLaws.{candidates_few}
 use Rattle.path_rules.specs.BestPath.{BestPathByLength}
 use Rattle.path_rules.specs.declared.solved.Solved.{Solved}
 use Rattle.path_by_length.specs.Table.{best_score, best_path}
-use Rattle.path_by_length.specs.Theorems.{best_path-all}
+use Rattle.path_by_length.proofs.Theorems.{best_path-all}
 use Rattle.path_by_count.specs.Table.{best_path_by_count, best_score_by_count}
 use Rattle.path_by_count.specs.Theorems.{count_all}
 use Rattle.path_tests.specs.Refusal.{first_refusal_of}

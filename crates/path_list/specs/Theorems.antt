@@ -16,7 +16,7 @@ use Rattle.path_pieces.specs.declared.score.Score.{Score}
 use Rattle.path_rules.specs.Paths.{piece_count, last_candidate, path_score}
 use Rattle.path_by_length.specs.Table.{best_score, best_path}
 use Rattle.path_by_count.specs.Table.{best_path_by_count, best_score_by_count}
-use Rattle.path_by_length.specs.Theorems.{best_path-score, best_path-all}
+use Rattle.path_by_length.proofs.Theorems.{best_path-score, best_path-all}
 use Rattle.path_by_count.specs.Theorems.{count_score, count_all}
 use Rattle.path_rules.specs.declared.solved.Solved.{Solved}
 use Rattle.path_tests.specs.Refusal.{first_refusal_of}

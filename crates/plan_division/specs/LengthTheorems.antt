@@ -11,7 +11,7 @@ use Rattle.path_pieces.specs.Domain.{Searchable}
 use Rattle.path_pieces.specs.declared.lengths.Lengths.{Lengths}
 use Rattle.path_rules.specs.Paths.{Allowed, Path, PathByLength}
 use Rattle.path_by_length.specs.Table.{best_path}
-use Rattle.path_by_length.specs.Theorems.{best_path_allowed}
+use Rattle.path_by_length.proofs.Theorems.{best_path_allowed}
 use Rattle.candidate_span.specs.Gaps.{Spread}
 use Rattle.candidate_span.specs.Span.{Span}
 use Rattle.division.specs.Pieces.{Piece, pieces_of, IsSingle, length_of}

@@ -7,7 +7,7 @@ use Rattle.grid.specs.declared.boundary.FrameGrid.{FrameGrid}
 use Rattle.path_pieces.specs.Domain.{Preferred}
 use Rattle.path_pieces.specs.declared.lengths.Lengths.{Lengths}
 use Rattle.path_rules.specs.Paths.{Allowed, Path, last_candidate}
-use Rattle.path_by_length.specs.Theorems.{best_path_allowed}
+use Rattle.path_by_length.proofs.Theorems.{best_path_allowed}
 use Rattle.path_rules.specs.declared.solved.Solved.{Solved}
 use Rattle.plan_settings.specs.declared.config.PlanConfig.{PlanConfig}
 use Rattle.candidate_span.specs.Gaps.{Cut}

@@ -11,9 +11,9 @@ use Rattle.path_rules.specs.declared.solved.Solved.{Solved}
 use Rattle.path_rules.specs.Paths.{Allowed, last_candidate}
 use Rattle.path_rules.specs.PathsLaws.{candidates_few}
 use Rattle.path_by_length.specs.Table.{way_to, best_path, best_score}
-use Rattle.path_by_length.specs.Theorems.{best_path_allowed}
+use Rattle.path_by_length.proofs.Theorems.{best_path_allowed}
 use Rattle.path_by_length.specs.Solved.{cuts_in, parents_in, parent_at, Parents, TableRoom, Settled}
-use Rattle.path_by_length.specs.SolvedLaws.{filled_parents, filled-path}
+use Rattle.path_by_length.proofs.SolvedLaws.{filled_parents, filled-path}
 use Rattle.plan_lists.specs.Within.{part_at}
 use Rattle.plan_lists.specs.WithinLaws.{part_back, placed-rest}
 use Rattle.plan_lists.specs.Back.{WayRoom}

@@ -19,7 +19,7 @@ use Rattle.path_pieces.specs.declared.lengths.Lengths.{Lengths}
 use Rattle.path_pieces.specs.declared.mode.Mode.TheVariants.{ByCount}
 use Rattle.path_rules.specs.Paths.{over_count}
 use Rattle.path_rules.specs.PathsLaws.{over_count_lem}
-use Rattle.path_by_length.specs.Theorems.{best_path-all}
+use Rattle.path_by_length.proofs.Theorems.{best_path-all}
 use Rattle.path_by_count.specs.Theorems.{count_score, count_all}
 use Rattle.plan_settings.specs.declared.config.PlanConfig.{PlanConfig}
 use Rattle.candidate_span.specs.Gaps.{Cut, Spread}

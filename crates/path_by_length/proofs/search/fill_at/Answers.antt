@@ -3,7 +3,7 @@
 use Rattle.std.proofs.Common.{arith}
 use mathlib.Core.Path.{◌∙◌}
 use lib.ListN.{length, length-set}
-use Rattle.path_by_length.specs.SolvedLaws.{part_behind, ready_scored, ready_costed, ready_found, ready_score, ready_parent, ready_below}
+use Rattle.path_by_length.proofs.SolvedLaws.{part_behind, ready_scored, ready_costed, ready_found, ready_score, ready_parent, ready_below}
 use Rattle.path_by_length.proofs.search.fill_at.Goals as goal
 
 pub best_predecessor-found-requires : goal.best_predecessor-found-requires

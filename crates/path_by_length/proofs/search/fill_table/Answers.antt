@@ -5,7 +5,7 @@ use mathlib.Core.Path.{◌≡◌, ◌∙◌}
 use native.Mathlib.Numerals.{add-one}
 use lib.ListN.{length, length-set}
 use Rattle.base_laws.specs.Nonneg.{nought_is}
-use Rattle.path_by_length.specs.SolvedLaws.{room-first, filled-first, filled_ready, filled_next, filled-over}
+use Rattle.path_by_length.proofs.SolvedLaws.{room-first, filled-first, filled_ready, filled_next, filled-over}
 use Rattle.path_by_length.proofs.search.fill_table.Goals as goal
 
 pub bounds-over-behind_table : goal.bounds-over-behind_table

@@ -1,7 +1,7 @@
 -- `search::search_by_length`: the table's score at the last candidate is the best, and its parents lead back along the best path.
 use mathlib.Core.Path.{ap, ◌∙◌}
 use lib.ListN.{length}
-use Rattle.path_by_length.specs.SolvedLaws.{part_behind, filled-score, filled_parents, filled-path}
+use Rattle.path_by_length.proofs.SolvedLaws.{part_behind, filled-score, filled_parents, filled-path}
 use Rattle.path_by_length.proofs.search.search_by_length.Goals as goal
 
 pub path_len-len-requires : goal.path_len-len-requires

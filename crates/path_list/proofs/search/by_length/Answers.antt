@@ -2,7 +2,7 @@
 use Rattle.path_rules.specs.Paths.{last_candidate}
 use Rattle.path_by_length.specs.Table.{best_path, best_score}
 use Rattle.path_by_length.specs.Solved.{cuts_in}
-use Rattle.path_by_length.specs.SolvedLaws.{part_behind, filled_parents, filled-path}
+use Rattle.path_by_length.proofs.SolvedLaws.{part_behind, filled_parents, filled-path}
 use Rattle.path_list.specs.SearchLaws.{handed-short, handed-found}
 use Rattle.std.proofs.Common.{arith}
 use mathlib.Core.Path.{sym, ap, ◌∙◌}

@@ -18,7 +18,7 @@ use Rattle.path_by_length.specs.Table.{best_score, best_over, best_cost, parent_
 use Rattle.path_by_length_search.specs.Backward.{Scored, Costed}
 use Rattle.path_by_length.specs.WayLaws.{way_same}
 use Rattle.path_pieces.specs.PredecessorLaws.{start_next, predecessor_same}
-use Rattle.path_by_length.specs.TableLaws.{best-first, best_next, best-nonneg, best_few, parent_below}
+use Rattle.path_by_length.proofs.TableLaws.{best-first, best_next, best-nonneg, best_few, parent_below}
 use Rattle.path_by_length.specs.Solved.{cuts_in, parents_in, TableRoom, FilledBefore, Filled, parent_at, Parents}
 
 -- the part of a list behind the table, as it is lent

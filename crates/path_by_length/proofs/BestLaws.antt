@@ -14,7 +14,7 @@ use Rattle.path_rules.specs.Paths.{Allowed, Onward, Path, step, score_from, path
 use Rattle.path_rules.specs.Ties.{Chosen}
 use Rattle.path_rules.specs.PathsLaws.{path-more, onward_rises, path_weaken, path_score-more}
 use Rattle.path_by_length.specs.Table.{best_score, parent_of, way_to, Falling}
-use Rattle.path_by_length.specs.TableLaws.{best-first, best-nonneg, best-step, best_least, parent_chosen, parent_below}
+use Rattle.path_by_length.proofs.TableLaws.{best-first, best-nonneg, best-step, best_least, parent_chosen, parent_below}
 use Rattle.path_by_length.specs.WayLaws.{way_first, way_step}
 
 -- ---- the way back

@@ -16,7 +16,7 @@ use Rattle.path_rules.specs.Ties.{OwnBest, Chosen, TieRule}
 use Rattle.path_rules.specs.TiesLaws.{tie_unique, chosen_same}
 use Rattle.path_rules.specs.BestPath.{BestPathByLength}
 use Rattle.path_by_length.specs.Table.{best_score, parent_of, way_to, best_path}
-use Rattle.path_by_length.specs.BestLaws.{best_chosen, best_allowed, best_attained, best_below}
+use Rattle.path_by_length.proofs.BestLaws.{best_chosen, best_allowed, best_attained, best_below}
 
 -- a candidate's own best score is the best of the allowed paths to it
 pub own-best : {l : Lengths} {left right : List ℕ} {cut : List Float} → Searchable l left right cut → OwnBest l left right cut (best_score l left right cut)
