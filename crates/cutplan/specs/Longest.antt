@@ -24,7 +24,7 @@ use Rattle.plan_theorems.specs.Theorems.{plan_made, plan_ended}
 use Rattle.job.specs.Job.{Asked, asks, job_of}
 use Rattle.listing.specs.Listing.{plan_line, listing_of, refusal_line}
 use Rattle.listing.specs.Rows.{AllWide}
-use Rattle.listing.specs.FitsLaws.{plan_fits, listing_fits, refusal_fits}
+use Rattle.listing.proofs.FitsLaws.{plan_fits, listing_fits, refusal_fits}
 use Rattle.cutplan.specs.Memory.{lent_work, lent_parents}
 use Rattle.cutplan.specs.Lines.{longest_listing, lines_for, lent_output}
 use Rattle.cutplan.specs.Cutplan.{cutplan_of}

@@ -3,9 +3,7 @@ pub mod Text
 pub mod Rows
 pub mod Listing
 pub mod Written
-pub mod TextLaws
 pub mod WrittenLaws
 pub mod LineLaws
 pub mod Lines
-pub mod FitsLaws
 pub mod Trials

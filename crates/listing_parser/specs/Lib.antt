@@ -1,4 +1,3 @@
--- A listing read back: a parser, that it gives the plan back, and that it takes nothing but listings.
+-- A listing read back: a parser, and that it gives the plan back.
 pub mod Parse
 pub mod ParseLaws
-pub mod ParsedLaws

@@ -5,7 +5,7 @@ use mathlib.Core.Path.{refl}
 use lib.ListN.{length}
 use Rattle.listing.specs.Listing.{plan_line}
 use Rattle.listing.specs.Written.{Room}
-use Rattle.listing.specs.FitsLaws.{plan_fits}
+use Rattle.listing.proofs.FitsLaws.{plan_fits}
 use Rattle.listing.specs.WrittenLaws.{written-front}
 use Rattle.cutplan.proofs.answer.write_empty.Statement.{statement}
 use Rattle.cutplan.proofs.answer.write_empty.Tie as tie

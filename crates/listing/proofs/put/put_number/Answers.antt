@@ -1,6 +1,6 @@
 -- `put::put_number`: what `io::decimal` makes of a number are the digits of `decimal_of`.
 use mathlib.Core.Path.{◌∙◌}
-use Rattle.listing.specs.TextLaws.{decimal_is}
+use Rattle.listing.proofs.TextLaws.{decimal_is}
 use Rattle.listing.proofs.put.put_number.Goals as goal
 
 pub put_text-requires : goal.put_text-requires

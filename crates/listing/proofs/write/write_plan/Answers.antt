@@ -3,7 +3,7 @@ use Rattle.std.proofs.Common.{◌≤◌, arith, [], ◌∷◌, length}
 use Rattle.listing.specs.Rows.{rows_of}
 use Rattle.listing.specs.Listing.{plan_line, piece_line, cut_line, lines_of, listing_of, room_for}
 use Rattle.listing.specs.LineLaws.{listing_rooms, listing_wrote}
-use Rattle.listing.specs.FitsLaws.{listing_fits}
+use Rattle.listing.proofs.FitsLaws.{listing_fits}
 use Rattle.listing.specs.Written.{Room}
 use Rattle.listing.specs.WrittenLaws.{Rooms, room-first, room_then, wrote_none, wrote_then, written-front, written_counts}
 use Rattle.listing.proofs.write.write_plan.Goals as goal

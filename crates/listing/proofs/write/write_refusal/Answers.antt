@@ -3,7 +3,7 @@ use Rattle.std.proofs.Common.{arith}
 use lib.ListN.{length}
 use Rattle.listing.specs.Listing.{refusal_line}
 use Rattle.listing.specs.Written.{Room}
-use Rattle.listing.specs.FitsLaws.{refusal_fits}
+use Rattle.listing.proofs.FitsLaws.{refusal_fits}
 use Rattle.listing.specs.WrittenLaws.{written-front, written_counts}
 use Rattle.listing.proofs.write.write_refusal.Goals as goal
 

@@ -8,7 +8,7 @@ use Rattle.base_laws.specs.Tests.{tested}
 use Rattle.base_code.specs.FrontLaws.{tabulate-length}
 use Rattle.base_terms.specs.Lists.{tabulate}
 use Rattle.listing.specs.Text.{text_bytes, decimal_of, joined}
-use Rattle.listing.specs.TextLaws.{decimal_fits}
+use Rattle.listing.proofs.TextLaws.{decimal_fits}
 use Rattle.listing.specs.Rows.{AllWide, row_at, rows_of}
 use Rattle.listing.specs.Listing.{flags_word, reason_word, numbers_line, plan_line, piece_line, cut_line, lines_of, listed, listing_of, refusal_line, plan_line_room, piece_line_room, cut_line_room, refusal_room, room_for}
 use Rattle.listing.specs.Lines.{lines_more}

@@ -8,7 +8,7 @@ use Rattle.std.proofs.Math.Option.{Option, none, some, some-injective, none-ne-s
 use Rattle.std.proofs.lemmas.Bool.{eqb-false}
 use Rattle.base_laws.specs.Tests.{both, tested}
 use Rattle.listing.specs.Text.{text_bytes, digit_of, decimal_of, joined}
-use Rattle.listing.specs.TextLaws.{decimal_digit, decimal_more}
+use Rattle.listing.proofs.TextLaws.{decimal_digit, decimal_more}
 use Rattle.listing.specs.Rows.{ListedRow, MarksTo}
 use Rattle.listing.specs.Listing.{flags_word, reason_word, numbers_line, piece_line, cut_line, line_of, lines_of, refusal_line}
 use Rattle.listing_parser.specs.ParseLaws.{begun, piece_is, cut_is, plan_is, listed_is, parsed_listed, parsed_refusal}

@@ -1,0 +1,2 @@
+-- That the parser takes nothing but listings.
+pub mod ParsedLaws
