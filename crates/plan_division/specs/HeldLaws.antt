@@ -20,15 +20,6 @@ use Rattle.completion_reach.specs.FitsLaws.{fits_greedy, feasible_fits}
 use Rattle.plan_division.specs.Along.{ends_at}
 use Rattle.plan_division.specs.Added.{bridges_among, added_by_length, completed_with}
 
--- the points on n steps are those of the candidates that work memory holds
-bridges-held : (g : FrameGrid) (limit entries : ℕ) (work : List ℕ) (cs : List Candidate) (n : ℕ)
-    → ((i : ℕ) → i ≤ n → (left_held entries work i ≡ (ends_at cs i).left) × (right_held entries work i ≡ (ends_at cs i).right))
-    → bridges_of g limit entries work n ≡ bridges_among g limit cs n
-unfolding bridges_of
-bridges-held g limit entries work cs zero f = refl
-bridges-held g limit entries work cs (suc n) f =
-    rw (bridges-held g limit entries work cs n (λ i h. f i (omega (arith, h))), (f n (omega arith)).1, (f (suc n) (omega arith)).0)
-
 entry_left : (cs : List Candidate) (i : ℕ) → i < length cs → get_or (entries_of cs) (3 * i) 0 ≡ (ends_at cs i).left
 unfolding entries_of
 entry_left [] i h = absurd (omega arith)
@@ -62,8 +53,14 @@ module _ (entries : ℕ) (work : List ℕ) (cs : List Candidate) (is : take (3 *
 
   -- so the points on all steps are those that are added by length
   pub steps_held : (g : FrameGrid) (limit : ℕ) → 0 < length cs → bridges_of g limit entries work (length cs - 1) ≡ added_by_length g limit cs
-  steps_held g limit some =
-      bridges-held g limit entries work cs (length cs - 1) (λ i h. (left_held_lem i (omega (arith, h, some)), right_held_lem i (omega (arith, h, some))))
+  unfolding bridges_of
+  steps_held g limit some = bridges-held (length cs - 1) (λ i h. (left_held_lem i (omega (arith, h, some)), right_held_lem i (omega (arith, h, some))))
+    where
+      -- the points on n steps are those of the candidates that work memory holds
+      bridges-held : (n : ℕ) → ((i : ℕ) → i ≤ n → (left_held entries work i ≡ (ends_at cs i).left) × (right_held entries work i ≡ (ends_at cs i).right))
+          → bridges_of g limit entries work n ≡ bridges_among g limit cs n
+      bridges-held zero f = refl
+      bridges-held (suc n) f = rw (bridges-held n (λ i h. f i (omega (arith, h))), (f n (omega arith)).1, (f (suc n) (omega arith)).0)
 
 -- a number is in two lists joined exactly where it is in one of them
 pub in_append : (ks js : List ℕ) (k : ℕ) → is_in (ks ++ js) k ≡ (is_in ks k || is_in js k)

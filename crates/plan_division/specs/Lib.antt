@@ -5,16 +5,9 @@ pub mod AlongLaws
 pub mod AcrossLaws
 pub mod Completed
 pub mod ThroughLaws
-pub mod CountLaws
-pub mod CountTheorems
-pub mod LengthLaws
-pub mod LengthTheorems
 pub mod Added
 pub mod AddedLaws
-pub mod StepLaws
-pub mod CompletedLaws
 pub mod HeldLaws
 pub mod Best
 pub mod Ready
-pub mod PlanTheorems
 pub mod Trials

@@ -37,7 +37,7 @@ use Rattle.plan_lists.specs.Positions.{entries_in}
 use Rattle.plan_path.specs.Search.{lefts_in, rights_in}
 use Rattle.plan_path.specs.SearchLaws.{part_of}
 use Rattle.plan_division.specs.AddedLaws.{planned-completed}
-use Rattle.plan_division.specs.PlanTheorems.{plan_searchable}
+use Rattle.plan_division.proofs.PlanTheorems.{plan_searchable}
 use Rattle.plan_division.specs.Ready.{SearchableOver}
 use Rattle.plan_steps.specs.Hand.{path_in, HandRoom}
 use Rattle.plan_steps.specs.Held.{points_held, held_with, SpanHeld, SpanRoom}

@@ -27,7 +27,7 @@ use Rattle.plan_division.specs.Along.{ends_at}
 use Rattle.plan_division.specs.Across.{Across}
 use Rattle.plan_division.specs.AcrossLaws.{planned_across}
 use Rattle.plan_division.specs.Added.{added_by_length}
-use Rattle.plan_division.specs.CompletedLaws.{places_by_length}
+use Rattle.plan_division.proofs.CompletedLaws.{places_by_length}
 use Rattle.plan_division.specs.HeldLaws.{left_held_lem, right_held_lem, steps_held}
 use Rattle.plan_steps.specs.Held.{front_of, points_held, held_with, SpanHeld, CollectRoom}
 use Rattle.plan_steps.specs.Complete.{bridged_held}

@@ -20,7 +20,7 @@ use Rattle.completion_reach.specs.Cuts.{cuts_of, marking}
 use Rattle.completion.specs.CutsLaws.{MarkRoom}
 use Rattle.completion_reach.specs.Reach.{reach_of}
 use Rattle.completion_reach.specs.ReachLaws.{is_reach}
-use Rattle.plan_division.specs.CompletedLaws.{places_by_count}
+use Rattle.plan_division.proofs.CompletedLaws.{places_by_count}
 use Rattle.plan_division.specs.HeldLaws.{far_greedy}
 use Rattle.plan_steps.specs.Steps.{cuts_added}
 use Rattle.plan_steps.specs.Held.{front_of, points_held, held_with, SpanHeld, CollectRoom}

@@ -17,7 +17,8 @@ use Rattle.division.specs.Places.{cut_at}
 use Rattle.candidates.specs.Samples.{lefts_of, rights_of}
 use Rattle.candidates.specs.declared.candidate.Candidate.{Candidate}
 use Rattle.plan_division.specs.Along.{ends_at, cuts_at, cuts_along, piece_between, pieces_through, pieces_along, RisingPath}
-use Rattle.plan_division.specs.AlongLaws.{onward-last, left_sample_lem, right_sample_lem, pieces_along_lem, count_along}
+use Rattle.plan_division.specs.AlongLaws.{onward-last, left_sample_lem, right_sample_lem}
+use Rattle.plan_division.proofs.PiecesLaws.{pieces_along_lem, count_along}
 use Rattle.plan_division.specs.Across.{Across}
 use Rattle.plan_lengths.specs.PlanLengths.{minimum_in, maximum_in}
 use Rattle.plan_pieces.specs.Flags.{is_tail, flags_of}

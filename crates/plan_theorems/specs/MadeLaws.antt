@@ -57,13 +57,13 @@ use Rattle.plan_division.specs.AcrossLaws.{planned_across}
 use Rattle.plan_division.specs.Added.{added_by_count, added_by_length}
 use Rattle.plan_division.specs.AddedLaws.{planned-completed}
 use Rattle.plan_division.specs.Completed.{CompletedByLength}
-use Rattle.plan_division.specs.CompletedLaws.{places_by_count, places_by_length, completed_by_length_lem}
-use Rattle.plan_division.specs.CountLaws.{count_rises, length_rises}
-use Rattle.plan_division.specs.LengthLaws.{neighbours_short}
+use Rattle.plan_division.proofs.CompletedLaws.{places_by_count, places_by_length, completed_by_length_lem}
+use Rattle.plan_division.proofs.CountLaws.{count_rises, length_rises}
+use Rattle.plan_division.proofs.LengthLaws.{neighbours_short}
 use Rattle.plan_division.specs.HeldLaws.{far_greedy}
 use Rattle.plan_division.specs.Best.{best_path_over, best_path_over_by_count, overs_of}
 use Rattle.plan_division.specs.Ready.{Ready, SearchableOver}
-use Rattle.plan_division.specs.PlanTheorems.{plan_searchable, first_plan, second_plan, length_plan}
+use Rattle.plan_division.proofs.PlanTheorems.{plan_searchable, first_plan, second_plan, length_plan}
 use Rattle.plan_lengths.specs.PlanLengths.{minimum_in, maximum_in, lengths_with, lengths_by_length, lengths_by_count}
 use Rattle.plan_lengths.specs.PlanLengthsLaws.{ready_timed, by_length_preferred, by_count_preferred}
 use Rattle.plan_pieces.specs.Output.{Output, handed_of}

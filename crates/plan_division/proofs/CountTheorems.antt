@@ -19,11 +19,11 @@ use Rattle.division.specs.DemandLaws.{demand_reach, demand_maximum}
 use Rattle.candidates.specs.declared.candidate.Candidate.{Candidate}
 use Rattle.candidates.specs.Samples.{lefts_of, rights_of}
 use Rattle.plan_division.specs.Along.{cuts_along}
-use Rattle.plan_division.specs.AlongLaws.{count_along}
+use Rattle.plan_division.proofs.PiecesLaws.{count_along}
 use Rattle.plan_division.specs.Across.{Across}
 use Rattle.plan_division.specs.AcrossLaws.{along_divides}
 use Rattle.plan_division.specs.Completed.{CompletedByCount}
-use Rattle.plan_division.specs.CountLaws.{count_rises, none_longer, count_same, best_keeps}
+use Rattle.plan_division.proofs.CountLaws.{count_rises, none_longer, count_same, best_keeps}
 
 module _ (g : FrameGrid) (s : Span) (spread : Spread s.first s.gaps s.last) (cs : List Candidate) (count : ℕ) where
   -- a path of N pieces with none over the maximum meets demand 3

@@ -24,7 +24,7 @@ use Rattle.division.proofs.ReachFound.{reach_kept}
 use Rattle.candidates.specs.declared.candidate.Candidate.{Candidate}
 use Rattle.candidates.specs.Samples.{left_sample, lefts_of, rights_of}
 use Rattle.plan_division.specs.Along.{cuts_along, RisingPath, whole_path, all_cuts}
-use Rattle.plan_division.specs.AlongLaws.{count_along, overs-along}
+use Rattle.plan_division.proofs.PiecesLaws.{count_along, overs-along}
 use Rattle.plan_division.specs.Across.{Across}
 use Rattle.plan_division.specs.AcrossLaws.{all_divides, whole_rises, whole_length, has_all, all_has, left_cut}
 use Rattle.plan_division.specs.Completed.{CompletedByCount}

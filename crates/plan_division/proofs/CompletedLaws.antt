@@ -27,7 +27,7 @@ use Rattle.plan_division.specs.AcrossLaws.{all_divides, gaps_all, planned_across
 use Rattle.plan_division.specs.Completed.{CompletedByCount, CompletedByLength}
 use Rattle.plan_division.specs.Added.{added_by_count, added_by_length, completed_with}
 use Rattle.plan_division.specs.AddedLaws.{planned-completed, has_added, has_still}
-use Rattle.plan_division.specs.StepLaws.{added-bridged, bridged-added}
+use Rattle.plan_division.proofs.StepLaws.{added-bridged, bridged-added}
 
 module _ (x : Context) (ss runs : List ℕ) (levels : List Float) (ks : List ℕ) (first last : ℕ) (p : Planned x ss levels ks first last) (g : FrameGrid) where
   abbrev span : Span

@@ -24,11 +24,11 @@ use Rattle.candidates.specs.Asked.{candidates_asked, costs_asked}
 use Rattle.completion_reach.specs.Cuts.{points_in}
 use Rattle.plan_division.specs.Along.{cuts_along}
 use Rattle.plan_division.specs.AcrossLaws.{planned_across}
-use Rattle.plan_division.specs.CountTheorems.{first_found, second-found}
-use Rattle.plan_division.specs.LengthTheorems.{length_found}
+use Rattle.plan_division.proofs.CountTheorems.{first_found, second-found}
+use Rattle.plan_division.proofs.LengthTheorems.{length_found}
 use Rattle.plan_division.specs.Added.{added_by_count, added_by_length, completed_with}
 use Rattle.plan_division.specs.AddedLaws.{planned-completed}
-use Rattle.plan_division.specs.CompletedLaws.{places_by_count, completed_by_count_lem, places_by_length, completed_by_length_lem}
+use Rattle.plan_division.proofs.CompletedLaws.{places_by_count, completed_by_count_lem, places_by_length, completed_by_length_lem}
 use Rattle.plan_division.specs.Best.{best_path_over, best_path_over_by_count, overs_of}
 use Rattle.plan_division.specs.Ready.{Ready, SearchableOver}
 

@@ -18,7 +18,7 @@ use Rattle.candidates.specs.Samples.{lefts_of, rights_of}
 use Rattle.completion.specs.Bridged.{bridged_in}
 use Rattle.completion.specs.BridgedLaws.{bridged_divides, bridged-short}
 use Rattle.plan_division.specs.Along.{ends_at, piece_between, pieces_through, pieces_along, all_cuts}
-use Rattle.plan_division.specs.AlongLaws.{piece_length_lem}
+use Rattle.plan_division.proofs.PiecesLaws.{piece_length_lem}
 use Rattle.plan_division.specs.Across.{HasCut, Across}
 use Rattle.plan_division.specs.AcrossLaws.{all_divides, left_cut, gaps_all}
 use Rattle.plan_division.specs.Completed.{CompletedByLength}

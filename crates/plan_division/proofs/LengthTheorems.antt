@@ -20,11 +20,11 @@ use Rattle.division.specs.DemandLaws.{demand_length}
 use Rattle.candidates.specs.declared.candidate.Candidate.{Candidate}
 use Rattle.candidates.specs.Samples.{lefts_of, rights_of}
 use Rattle.plan_division.specs.Along.{cuts_along, piece_between, RisingPath}
-use Rattle.plan_division.specs.AlongLaws.{pieces_along_lem}
+use Rattle.plan_division.proofs.PiecesLaws.{pieces_along_lem}
 use Rattle.plan_division.specs.AcrossLaws.{along_divides}
 use Rattle.plan_division.specs.Completed.{CompletedByLength}
-use Rattle.plan_division.specs.CountLaws.{last_same, length_rises}
-use Rattle.plan_division.specs.LengthLaws.{PieceOf, path_piece, neighbours_short, long_next}
+use Rattle.plan_division.proofs.CountLaws.{last_same, length_rises}
+use Rattle.plan_division.proofs.LengthLaws.{PieceOf, path_piece, neighbours_short, long_next}
 
 module _ (g : FrameGrid) (ok : Accepted g) (s : Span) (spread : Spread s.first s.gaps s.last) (maximum : ℕ) (ds cs : List Candidate)
     (c : CompletedByLength g s maximum ds cs) where
