@@ -67,7 +67,7 @@ pub fn list_job(job: &[u8], out: &mut [u8]) -> Answered
 
 // The same for a list of any length; answers how many bytes the listing has.
 // Where `out` is shorter than some listings it stays as it was, and the answer is 0.
-// `Counts` lets a caller hand on the listing.
+// `IsPrefixLen` lets a caller hand on the listing.
 pub fn plan_job(job: &[u8], out: &mut [u8]) -> usize
     ensures out_after { printed result out.new ≡ printed_into job.now out.old }
     ensures prefix_len { IsPrefixLen result out.new }

@@ -20,7 +20,7 @@ const INPUT: usize = 8_193;
 // The number of standard output.
 const STDOUT: i32 = 1;
 
-// The listing for what was read; a read that failed is refused as bytes that are no job are. `Counts` lets the caller
+// The listing for what was read; a read that failed is refused as bytes that are no job are. `IsPrefixLen` lets the caller
 // hand on the listing.
 fn list_input(got: Input, job: &[u8], out: &mut [u8]) -> Answered
     requires fits_in { FitsIn got (length job.now) }

@@ -1,4 +1,4 @@
--- What a division of a span is, and what demand 3 stands on. No code. Definitions stand in files that import no laws; each has its laws beside it.
+-- What a division of a span is, and what demand 3 stands on. No code. Definitions stand in files that import no laws; each has its laws beside it, but for what stands on the greedy division, which is in proofs/.
 pub mod Division
 pub mod SpanLaws
 pub mod Pieces

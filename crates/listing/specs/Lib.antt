@@ -1,4 +1,4 @@
--- The listing of document 01, as it is written.
+-- The listing of document 01, as it is written. What the digits of a number are is proved in proofs/.
 pub mod Text
 pub mod Rows
 pub mod Listing

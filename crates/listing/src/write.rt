@@ -49,7 +49,7 @@ fn put_cuts(n: usize, cuts: &[u64], at: usize, out: &mut [u8]) -> usize
 }
 
 // Writes the listing of a plan of n pieces to the front of `out`, and answers how many bytes it has.
-// `Counts` lets a caller hand on that front.
+// `IsPrefixLen` lets a caller hand on that front.
 pub fn write_plan(n: usize, pieces: &[u64], cuts: &[u64], out: &mut [u8]) -> usize
     requires pieces_in_bounds { 3 * n ≤ length pieces.now }
     requires cuts_in_bounds { 3 * (n - 1) ≤ length cuts.now }

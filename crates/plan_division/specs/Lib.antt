@@ -1,4 +1,4 @@
--- From paths over candidates to demand 3. No code. Definitions stand in Along, Across, Completed, Added, Best and Ready, apart from the laws.
+-- From paths over candidates to demand 3. No code. Definitions stand in Along, Across, Completed, Added, Best and Ready, apart from the laws; demand 3 itself, and what leads to it from the pieces of a path, is proved in proofs/ (PlanTheorems).
 pub mod Along
 pub mod Across
 pub mod AlongLaws
