@@ -21,7 +21,7 @@ use Rattle.plan_pieces.specs.declared.answer.Answer.TheVariants.{Planned}
 use Rattle.planner.specs.Operation.{plan_of}
 use Rattle.handed_back.specs.Plan.{pieces_after}
 use Rattle.plan_theorems.specs.Made.{HasRoom, Made}
-use Rattle.plan_theorems.specs.Theorems.{plan_made, plan_ended, plan_tested, plan_sure}
+use Rattle.plan_theorems.proofs.Theorems.{plan_made, plan_ended, plan_tested, plan_sure}
 use Rattle.capi.specs.Plans.{PlanCalled, plan_called_of}
 
 -- what is at most 13 and neither 12 nor 13

@@ -20,7 +20,7 @@ use Rattle.plan_records.specs.Cuts.{cut_of}
 use Rattle.plan_records.specs.declared.pieces.Piece.{Piece}
 use Rattle.plan_records.specs.declared.cuts.Cut.{Cut}
 use Rattle.plan_theorems.specs.Made.{piece_start, piece_end, length_at, reason_at, Made, MadeOfSpan}
-use Rattle.plan_theorems.specs.Theorems.{made_of_span}
+use Rattle.plan_theorems.proofs.Theorems.{made_of_span}
 
 -- of the first 3 k numbers, those of row i
 front_numbers : (ns : List ℕ) (k i : ℕ) → i < k → Numbers (take (3 * k) ns) i (get_or ns (3 * i) 0) (get_or ns (3 * i + 1) 0) (get_or ns (3 * i + 2) 0)

@@ -20,7 +20,7 @@ use Rattle.plan_pieces.specs.Output.{Output}
 use Rattle.plan_pieces.specs.declared.answer.Answer.{Answer}
 use Rattle.plan_pieces.specs.declared.answer.Answer.TheVariants.{Planned, Refused, ShortParent, ShortOutput}
 use Rattle.plan_theorems.specs.Made.{piece_start, piece_end, Shows, PlanWritten}
-use Rattle.plan_theorems.specs.Theorems.{plan_made, plan_ended}
+use Rattle.plan_theorems.proofs.Theorems.{plan_made, plan_ended}
 use Rattle.job.specs.Job.{Asked, asks, job_of}
 use Rattle.listing.specs.Listing.{plan_line, listing_of, refusal_line}
 use Rattle.listing.specs.Rows.{AllWide}

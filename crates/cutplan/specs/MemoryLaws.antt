@@ -14,7 +14,7 @@ use Rattle.plan_pieces.specs.Output.{Output}
 use Rattle.plan_pieces.specs.declared.answer.Answer.{Answer}
 use Rattle.plan_pieces.specs.declared.answer.Answer.TheVariants.{Planned, Refused, ShortParent, ShortOutput}
 use Rattle.plan_theorems.specs.Made.{HasRoom}
-use Rattle.plan_theorems.specs.Theorems.{plan_made, plan_ended}
+use Rattle.plan_theorems.proofs.Theorems.{plan_made, plan_ended}
 use Rattle.job.specs.Limits.{most_frames}
 use Rattle.cutplan.specs.Memory.{lent_work, lent_parents, end_within}
 

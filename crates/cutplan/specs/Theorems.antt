@@ -35,7 +35,7 @@ use Rattle.plan_pieces.specs.AnswerLaws.{answer_most}
 use Rattle.plan_pieces.specs.declared.answer.Answer.TheVariants.{Planned}
 use Rattle.planner.specs.Operation.{End}
 use Rattle.plan_theorems.specs.Made.{MadeOfSpan}
-use Rattle.plan_theorems.specs.Theorems.{plan_made, plan_ended, made_of_span}
+use Rattle.plan_theorems.proofs.Theorems.{plan_made, plan_ended, made_of_span}
 use Rattle.job.specs.Limits.{most_frames}
 use Rattle.job.specs.Job.{read_of, values_in, levels_for, levels_in, Asked, JobOrFault, asks, fails, with_lists, job_of}
 use Rattle.job.specs.JobLaws.{read_within, read_long, values_length}

@@ -14,7 +14,7 @@ use Rattle.plan_pieces.specs.Output.{Output}
 use Rattle.plan_pieces.specs.declared.answer.Answer.TheVariants.{Planned}
 use Rattle.planner.specs.Operation.{plan_of}
 use Rattle.plan_theorems.specs.Made.{flags_at, length_at}
-use Rattle.plan_theorems.specs.Theorems.{plan_made, made_of_span}
+use Rattle.plan_theorems.proofs.Theorems.{plan_made, made_of_span}
 
 module _ (r : Recording) (segment : SegmentConfig) (settings : PlanConfig) (values : List Float) (flags : List ℕ) (levels : List Float) (out : Output) (work : Work) (parent : List ℕ)
     (f : Fitting values levels) (k : ℕ) (planned : (plan_of r segment settings values flags levels out work parent).answer ≡ Planned k)

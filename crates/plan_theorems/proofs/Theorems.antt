@@ -47,7 +47,7 @@ use Rattle.planner.specs.Operation.{End, end_after, candidates_with, planned_of,
 use Rattle.plan_theorems.specs.Made.{HasRoom, PlanWritten, ReachExists, MadeOfSpan, Made, FewParents, Ended}
 use Rattle.plan_theorems.specs.EndsLaws.{HandedAlong, along_refused, PlanEnd, along, short_parent, handed_by, EndReached, ModeEnd, by_length, by_count, mode_end, AnswerEnds, end_ending, AlongSome, made_end, parent-end, room-end}
 use Rattle.plan_theorems.specs.FollowsLaws.{along-written}
-use Rattle.plan_theorems.specs.MadeLaws.{divided_few, reach_there, few_made, short_given, parents_sure, SpanFilled, MadeByLength, made_by_length, MadeByCount, made_by_count}
+use Rattle.plan_theorems.proofs.MadeLaws.{divided_few, reach_there, few_made, short_given, parents_sure, SpanFilled, MadeByLength, made_by_length, MadeByCount, made_by_count}
 
 -- nothing is written for no piece
 none_written : (out : Output) → PlanWritten 0 out out
