@@ -1,6 +1,6 @@
 -- No listing is longer than `longest_listing`, whatever the input: a plan has at most 511 pieces, and no number of it has more than 64 bits.
-use Rattle.std.specs.Prelude.{◌≡◌, refl, List, ℕ, suc, ◌+◌, ◌-◌, ◌*◌, ◌≤◌, ◌<◌, length, get_or}
-use Rattle.std.proofs.Common.{sym, ap, subst, ◌∙◌, arith}
+use Rattle.std.specs.Prelude.{◌≡◌, refl, List, ℕ, suc, ◌-◌, ◌≤◌, ◌<◌, length}
+use Rattle.std.proofs.Common.{sym, subst, arith}
 use Rattle.base_terms.specs.Limits.{IsU64}
 use Rattle.grid.specs.Boundary.{boundary_of}
 use Rattle.grid.specs.BoundaryLaws.{boundary_le_len}

@@ -6,7 +6,6 @@ use Rattle.grid.specs.declared.validate.Recording.{Recording}
 use Rattle.silence_list.specs.declared.config.SegmentConfig.{SegmentConfig}
 use Rattle.plan_settings.specs.declared.config.PlanConfig.{PlanConfig}
 use Rattle.plan_tests.specs.Fitting.{Fitting}
-use Rattle.plan_tests.specs.Refusal as tests
 use Rattle.plan_tests.specs.RefusalLaws.{never_work}
 use Rattle.plan_pieces.specs.Answer.{number_of}
 use Rattle.plan_pieces.specs.AnswerLaws.{number-output}

@@ -1,0 +1,23 @@
+-- Each end has its law: no bytes, a job, bytes that are none.
+use mathlib.Core.Path.{sym, ◌∙◌}
+use Rattle.job.specs.JobLaws.{read_within}
+use Rattle.cutplan.specs.CutplanLaws.{empty_printed, empty_refused, job_printed, job_refused, fault_printed, fault_refused}
+use Rattle.cutplan.proofs.plan.list_job.Goals as goal
+
+pub returns-then-job-eq0 : goal.returns-then-job-eq0
+returns-then-job-eq0 c = let none = c.if-job-eq0.true in
+    rw (← empty_printed c.args.job.now none, ← empty_refused c.args.job.now none) c.write_empty.ensures
+
+pub plan_read-requires : goal.plan_read-requires
+plan_read-requires c = record { within = read_within c.args.job.now _ (sym c.read.ensures ∙ c.in-Job.is); longest_listing_in_bounds = c.requires }
+
+pub returns-in-Job : goal.returns-in-Job
+returns-in-Job c = let some = c.if-job-eq0.false in
+    let read = sym c.read.ensures ∙ c.in-Job.is in
+    rw (← job_printed c.args.job.now some _ read) (record { size_value = c.plan_read.ensures.size_value; refused_value = c.plan_read.ensures.refused_value ∙ job_refused c.args.job.now some _ read; out_after = c.plan_read.ensures.out_after })
+
+pub returns-in-Refused : goal.returns-in-Refused
+returns-in-Refused c = let some = c.if-job-eq0.false in
+    let read = sym c.read.ensures ∙ c.in-Refused.is in
+    rw (← fault_printed c.args.job.now some _ _ read, ← fault_refused c.args.job.now some _ _ read, ← c.number.ensures)
+    c.write_number.ensures
