@@ -73,11 +73,11 @@ module _ (g : FrameGrid) (s : Span) (spread : Spread s.first s.gaps s.last) (cou
       go true e f = rw e (record { above = from; feasible = true_feasible s spread g count limit e; least = under })
       go false e f = rw e (f (past e))
 
-  -- what `reach_of_lem` gives is the reach
+  -- what `reach_of` gives is the reach
   pub is_reach : IsReach g s count maximum (reach_of g s count maximum)
   unfolding reach_of
   is_reach = least_is (span_length g s - maximum) maximum (omega arith) (λ l h f. h) (omega arith)
 
-  -- and where a limit is the reach, `reach_of_lem` gives it
+  -- and where a limit is the reach, `reach_of` gives it
   pub reach_of_lem : (l : ℕ) → IsReach g s count maximum l → l ≡ reach_of g s count maximum
   reach_of_lem l r = reach-one g s count maximum l (reach_of g s count maximum) r is_reach
