@@ -1,21 +1,13 @@
 -- What comes of a record when it is replayed.
-use Rattle.std.specs.Prelude.{ℕ, zero, suc, ◌+◌, ◌-◌, Bool, true, false, ◌&&◌, cond, List, eqb, ltb, length, get_or, take, drop}
+use Rattle.std.specs.Prelude.{ℕ, ◌+◌, ◌-◌, Bool, false, cond, List, ltb, length, take, drop, nat_eq}
+use Rattle.std.specs.Cmp.Lexicographic.{pointwise}
 use Rattle.numbers_in.specs.Numbers.{u16_at}
 use Rattle.cutplan.specs.Cutplan.{cutplan_of}
 use Rattle.answers_jobs.specs.declared.record.Replayed.{Replayed}
 
--- every number below n passes
-unfoldable pub all_below : (ℕ → Bool) → ℕ → Bool
-all_below p zero = true
-all_below p (suc n) = all_below p n && p n
-
--- byte i is the same in both
-abbrev pub same_byte : List ℕ → List ℕ → ℕ → Bool
-same_byte xs ys i = eqb (get_or xs i 0) (get_or ys i 0)
-
 -- as many bytes, and the same
-unfoldable pub same_bytes : List ℕ → List ℕ → Bool
-same_bytes xs ys = eqb (length xs) (length ys) && all_below (same_byte xs ys) (length xs)
+abbrev pub same_bytes : List ℕ → List ℕ → Bool
+same_bytes xs ys = pointwise nat_eq xs ys
 
 -- the bytes from place a up to place b
 abbrev pub bytes_between : ℕ → ℕ → List ℕ → List ℕ

@@ -10,6 +10,8 @@ ghost use Rattle.std.specs.Prelude.{◌≡◌};
 ghost use Rattle.answers_jobs.specs.Tally.{tally_of};
 
 use crate::report::Tally;
+use input_reader::input;
+use std::io;
 
 // Goes through all records.
 fn replay_all(s: &[u8]) -> Tally
@@ -20,6 +22,7 @@ fn replay_all(s: &[u8]) -> Tally
     }
     let mut tally = report::nothing();
     let mut at: usize = 0;
+    // How far a turn goes is what the record says.
     while at < s.len() {
         let replayed = record::replay(&s[at..]);
         at += replayed.size;
@@ -28,20 +31,14 @@ fn replay_all(s: &[u8]) -> Tally
     tally
 }
 
-// The number of records is part of the line, so that a sample that was not read is no success.
-fn print(tally: Tally) {
-    io::write_all(1, b"jobs: ");
-    io::print_decimal(1, tally.records);
-    io::write_all(1, b" stored answers, the first ");
-    io::print_decimal(1, tally.agreeing);
-    io::write_all(1, b" agree, ");
-    io::print_decimal(1, tally.differences);
-    io::write_all(1, b" differ\n");
-}
-
-// Reads the sample, and prints one line.
-fn main() {
+// Reads the sample, and prints one line. The number of records is part of it, so that a sample that was not read is no
+// success.
+fn main(rt: HostRuntime) -> io::Result<()> {
     let mut buf = [0u8; report::MOST + 1];
-    let n = io::read_full(0, &mut buf);
-    print(replay_all(&buf[..n]));
+    let n = input::read_to_end(&mut rt.stdin(), &mut buf)?;
+    let tally = replay_all(&buf[..n]);
+    println!(rt;
+        "jobs: {} stored answers, the first {} agree, {} differ",
+        tally.records, tally.agreeing, tally.differences
+    )
 }

@@ -6,7 +6,7 @@ ghost use Rattle.cutplan.specs.Cutplan.{cutplan_of};
 
 use cutplan::plan;
 use cutplan::plan::LONGEST_LISTING;
-use numbers_in::number;
+use numbers_in::number::Number;
 
 // What came of a record: the number of bytes that were read, and whether the port's answer is the stored one.
 #[derive(Clone, Copy)]
@@ -28,27 +28,13 @@ fn broken(s: &[u8]) -> Replayed
     }
 }
 
-// Both have the same bytes.
-fn same_bytes(a: &[u8], b: &[u8]) -> bool
-    ensures { result ≡ same_bytes a.now b.now }
-{
-    if a.len() != b.len() {
-        return false;
-    }
-    let mut ok = true;
-    for i in 0..a.len() {
-        ok = ok & (a[i] == b[i]);
-    }
-    ok
-}
-
 // The port's listing of a job is the stored one.
 fn agrees(job: &[u8], listing: &[u8]) -> bool
     ensures { result ≡ same_bytes (cutplan_of job.now) listing.now }
 {
     let mut out = [0u8; LONGEST_LISTING];
     let n = plan::plan_job(job, &mut out);
-    same_bytes(&out[..n], listing)
+    &out[..n] == listing
 }
 
 // The record at the front of s, or what is left where that is no whole record.
@@ -58,11 +44,11 @@ pub fn replay(s: &[u8]) -> Replayed
     ensures size_in_bounds { result.size ≤ length s.now }
     ensures value { result ≡ replayed_of s.now }
 {
-    let job = number::u16_at(s, 0) as usize;
+    let job = u16::at(s, 0) as usize;
     if s.len() < job + 4 {
         return broken(s);
     }
-    let listing = number::u16_at(s, job + 2) as usize;
+    let listing = u16::at(s, job + 2) as usize;
     if s.len() - job - 4 < listing {
         return broken(s);
     }

@@ -46,20 +46,16 @@ pub fn with_record(t: Tally, same: bool) -> Tally
     if !same {
         return Tally {
             records,
-            agreeing: t.agreeing,
             differences: t.differences + 1,
+            ..t
         };
     }
     if t.differences == 0 {
         return Tally {
             records,
             agreeing: records,
-            differences: t.differences,
+            ..t
         };
     }
-    Tally {
-        records,
-        agreeing: t.agreeing,
-        differences: t.differences,
-    }
+    Tally { records, ..t }
 }

@@ -1,9 +1,9 @@
 -- Test 13: a list has 16 entries for each of n exactly where a sixteenth of its length is n or more; and what the test leaves.
 use Rattle.std.specs.Prelude.{◌≡◌, ℕ, ◌/◌, ◌<◌, ◌≤◌, true, false, ◌&&◌, List, length, from_bits, nat_le}
-use Rattle.std.proofs.Common.{arith, leb-true, le-leb}
+use Rattle.std.proofs.Common.{sym, ◌∙◌, inl, inr, arith, leb-true, le-leb}
 use Rattle.std.proofs.lemmas.Bool.{lt-leb}
 use Rattle.std.specs.Float.{binary64}
-use Rattle.base_laws.specs.Tests.{both}
+use Rattle.base_laws.specs.Tests.{both, lt_or_le}
 use Rattle.base_terms.specs.Lists.{filled}
 use Rattle.base_terms.specs.Work.{Work, cleared, work_length, work_ok}
 
@@ -14,6 +14,19 @@ long_enough n len h = le-leb (work_length n) len (omega arith)
 -- a sixteenth of the length is below n: the list is too short
 pub too_short : (n len : ℕ) → len / 16 < n → nat_le (work_length n) len ≡ false
 too_short n len h = lt-leb (work_length n) len (omega arith)
+
+-- either way
+by_sixteenth : (n len : ℕ) → nat_le n (len / 16) ≡ nat_le (work_length n) len
+by_sixteenth n len =
+    elim (lt_or_le (len / 16) n) [
+      | inl l ↦ lt-leb n (len / 16) l ∙ sym (too_short n len l)
+      | inr l ↦ le-leb n (len / 16) l ∙ sym (long_enough n len l)
+    ]
+
+-- so for the three lists
+pub by_sixteenths : (n n32 n64 nf : ℕ) → (nat_le n (n32 / 16) && nat_le n (n64 / 16) && nat_le n (nf / 16)) ≡ work_ok n n32 n64 nf
+unfolding work_ok
+by_sixteenths n n32 n64 nf = rw (by_sixteenth n n32, by_sixteenth n n64, by_sixteenth n nf)
 
 -- each work list has 16 entries for each of n
 pub record WorkIn (n n32 n64 nf : ℕ) : Type 0 where

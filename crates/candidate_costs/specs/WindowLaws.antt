@@ -1,7 +1,7 @@
 -- Windows hold their own frame, sums grow from the left, and the mean of values that are not negative is not negative.
 use Rattle.std.specs.Prelude.{◌≡◌, Bool, true, pos, T, Float, get_or, take, drop}
 use Rattle.std.proofs.Math.Path.{refl}
-use Rattle.std.proofs.Common.{sym, ap, subst, ◌∙◌, not-suc-le-zero, div-lt_iff_lt-mul, add-one, arith, length-take, length-drop, drop-cons}
+use Rattle.std.proofs.Common.{sym, ap, subst, ◌∙◌, not-suc-le-zero, div-lt_iff_lt-mul, add-one, arith, length-take, length-take-le, length-drop, drop-cons, get_or-take, get_or-drop}
 use Rattle.std.proofs.Math.Bool.{false}
 use mathlib.Core.List.{List, [], ◌∷◌}
 use Prim.Native.Nat.{ℕ, zero, suc, ◌+◌, ◌-◌, ◌*◌, ◌/◌, ◌^◌, ◌≤◌, ◌<◌, min}
@@ -113,30 +113,48 @@ width_narrow frameRate hop w =
 
 -- ---- sums
 
--- what holds while a loop that ends at `end` sums a part
-pub record Summing (part : List Float) (end : ℕ) (total : Float) (i : ℕ) : Type 0 where
+-- what holds while the first i values of a part are summed
+pub record Summing (part : List Float) (total : Float) (i : ℕ) : Type 0 where
   pub within : i ≤ length part
-  pub ends : end ≡ length part
   pub left : sum_from total (drop i part) ≡ sum_of part
 
 -- the sum starts with the first value
-pub summing_start : (part : List Float) → 0 < length part → Summing part (length part) (get_or part 0 nan) 1
+pub summing_start : (part : List Float) → 0 < length part → Summing part (get_or part 0 nan) 1
 unfolding sum_of
 summing_start [] h = absurd (not-suc-le-zero h)
-summing_start (x ∷ xs) h = record { within = omega arith; ends = refl; left = refl }
+summing_start (x ∷ xs) h = record { within = omega arith; left = refl }
+
+-- the values after the first
+abbrev pub later : List Float → List Float
+later part = take (length part - 1) (drop 1 part)
+
+-- are one fewer
+later-length : (part : List Float) → length (later part) ≡ length part - 1
+later-length part = length-take-le (length part - 1) (drop 1 part) (omega (arith, length-drop 1 part))
+
+-- and stand one place on
+pub later_value : (part : List Float) (i : ℕ) → i < length (later part) → get_or (later part) i nan ≡ get_or part (i + 1) nan
+later_value part i h =
+    get_or-take (length part - 1) (drop 1 part) i nan (omega (arith, later-length part)) ∙ get_or-drop 1 part i nan ∙ ap (λ (k : ℕ). get_or part k nan) (omega arith)
+
+-- so each is finite where all values are
+pub later_finite : (part : List Float) (i : ℕ) → i < length (later part) → all_of is_finite part ≡ true → is_finite (get_or (later part) i nan) ≡ true
+later_finite part i h f = rw (later_value part i h) (all-at is_finite part (i + 1) nan (omega (arith, later-length part)) f)
 
 -- a value more is added
-pub summing_next : (part : List Float) (end : ℕ) (total : Float) (i : ℕ) → i < end → Summing part end total i
-    → Summing part end (add binary64 total (get_or part i nan)) (i + 1)
+pub summing_next : (part : List Float) (total : Float) (i : ℕ) → i < length (later part) → Summing part total (i + 1)
+    → Summing part (add binary64 total (get_or (later part) i nan)) (i + 1 + 1)
 unfolding sum_from
-summing_next part end total i l w =
-    search (arith, add-one, ap (sum_from total) (sym (drop-cons part i nan (omega (arith, w.ends)))) ∙ w.left)
+summing_next part total i l w =
+    let inside : i + 1 < length part = omega (arith, later-length part) in
+    rw (later_value part i l)
+    (search (arith, add-one, ap (sum_from total) (sym (drop-cons part (i + 1) nan inside)) ∙ w.left))
 
 -- after the last one it is the sum of the part
-pub summing_done : (part : List Float) (end : ℕ) (total : Float) (i : ℕ) → end ≤ i → Summing part end total i → total ≡ sum_of part
+pub summing_done : (part : List Float) (total : Float) (i : ℕ) → 0 < length part → length (later part) ≤ i → Summing part total (i + 1) → total ≡ sum_of part
 unfolding sum_from
-summing_done part end total i l w =
-    let e : i ≡ length part = omega (arith, w.ends, w.within) in
+summing_done part total i s l w =
+    let e : i + 1 ≡ length part = omega (arith, w.within, later-length part) in
     sym (ap (sum_from total) (drop-length part)) ∙ subst (λ (k : ℕ). sum_from total (drop k part) ≡ sum_of part) e w.left
 
 -- ---- means

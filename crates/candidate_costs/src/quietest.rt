@@ -3,6 +3,7 @@ ghost use Rattle.std.specs.Prelude.{◌≡◌, ◌≤◌, ◌<◌, length};
 ghost use Rattle.candidate_costs.specs.Quietest.{quieter, quietest_of};
 
 // The quieter of two boundaries, the first where they are equally quiet.
+#[tactic(auto, unfolding(crate::specs::Quietest::quieter))]
 fn quieter(levels: &[f64], b: usize, k: usize) -> usize
     requires { (b < length levels.now) × (k < length levels.now) }
     ensures { result ≡ quieter levels.now b k }

@@ -11,12 +11,10 @@ pub fn stretch_at(runs: &[u32], k: usize) -> u32
     if k == 0 {
         return runs[0];
     }
-    let before = runs[k - 1];
     if k == runs.len() {
-        return before;
+        return runs[k - 1];
     }
-    let after = runs[k];
-    if before < after { after } else { before }
+    runs[k - 1].max(runs[k])
 }
 
 // So many frames in seconds.

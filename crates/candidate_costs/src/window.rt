@@ -6,18 +6,16 @@ ghost use Rattle.grid.specs.Durations.{InFrames};
 ghost use Rattle.candidate_costs.specs.Window.{smoothing, width_of, window_of, sum_of, mean_of};
 ghost use Rattle.candidate_costs.specs.WindowLaws.{Windowed};
 
-use base_code::sizes;
-
 // The smoothing time: a window this long, so that a pause between words beats a stop closure.
 pub const SMOOTHING: u64 = 150_000_000;
 
 // The width of a window in frames.
+#[tactic(auto, unfolding(crate::specs::Window::width_of))]
 pub fn smoothing_width(frame_rate: u32, hop: u32) -> usize
     requires { InFrames frame_rate hop smoothing }
     ensures { result ≡ width_of frame_rate hop }
 {
-    let frames = grid::durations::frames_ceil(frame_rate, hop, SMOOTHING);
-    if frames < 1 { 1 } else { frames as usize }
+    grid::durations::frames_ceil(frame_rate, hop, SMOOTHING).max(1) as usize
 }
 
 // The sum of a part, left to right from its first value.
@@ -27,8 +25,8 @@ fn sum(part: &[f32]) -> f64
     ensures { result ≡ sum_of part.now }
 {
     let mut total = part[0] as f64;
-    for i in 1..part.len() {
-        total = total + part[i] as f64;
+    for value in &part[1..] {
+        total += *value as f64;
     }
     total
 }
@@ -40,7 +38,7 @@ pub fn mean_at(width: usize, values: &[f32], i: usize) -> f64
     ensures { result ≡ mean_of (window_of width values.now i) }
 {
     let half = (width - 1) / 2;
-    let from = sizes::less(i, half);
-    let to = sizes::lesser(i + (width - half), values.len());
+    let from = i.saturating_sub(half);
+    let to = (i + (width - half)).min(values.len());
     sum(&values[from..to]) / ((to - from) as f64)
 }

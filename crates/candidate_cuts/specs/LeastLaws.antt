@@ -1,7 +1,9 @@
 -- The least level of neighbouring boundaries is at most each of them, and from 0 to 1 where they are: a boundary more can only lower it.
-use Rattle.std.specs.Prelude.{◌≡◌, false, List, T, Float, get_or}
-use Rattle.std.proofs.Math.Path.{sym, ap, subst}
-use Rattle.std.proofs.Common.{◌∙◌, inl, inr, le_refl, add-one}
+use Rattle.std.specs.Prelude.{◌≡◌, false, List, [], ◌∷◌, ◌++◌, T, Float, length, take, drop, get_or}
+use Rattle.std.specs.List.{fold}
+use Rattle.std.proofs.Math.Path.{refl, ap, subst}
+use Rattle.std.proofs.Common.{◌∙◌, inl, inr, le_refl, drop-cons}
+use Rattle.std.proofs.lemmas.Grind.{fold-append}
 use Prim.Native.Nat.{ℕ, zero, suc, ◌+◌, ◌-◌, ◌≤◌, ◌<◌}
 use native.Mathlib.Omega.{arith}
 use Rattle.std.specs.Float.{nan, inf}
@@ -15,25 +17,23 @@ use Rattle.candidate_costs.specs.Normalize.{unit}
 use Rattle.candidate_costs.specs.NormalizeLaws.{OnScale}
 use Rattle.candidate_cuts.specs.Cut.{least_level_from, least_level}
 
--- ---- while it is sought
+-- ---- it is what folding the levels of the silence gives
 
--- a loop has come to boundary k with the level a
-abbrev pub Lowering : List Float → ℕ → ℕ → Float → ℕ → Type 0
-Lowering levels start end a k = (start ≤ k) × (k ≤ end + 1) × (least_level_from levels a k (end + 1 - k) ≡ least_level levels start end)
+-- the least of a and of m levels from boundary k on
+least_part : (levels : List Float) (m k : ℕ) (a : Float) → k + m ≤ length levels → fold min_of a (take m (drop k levels)) ≡ least_level_from levels a k m
+unfolding least_level_from
+least_part levels zero k a h = refl
+least_part levels (suc m) k a h =
+    ap (λ (l : List Float). fold min_of a (take (suc m) l)) (drop-cons levels k nan (omega arith)) ∙ least_part levels m (suc k) (min_of a (get_or levels k nan)) (omega arith)
 
-module _ (levels : List Float) (start end : ℕ) (a : Float) (k : ℕ) where
-  -- one boundary more
-  pub lowering_next : k < end + 1 → Lowering levels start end a k → Lowering levels start end (min_of a (get_or levels k nan)) (k + 1)
-  unfolding least_level_from
-  lowering_next h (l, m, e) =
-      let d : end + 1 - k ≡ suc (end + 1 - (k + 1)) = omega arith in
-      let one = ap (λ (j : ℕ). least_level_from levels (min_of a (get_or levels k nan)) j (end + 1 - (k + 1))) (sym (add-one k)) in
-      (omega arith, omega arith, sym (ap (least_level_from levels a k) d ∙ one) ∙ e)
+-- of all of them
+pub least_folds : (levels : List Float) (start end : ℕ) → start ≤ end → end < length levels → fold min_of (inf false) (take (end + 1 - start) (drop start levels)) ≡ least_level levels start end
+unfolding least_level
+least_folds levels start end h l = least_part levels (end + 1 - start) start (inf false) (omega arith)
 
-  -- no boundary is left
-  pub lowering_done : end + 1 ≤ k → Lowering levels start end a k → a ≡ least_level levels start end
-  unfolding least_level_from
-  lowering_done h (l, m, e) = let d : end + 1 - k ≡ 0 = omega arith in sym (ap (least_level_from levels a k) d) ∙ e
+-- one level more
+pub least_step : (ys : List Float) (a x b : Float) → a ≡ fold min_of (inf false) ys → b ≡ min_of a x → b ≡ fold min_of (inf false) (ys ++ (x ∷ []))
+least_step ys a x b e q = rw (fold-append min_of (inf false) ys (x ∷ []), ← e) q
 
 -- ---- what it is
 

@@ -19,19 +19,14 @@ pub struct SilenceCut {
 
 // The middle of the overlap of two paddings, kept within the silence between the sounds.
 // `next_start` is the padded start of the later sound and `prev_end` the padded end of the earlier one.
+#[tactic(auto, unfolding(crate::specs::Cut::split_point))]
 fn split_point(next_start: usize, prev_end: usize, start: usize, end: usize) -> usize
     requires next_start_le_prev_end { next_start ≤ prev_end }
     requires start_le_end { start ≤ end }
     ensures { result ≡ split_point next_start prev_end start end }
 {
     let middle = next_start + (prev_end - next_start) / 2;
-    if middle < start {
-        return start;
-    }
-    if end < middle {
-        return end;
-    }
-    middle
+    middle.clamp(start, end)
 }
 
 // The least level of the boundaries from start to end, both inclusive.
@@ -39,11 +34,10 @@ fn least_level(levels: &[f64], start: usize, end: usize) -> f64
     requires { WithLevels levels.now start end }
     ensures { result ≡ least_level levels.now start end }
 {
-    let mut least = 1.0 / 0.0;
-    for k in start..end + 1 {
-        least = floats::min_f64(least, levels[k]);
-    }
-    least
+    let silence = &levels[start..end + 1];
+    silence
+        .iter()
+        .fold(f64::INFINITY, |least, level| floats::min(least, *level))
 }
 
 // A cut at one boundary, which drops nothing.

@@ -1,5 +1,5 @@
 -- What preparing needs of a recording and settings, and what its answer says of them and of work memory.
-use Rattle.std.specs.Prelude.{◌≡◌, true, false, List, ℕ, ◌≤◌, Float, length}
+use Rattle.std.specs.Prelude.{◌≡◌, true, false, List, Option, Some, None, ℕ, ◌≤◌, Float, length}
 use Rattle.grid.specs.Validate.{grid_of}
 use Rattle.grid.specs.declared.boundary.FrameGrid.{FrameGrid}
 use Rattle.grid.specs.declared.validate.Recording.{Recording}
@@ -15,7 +15,6 @@ use Rattle.candidate_finder.specs.CandidatesIn.{context_of, grid_points_in}
 use Rattle.candidate_finder.specs.SpanIn.{empty_in, first_in, last_in}
 use Rattle.candidate_finder.specs.Holds.{Measurable, Holds}
 use Rattle.candidate_finder.specs.declared.prepare.Prepared.{Prepared}
-use Rattle.candidate_finder.specs.declared.prepare.Prepared.TheVariants.{Empty, Ready}
 
 module _ (r : Recording) (segment : SegmentConfig) (settings : PlanConfig) (values : List Float) (flags : List ℕ) (levels : List Float) where
   -- a recording that can be measured, and settings that can be planned with, in lists of these lengths
@@ -38,10 +37,10 @@ module _ (r : Recording) (segment : SegmentConfig) (settings : PlanConfig) (valu
 
   module _ (work : List ℕ) (workf : List Float) where
     -- the span is empty, or it is held
-    abbrev Says : Prepared → Type 0
-    Says Empty = empty_in r segment settings values flags ≡ true
-    Says (Ready x g span) = SpanReady x g span work workf
+    abbrev Says : Option Prepared → Type 0
+    Says None = empty_in r segment settings values flags ≡ true
+    Says (Some p) = SpanReady p.context p.grid p.span work workf
 
     -- what an answer says
-    pub record PreparedIs (p : Prepared) : Type 0 where
+    pub record PreparedIs (p : Option Prepared) : Type 0 where
       pub says : Says p

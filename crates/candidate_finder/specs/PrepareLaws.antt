@@ -1,6 +1,6 @@
 -- What each call of `prepare` needs of the ones before, and what its answers say: no frames, an empty span, and a span whose grid points are marked.
 -- A request that passes every test before 14 can be prepared.
-use Rattle.std.specs.Prelude.{◌≡◌, refl, true, false, List, ℕ, ◌+◌, ◌*◌, ◌≤◌, ◌<◌, Float, length, take, drop}
+use Rattle.std.specs.Prelude.{◌≡◌, refl, true, false, List, Option, Some, None, ℕ, ◌+◌, ◌*◌, ◌≤◌, ◌<◌, Float, length, take, drop}
 use Rattle.std.proofs.Math.Path.{sym, ap}
 use Rattle.std.proofs.Common.{subst, ◌∙◌, arith, take-add, drop_at, length-take-le}
 use Rattle.base_terms.specs.Layout.{runs_at, marks_at}
@@ -21,7 +21,7 @@ use Rattle.candidate_span.specs.SpanLaws.{ends-none, ends_found, ends_order}
 use Rattle.candidate_span.specs.declared.held.HeldSpan.{HeldSpan}
 use Rattle.candidate_span.specs.declared.padding.Padding.{Padding}
 use Rattle.candidate_span.specs.declared.spacing.Spacing.{Spacing}
-use Rattle.candidate_span.specs.declared.ends.SpanEnds.TheVariants.{Empty, Between}
+use Rattle.candidate_span.specs.declared.ends.SpanEnds.{SpanEnds}
 use Rattle.candidate_points.specs.Blocked.{is_blocked}
 use Rattle.candidate_points.specs.Points.{grid_points, is_in}
 use Rattle.candidates.specs.declared.context.Context.{Context}
@@ -94,25 +94,25 @@ module _ (r : Recording) (segment : SegmentConfig) (settings : PlanConfig) (valu
       padded = ap (λ (t : Spacing). t.padding) spacing_is ∙ padding_is r segment settings n
 
       -- a span without ends is empty
-      pub measured_empty : Empty ≡ ends_of settings.gap s.padding (silences_held silences work) → empty_in r segment settings values flags ≡ true
+      pub measured_empty : ◌≡◌ {A = Option SpanEnds} None (ends_of settings.gap s.padding (silences_held silences work)) → empty_in r segment settings values flags ≡ true
       measured_empty e =
           ends-none settings.gap (padding_in r segment settings n) (silences_in r segment values flags)
           (e ∙ ap (λ (t : Padding). ends_of settings.gap t (silences_held silences work)) padded ∙ ap (ends_of settings.gap (padding_in r segment settings n)) h.listed)
 
       -- it has two ends
-      module _ (first last : ℕ) (e : Between first last ≡ ends_of settings.gap s.padding (silences_held silences work)) where
+      module _ (ends : SpanEnds) (e : ◌≡◌ {A = Option SpanEnds} (Some ends) (ends_of settings.gap s.padding (silences_held silences work))) where
         abbrev span : HeldSpan
-        span = record { silences = silences; first = first; last = last }
+        span = record { silences = silences; first = ends.first; last = ends.last }
 
-        found : (empty_in r segment settings values flags ≡ false) × (first ≡ first_in r segment settings values flags) × (last ≡ last_in r segment settings values flags)
+        found : (empty_in r segment settings values flags ≡ false) × (ends.first ≡ first_in r segment settings values flags) × (ends.last ≡ last_in r segment settings values flags)
         found =
-            ends_found settings.gap (padding_in r segment settings n) (silences_in r segment values flags) first last
+            ends_found settings.gap (padding_in r segment settings n) (silences_in r segment values flags) ends
             (e ∙ ap (λ (t : Padding). ends_of settings.gap t (silences_held silences work)) padded ∙ ap (ends_of settings.gap (padding_in r segment settings n)) h.listed)
 
         listed : Listed n (silences_in r segment values flags)
         listed = silences_are r segment values flags p.measurable.sounds.flagged
 
-        order : (first < last) × (last ≤ n)
+        order : (ends.first < ends.last) × (ends.last ≤ n)
         order =
             rw (found.1, found.2)
             (ends_order settings.gap (padding_in r segment settings n) (silences_in r segment values flags) (record { listed = listed; some = found.0 }))
@@ -149,7 +149,7 @@ module _ (r : Recording) (segment : SegmentConfig) (settings : PlanConfig) (valu
 
           marks : (k : ℕ) → k ≤ n → marked n work' k ≡ is_in (grid_points_in r segment settings values flags levels) k
           marks k l =
-              subst (λ (j : ℕ). marked j work' k ≡ is_in (grid_points (is_blocked settings.gap g s (silences_held silences work)) (levels_held j workf) s.block first last) k) size
+              subst (λ (j : ℕ). marked j work' k ≡ is_in (grid_points (is_blocked settings.gap g s (silences_held silences work)) (levels_held j workf) s.block ends.first ends.last) k) size
               (ap (λ (w : List ℕ). marked g.frames w k) m ∙ mark_is settings.gap g s span work workf measured_markable k (omega (arith, size, l)))
               ∙ rw (spacing_is, eg, h.listed, h.leveled, found.1, found.2)
 

@@ -5,8 +5,8 @@ ghost use Rattle.candidate_finder.specs.Prepare.{Plannable};
 ghost use Rattle.candidate_finder.specs.FinderLaws.{Stands};
 
 use crate::prepare;
-use crate::prepare::Prepared;
 use candidate_walk::collect;
+use grid::Readings;
 use grid::validate::Recording;
 use plan_settings::config::PlanConfig;
 use silence_list::config::SegmentConfig;
@@ -16,30 +16,21 @@ pub fn find_candidates(
     r: Recording,
     segment: SegmentConfig,
     settings: PlanConfig,
-    values: &[f32],
-    flags: &[u8],
-    levels: &[f64],
+    readings: &Readings,
     work_u32: &mut [u32],
     work_f64: &mut [f64],
 ) -> usize
-    requires { Plannable r segment settings values.now flags.now levels.now
+    requires { Plannable r segment settings
+        readings.now.values.now readings.now.flags.now readings.now.levels.now
         (length work_u32.old) (length work_f64.old) }
-    ensures { Stands (length values.now) result
-        (candidates_in r segment settings values.now flags.now levels.now)
+    ensures { Stands (length readings.now.values.now) result
+        (candidates_in r segment settings
+        readings.now.values.now readings.now.flags.now readings.now.levels.now)
         work_u32.new work_f64.new }
 {
-    let prepared = prepare::prepare(
-        r,
-        segment,
-        settings,
-        values,
-        flags,
-        levels,
-        &mut *work_u32,
-        &mut *work_f64,
-    );
+    let prepared = prepare::prepare(r, segment, settings, readings, work_u32, work_f64);
     match prepared {
-        Prepared::Empty => 0,
-        Prepared::Ready(x, _, span) => collect::collect(x, span, work_u32, work_f64),
+        None => 0,
+        Some(p) => collect::collect(p.context, p.span, work_u32, work_f64),
     }
 }

@@ -2,7 +2,7 @@
 ghost use Rattle.std.specs.Prelude.{◌≡◌};
 ghost use Rattle.candidate_finder.specs.GridPointMarks.{Markable, marked_of};
 
-use base_code::layout;
+use base_code::layout::Layout;
 use candidate_points::{blocked, points};
 use candidate_span::held::HeldSpan;
 use candidate_span::spacing::Spacing;
@@ -22,9 +22,10 @@ pub fn mark_grid_points(
     ensures { work_u32.new ≡
         marked_of gap g s span work_u32.old work_f64.now }
 {
-    let side = layout::side(g.frames);
-    let base = layout::marks_at(g.frames);
-    blocked::mark_blocked(gap, g, s, span.silences, base, &mut *work_u32);
+    let places = Layout { frames: g.frames };
+    let side = places.side();
+    let base = places.marks_at();
+    blocked::mark_blocked(gap, g, s, span.silences, base, work_u32);
     points::mark_points(
         s.block,
         span.first,

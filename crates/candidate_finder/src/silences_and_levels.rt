@@ -12,10 +12,10 @@ ghost use Rattle.candidate_finder.specs.CandidatesIn.{recording_levels};
 ghost use Rattle.candidate_finder.specs.NeededLevels.{needed_levels};
 ghost use Rattle.candidate_finder.specs.Holds.{Measurable, Holds};
 
-use base_code::layout;
+use base_code::layout::Layout;
 use candidate_costs::{level, window};
-use grid::durations;
 use grid::validate::{Domain, Recording};
+use grid::{Readings, durations};
 use silence_levels::threshold::{Levels, Threshold};
 use silence_list::config::SegmentConfig;
 use silence_runs::{one_pass, quiet};
@@ -24,20 +24,20 @@ use silence_runs::{one_pass, quiet};
 fn needed_levels(
     domain: Domain,
     threshold: Threshold,
-    values: &[f32],
-    flags: &[u8],
+    readings: &Readings,
     keys: &mut [u32],
 ) -> Levels
-    requires values_len_bound { length values.now ≤ max_frames }
-    requires flags_len { length flags.now ≡ length values.now }
-    requires values_in_bounds { length values.now ≤ length keys.old }
-    requires values_finite { all_of is_finite values.now ≡ true }
-    ensures { result ≡ needed_levels domain (levels_of domain threshold values.now flags.now) }
+    requires values_len_bound { length readings.now.values.now ≤ max_frames }
+    requires flags_len { length readings.now.flags.now ≡ length readings.now.values.now }
+    requires values_in_bounds { length readings.now.values.now ≤ length keys.old }
+    requires values_finite { all_of is_finite readings.now.values.now ≡ true }
+    ensures { result
+        ≡ needed_levels domain (levels_of domain threshold readings.now.values.now readings.now.flags.now) }
 {
     match domain {
-        Domain::Decibels => silence_levels::levels(domain, threshold, values, flags, keys),
+        Domain::Decibels => silence_levels::levels(domain, threshold, readings, keys),
         Domain::Scores => {
-            let t = silence_levels::thresholds(domain, threshold, values, flags, keys);
+            let t = silence_levels::thresholds(domain, threshold, readings, keys);
             Levels {
                 floor: 0.0,
                 reference: 0.0,
@@ -59,21 +59,20 @@ pub struct LevelsAndSilences {
 fn levels_and_silences(
     r: Recording,
     segment: SegmentConfig,
-    values: &[f32],
-    flags: &[u8],
+    readings: &Readings,
     list: &mut [u32],
 ) -> LevelsAndSilences
-    requires sound_ready { SoundReady r segment values.now flags.now }
-    requires values_in_bounds { length values.now + 2 ≤ length list.old }
+    requires sound_ready { SoundReady r segment readings.now.values.now readings.now.flags.now }
+    requires values_in_bounds { length readings.now.values.now + 2 ≤ length list.old }
     ensures levels_value { result.levels
-        ≡ needed_levels r.domain (recording_levels r segment values.now flags.now) }
-    ensures silences_value { 2 * result.silences ≡ length (silences_in r segment values.now flags.now) }
+        ≡ needed_levels r.domain
+        (recording_levels r segment readings.now.values.now readings.now.flags.now) }
+    ensures silences_value { 2 * result.silences
+        ≡ length (silences_in r segment readings.now.values.now readings.now.flags.now) }
     ensures list_after { take (2 * result.silences) list.new
-        ≡ silences_in r segment values.now flags.now }
+        ≡ silences_in r segment readings.now.values.now readings.now.flags.now }
 {
-    let threshold = segment.threshold;
-    let domain = r.domain;
-    let l = needed_levels(domain, threshold, values, flags, list);
+    let l = needed_levels(r.domain, segment.threshold, readings, list);
     let min_sound = durations::frames_in(r.frame_rate, r.hop, segment.min_sound);
     let min_silence = durations::frames_in(r.frame_rate, r.hop, segment.min_silence);
     let numbers = one_pass::list_silences(
@@ -81,8 +80,7 @@ fn levels_and_silences(
         l.off,
         min_sound as usize,
         min_silence as usize,
-        values,
-        flags,
+        readings,
         list,
     );
     LevelsAndSilences {
@@ -92,13 +90,13 @@ fn levels_and_silences(
 }
 
 // For each frame the length of its stretch below off.
-fn quiet_stretches(off: f32, values: &[f32], flags: &[u8], runs: &mut [u32])
-    requires flags_len { length flags.now ≡ length values.now }
-    requires runs_len { length runs.old ≡ length values.now }
-    requires values_len_bound { length values.now ≤ max_frames }
-    ensures { runs.new ≡ quiet_runs (below_off off values.now flags.now) }
+fn quiet_stretches(off: f32, readings: &Readings, runs: &mut [u32])
+    requires flags_len { length readings.now.flags.now ≡ length readings.now.values.now }
+    requires runs_len { length runs.old ≡ length readings.now.values.now }
+    requires values_len_bound { length readings.now.values.now ≤ max_frames }
+    ensures { runs.new ≡ quiet_runs (below_off off readings.now.values.now readings.now.flags.now) }
 {
-    quiet::below_off(off, values, flags, runs);
+    quiet::below_off(off, readings, runs);
     quiet::quiet_runs(runs);
 }
 
@@ -106,25 +104,23 @@ fn quiet_stretches(off: f32, values: &[f32], flags: &[u8], runs: &mut [u32])
 pub fn hold(
     r: Recording,
     segment: SegmentConfig,
-    values: &[f32],
-    flags: &[u8],
-    levels: &[f64],
+    readings: &Readings,
     work_u32: &mut [u32],
     work_f64: &mut [f64],
 ) -> usize
-    requires measurable { Measurable r segment values.now flags.now levels.now
+    requires measurable { Measurable r segment
+        readings.now.values.now readings.now.flags.now readings.now.levels.now
         (length work_u32.old) (length work_f64.old) }
-    requires values_nonzero { 0 < length values.now }
-    ensures { Holds r segment values.now flags.now levels.now result
-        work_u32.new work_f64.new }
+    requires values_nonzero { 0 < length readings.now.values.now }
+    ensures { Holds r segment readings.now.values.now readings.now.flags.now readings.now.levels.now
+        result work_u32.new work_f64.new }
 {
-    let n = values.len();
-    let found = levels_and_silences(r, segment, values, flags, &mut *work_u32);
-    let l = found.levels;
-    let at = layout::runs_at(n);
-    quiet_stretches(l.off, values, flags, &mut work_u32[at..at + n]);
+    let n = readings.values.len();
+    let found = levels_and_silences(r, segment, readings, work_u32);
+    let places = Layout { frames: n };
+    let at = places.runs_at();
+    quiet_stretches(found.levels.off, readings, &mut work_u32[at..at + n]);
     let width = window::smoothing_width(r.frame_rate, r.hop);
-    let domain = r.domain;
-    level::fill_levels(domain, l, width, values, levels, work_f64);
+    level::fill_levels(r.domain, found.levels, width, readings, work_f64);
     found.silences
 }

@@ -1,5 +1,5 @@
 -- One law for each end of the operation "candidate list", under what has passed before it.
-use Rattle.std.specs.Prelude.{◌≡◌, refl, Bool, true, false, List, ℕ, ◌+◌, ◌-◌, ◌*◌, ◌/◌, ◌≤◌, ◌<◌, leb, Float, length, take, drop}
+use Rattle.std.specs.Prelude.{◌≡◌, refl, Bool, true, false, List, Result, Ok, Err, ℕ, ◌+◌, ◌-◌, ◌*◌, ◌/◌, ◌≤◌, ◌<◌, leb, Float, length, take, drop}
 use Rattle.std.proofs.Common.{sym, ap, ◌∙◌, arith, length-take, length-drop}
 use borrow.Author.Tests.{le-leb, lt-leb, leb-true, leb-false}
 use Rattle.base_laws.specs.Tests.{both}
@@ -12,15 +12,13 @@ use Rattle.silence_list.specs.declared.config.SegmentConfig.{SegmentConfig}
 use Rattle.plan_settings.specs.declared.config.PlanConfig.{PlanConfig}
 use Rattle.plan_tests.specs.Refusal.{first_refusal_of}
 use Rattle.plan_tests.specs.declared.refusal.Refusal.{Refusal}
-use Rattle.plan_tests.specs.declared.refusal.Verdict.{Verdict}
-use Rattle.plan_tests.specs.declared.refusal.Verdict.TheVariants.{Fine, Fails}
 use Rattle.candidates.specs.Entries.{entries_of, costs_of}
 use Rattle.candidates.specs.EntriesLaws.{entries_length, costs_length}
 use Rattle.candidates.specs.declared.candidate.Candidate.{Candidate}
 use Rattle.candidate_finder.specs.CandidatesIn.{candidates_in}
 use Rattle.candidate_finder.specs.FinderLaws.{Stands}
 use Rattle.candidate_list.specs.CandidateList.{Output, end_of, has_room, handed_out_of, candidate_list_of}
-use Rattle.candidate_list.specs.declared.list.Answer.TheVariants.{Found, Refused, ShortOutput}
+use Rattle.candidate_list.specs.declared.list.Error.TheVariants.{Refused, ShortOutput}
 
 -- ---- test 12
 
@@ -79,13 +77,13 @@ module _ (a b e : ℕ) (is : e ≡ a + b) where
 
 module _ (candidates : ℕ) (entries : List ℕ) (costs : List Float) (out : Output) (work w : Work) (e : w ≡ cleared work) where
   -- an output that is too short: 12
-  pub out-short : has_room candidates (length out.ends) (length out.costs) ≡ false → end_of ShortOutput out w ≡ handed_out_of candidates entries costs out work
+  pub out-short : has_room candidates (length out.ends) (length out.costs) ≡ false → end_of (Err ShortOutput) out w ≡ handed_out_of candidates entries costs out work
   unfolding handed_out_of
   out-short h = rw (h, e)
 
   -- both have room
   pub out-found : (out' : Output) → has_room candidates (length out.ends) (length out.costs) ≡ true → out'.ends ≡ onto entries out.ends → out'.costs ≡ onto costs out.costs
-      → end_of (Found candidates) out' w ≡ handed_out_of candidates entries costs out work
+      → end_of (Ok candidates) out' w ≡ handed_out_of candidates entries costs out work
   unfolding handed_out_of
   out-found out' h a b = rw (h, e, a, b)
 
@@ -93,16 +91,16 @@ module _ (candidates : ℕ) (entries : List ℕ) (costs : List Float) (out : Out
 
 module _ (r : Recording) (segment : SegmentConfig) (settings : PlanConfig) (values : List Float) (flags : List ℕ) (levels : List Float) (out : Output) (work : Work) where
   -- the first test that fails
-  abbrev verdict : Verdict
+  abbrev verdict : Result Unit Refusal
   verdict = first_refusal_of r segment settings values flags levels (length work.u32s) (length work.u64s) (length work.f64s)
 
   -- a refusal before 12 leaves every list as it was
-  pub ends_refused : (x : Refusal) → Fails x ≡ verdict → end_of (Refused x) out work ≡ candidate_list_of r segment settings values flags levels out work
+  pub ends_refused : (x : Refusal) → Err x ≡ verdict → end_of (Err (Refused x)) out work ≡ candidate_list_of r segment settings values flags levels out work
   unfolding candidate_list_of
   ends_refused x e = rw (← e)
 
   -- the candidates stand in work memory, whose lists are as long as before, and are handed out
-  pub ends-listed : (k : ℕ) (entries : List ℕ) (costs : List Float) (w32 : List ℕ) (wf : List Float) → Fine ≡ verdict
+  pub ends-listed : (k : ℕ) (entries : List ℕ) (costs : List Float) (w32 : List ℕ) (wf : List Float) → Ok tt ≡ verdict
       → k ≡ length (candidates_in r segment settings values flags levels) → entries ≡ entries_of (candidates_in r segment settings values flags levels)
       → costs ≡ costs_of (candidates_in r segment settings values flags levels) → length w32 ≡ length work.u32s → length wf ≡ length work.f64s
       → handed_out_of k entries costs out (work_of w32 work.u64s wf) ≡ candidate_list_of r segment settings values flags levels out work

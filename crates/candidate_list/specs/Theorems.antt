@@ -1,7 +1,7 @@
 -- From the answer to what is handed out: a list was found exactly where the number is 0, and then it is document 01's, of which every theorem on candidates holds.
 use Rattle.std.proofs.Math.Path.{◌≡◌, refl}
 use Rattle.std.proofs.Common.{sym, ap, ◌∙◌, arith}
-use Rattle.std.specs.Prelude.{Bool, true, false, List, ℕ, ◌*◌, Float, length, take}
+use Rattle.std.specs.Prelude.{Bool, true, false, List, Result, Ok, Err, ℕ, ◌*◌, Float, length, take}
 use Rattle.base_terms.specs.Lists.{onto}
 use Rattle.base_terms.specs.Work.{Work, cleared}
 use Rattle.base_code.specs.FrontLaws.{onto-take}
@@ -13,8 +13,6 @@ use Rattle.plan_tests.specs.RefusalLaws.{fails_some}
 use Rattle.plan_tests.specs.Fitting.{Fitting}
 use Rattle.plan_tests.specs.PlanReady.{PlanReady, fine_ready}
 use Rattle.plan_tests.specs.declared.refusal.Refusal.{Refusal}
-use Rattle.plan_tests.specs.declared.refusal.Verdict.{Verdict}
-use Rattle.plan_tests.specs.declared.refusal.Verdict.TheVariants.{Fine, Fails}
 use Rattle.candidates.specs.Entries.{entries_of, costs_of}
 use Rattle.candidates.specs.EntriesLaws.{entries_length, costs_length}
 use Rattle.candidates.specs.declared.candidate.Candidate.{Candidate}
@@ -22,18 +20,17 @@ use Rattle.candidate_finder.specs.CandidatesIn.{candidates_in}
 use Rattle.candidate_finder.specs.SpanIn.{empty_in}
 use Rattle.candidate_finder.specs.PlanCandidates.{PlanCandidates, PlanCosts}
 use Rattle.candidate_finder.specs.Theorems.{plan_empty, plan_candidates, plan_costs}
-use Rattle.candidate_list.specs.CandidateList.{number_of, Output, output_of, End, end_of, pick, has_room, handed_out_of, end_after, candidate_list_of}
-use Rattle.candidate_list.specs.declared.list.Answer.{Answer}
-use Rattle.candidate_list.specs.declared.list.Answer.TheVariants.{Found, ShortOutput}
+use Rattle.candidate_list.specs.CandidateList.{Answer, number_of, Output, output_of, End, end_of, pick, has_room, handed_out_of, end_after, candidate_list_of}
+use Rattle.candidate_list.specs.declared.list.Error.TheVariants.{ShortOutput}
 
 -- a list was found, of so many candidates
 pub record IsFound (a : Answer) : Type 0 where
   pub count : ℕ
-  pub is : a ≡ Found count
+  pub is : a ≡ Ok count
 
 -- what "found" says: no test failed, and the entries and costs of so many candidates stand in front of both outputs
-record FoundOf (v : Verdict) (cs : List Candidate) (out after : Output) (k : ℕ) : Type 0 where
-  fine : v ≡ Fine
+record FoundOf (v : Result Unit Refusal) (cs : List Candidate) (out after : Output) (k : ℕ) : Type 0 where
+  fine : v ≡ Ok tt
   number : k ≡ length cs
   ends : after.ends ≡ onto (entries_of cs) out.ends
   costs : after.costs ≡ onto (costs_of cs) out.costs
@@ -47,26 +44,26 @@ module _ (cs : List Candidate) (out : Output) (work : Work) where
 
   abbrev handed_by : Bool → End
   handed_by b =
-      pick b (end_of (Found (length cs)) (output_of (onto (entries_of cs) out.ends) (onto (costs_of cs) out.costs)) (cleared work)) (end_of ShortOutput out (cleared work))
+      pick b (end_of (Ok (length cs)) (output_of (onto (entries_of cs) out.ends) (onto (costs_of cs) out.costs)) (cleared work)) (end_of (Err ShortOutput) out (cleared work))
 
-  handed-found : (b : Bool) (k : ℕ) → (handed_by b).answer ≡ Found k → FoundOf Fine cs out (handed_by b).out k
+  handed-found : (b : Bool) (k : ℕ) → (handed_by b).answer ≡ Ok k → FoundOf (Ok tt) cs out (handed_by b).out k
   handed-found true k e = record { fine = refl; number = cc; ends = refl; costs = refl }
   handed-found false k e = let z : ◌≡◌ {A = ℕ} 0 1 = cc in absurd (omega arith)
 
-  found_by : (v : Verdict) (k : ℕ) → (end_after v cs out work).answer ≡ Found k → FoundOf v cs out (end_after v cs out work).out k
+  found_by : (v : Result Unit Refusal) (k : ℕ) → (end_after v cs out work).answer ≡ Ok k → FoundOf v cs out (end_after v cs out work).out k
   unfolding handed_out_of
-  found_by Fine k e = handed-found room k e
-  found_by (Fails x) k e = let z : ◌≡◌ {A = ℕ} 0 1 = cc in absurd (omega arith)
+  found_by (Ok tt) k e = handed-found room k e
+  found_by (Err x) k e = let z : ◌≡◌ {A = ℕ} 0 1 = cc in absurd (omega arith)
 
   handed_zero : (b : Bool) → number_of (handed_by b).answer ≡ 0 → IsFound (handed_by b).answer
   handed_zero true z = record { count = length cs; is = refl }
   handed_zero false z = absurd (omega (arith, z))
 
   -- a list was found where the number is 0, if no refusal's is
-  zero_by : (v : Verdict) → ((x : Refusal) → v ≡ Fails x → tests.number_of x ≡ 0 → ⊥) → number_of (end_after v cs out work).answer ≡ 0 → IsFound (end_after v cs out work).answer
+  zero_by : (v : Result Unit Refusal) → ((x : Refusal) → v ≡ Err x → tests.number_of x ≡ 0 → ⊥) → number_of (end_after v cs out work).answer ≡ 0 → IsFound (end_after v cs out work).answer
   unfolding handed_out_of
-  zero_by Fine f z = handed_zero room z
-  zero_by (Fails x) f z = absurd (f x refl z)
+  zero_by (Ok tt) f z = handed_zero room z
+  zero_by (Err x) f z = absurd (f x refl z)
 
 -- what was written in front stands there
 front : {A : Type 0} (p xs : List A) (n : ℕ) → n ≡ length p → take n (onto p xs) ≡ p
@@ -82,7 +79,7 @@ module _ (r : Recording) (segment : SegmentConfig) (settings : PlanConfig) (valu
   cs = candidates_in r segment settings values flags levels
 
   -- the first test that fails
-  abbrev verdict : Verdict
+  abbrev verdict : Result Unit Refusal
   verdict = tests.first_refusal_of r segment settings values flags levels (length work.u32s) (length work.u64s) (length work.f64s)
 
   -- ---- the statements
@@ -90,7 +87,7 @@ module _ (r : Recording) (segment : SegmentConfig) (settings : PlanConfig) (valu
   -- where k candidates were found: the output's front is document 01's list, and all that the papers say of one holds of it
   pub record CandidatesHanded (k : ℕ) : Type 0 where
     -- no test before 12 fails
-    pub accepted : verdict ≡ Fine
+    pub accepted : verdict ≡ Ok tt
     -- three numbers and a cost for each candidate, in front of what stood in the output before
     pub number : k ≡ length cs
     pub ends : take (3 * k) end.out.ends ≡ entries_of cs
@@ -103,11 +100,11 @@ module _ (r : Recording) (segment : SegmentConfig) (settings : PlanConfig) (valu
 
   -- ---- what an answer tells
 
-  found_of : (k : ℕ) → end.answer ≡ Found k → FoundOf verdict cs out end.out k
+  found_of : (k : ℕ) → end.answer ≡ Ok k → FoundOf verdict cs out end.out k
   unfolding candidate_list_of
   found_of k e = found_by cs out work verdict k e
 
-  module _ (k : ℕ) (found : end.answer ≡ Found k) where
+  module _ (k : ℕ) (found : end.answer ≡ Ok k) where
     ready : PlanReady r segment settings values flags levels (length work.u32s) (length work.u64s) (length work.f64s)
     ready = fine_ready r segment settings values flags levels (length work.u32s) (length work.u64s) (length work.f64s) (found_of k found).fine
 

@@ -5,44 +5,56 @@ ghost use Rattle.base_terms.specs.Lists.{onto};
 ghost use Rattle.base_terms.specs.Work.{work_of};
 ghost use Rattle.plan_tests.specs.Fitting.{Fitting};
 ghost use Rattle.candidate_list.specs.CandidateList.{output_of, end_of, has_room, handed_out_of};
-ghost use Rattle.candidate_list.specs.CandidateList.{candidate_list_of, number_of};
+ghost use Rattle.candidate_list.specs.CandidateList.{candidate_list_of, error_number};
 ghost use Rattle.candidate_list.specs.CandidateListLaws.{Copyable};
+ghost use Rattle.candidate_list.specs.declared.list.Error.TheVariants.{Refused};
 
-use base_code::{front, layout, work};
+use base_code::layout::Layout;
+use base_code::{front, work};
 use candidate_finder::finder;
+use grid::Readings;
 use grid::validate::Recording;
 use plan_settings::config::PlanConfig;
 use plan_tests::refusal;
-use plan_tests::refusal::{Refusal, Verdict};
+use plan_tests::refusal::Refusal;
 use silence_list::config::SegmentConfig;
 
-// What the operation answers: how many candidates it wrote, or why it wrote none.
-#[derive(Clone, Copy)]
-pub enum Answer {
-    Found(usize),
+// Why the operation writes no candidates.
+#[derive(Clone, Copy, Debug, PartialEq, Eq)]
+pub enum Error {
     Refused(Refusal),
     ShortOutput,
 }
 
-// Document 01's number for each case.
-pub fn number(a: Answer) -> u32
-    ensures { result ≡ number_of a }
-{
-    match a {
-        Answer::Found(_) => 0,
-        Answer::Refused(r) => refusal::number(r),
-        Answer::ShortOutput => 12,
+// A test that fails is why.
+impl From<Refusal> for Error {
+    ghost from_gives = { λ r e. e ≡ Refused r };
+
+    fn from(r: Refusal) -> Error {
+        Error::Refused(r)
     }
 }
+
+// Document 01's number for each case.
+impl From<Error> for u32 {
+    ghost from_gives = { λ e n. n ≡ error_number e };
+
+    fn from(e: Error) -> u32 {
+        match e {
+            Error::Refused(r) => u32::from(r),
+            Error::ShortOutput => 12,
+        }
+    }
+}
+
+// What the operation answers: how many candidates it wrote, or why it wrote none.
+pub type Answer = Result<usize, Error>;
 
 // Test 12 for so many candidates: a cost and three numbers each.
 fn has_room(candidates: usize, ends: usize, costs: usize) -> bool
     ensures { result ≡ has_room candidates ends costs }
 {
-    if costs < candidates {
-        return false;
-    }
-    candidates <= ends / 3
+    candidates <= costs && candidates <= ends / 3
 }
 
 // Copies the candidates from work memory to the front of both outputs.
@@ -61,10 +73,11 @@ fn copy_out(
     ensures costs_after { costs.new
         ≡ onto (take candidates (drop (costs_at frames) work_f64.now)) costs.old }
 {
-    let entries = layout::entries_at(frames);
+    let places = Layout { frames };
+    let entries = places.entries_at();
     front::put_front(&work_u32[entries..entries + 3 * candidates], ends);
-    let prices = layout::costs_at(frames);
-    front::put_front_f64(&work_f64[prices..prices + candidates], costs);
+    let prices = places.costs_at();
+    front::put_front(&work_f64[prices..prices + candidates], costs);
 }
 
 // Hands out the candidates that stand in work memory, and clears it.
@@ -88,11 +101,11 @@ fn hand_out(
 {
     if !has_room(candidates, ends.len(), costs.len()) {
         work::clear_work(work_u32, work_u64, work_f64);
-        return Answer::ShortOutput;
+        return Err(Error::ShortOutput);
     }
-    copy_out(frames, candidates, &*work_u32, &*work_f64, ends, costs);
+    copy_out(frames, candidates, work_u32, work_f64, ends, costs);
     work::clear_work(work_u32, work_u64, work_f64);
-    Answer::Found(candidates)
+    Ok(candidates)
 }
 
 // The candidates of a plan: for candidate i its left boundary at ends[3 i], its right boundary at ends[3 i + 1],
@@ -101,9 +114,7 @@ pub fn candidate_list(
     r: Recording,
     segment: SegmentConfig,
     settings: PlanConfig,
-    values: &[f32],
-    flags: &[u8],
-    levels: &[f64],
+    readings: &Readings,
     work_u32: &mut [u32],
     work_u64: &mut [u64],
     work_f64: &mut [f64],
@@ -112,21 +123,24 @@ pub fn candidate_list(
 ) -> Answer
     ensures answer { end_of result (output_of ends.new costs.new)
         (work_of work_u32.new work_u64.new work_f64.new)
-        ≡ candidate_list_of r segment settings values.now flags.now levels.now
+        ≡ candidate_list_of r segment settings
+        readings.now.values.now readings.now.flags.now readings.now.levels.now
         (output_of ends.old costs.old)
         (work_of work_u32.old work_u64.old work_f64.old) }
-    ensures fitting { Fitting values.now levels.now }
+    ensures fitting { Fitting readings.now.values.now readings.now.levels.now }
 {
     let n32 = work_u32.len();
     let n64 = work_u64.len();
     let nf = work_f64.len();
-    let verdict = refusal::first_refusal(r, segment, settings, values, flags, levels, n32, n64, nf);
-    if let Verdict::Fails(refusal) = verdict {
-        return Answer::Refused(refusal);
-    }
-    let n = values.len();
-    let candidates = finder::find_candidates(
-        r, segment, settings, values, flags, levels, work_u32, work_f64,
-    );
-    hand_out(n, candidates, work_u32, work_u64, work_f64, ends, costs)
+    refusal::first_refusal(r, segment, settings, readings, n32, n64, nf)?;
+    let candidates = finder::find_candidates(r, segment, settings, readings, work_u32, work_f64);
+    hand_out(
+        readings.values.len(),
+        candidates,
+        work_u32,
+        work_u64,
+        work_f64,
+        ends,
+        costs,
+    )
 }

@@ -263,10 +263,11 @@ module _ (flags : List ℕ) (block last k most : ℕ) where
     opening_shut e = sym (open_shut (is_set flags) (most - end) end (set_yes flags end e)) ∙ o.left
 
     -- without one it ends at `most`
-    pub opening_done : most ≤ end → end ≡ block_end (is_set flags) block last k
+    pub opening_done : most ≤ end → most ≡ block_end (is_set flags) block last k
     opening_done h =
         let whole : (left : ℕ) → left ≡ 0 → open_to (is_set flags) left end ≡ end = λ left e. unfold open_to in rw e in
-        sym (whole (most - end) (omega arith)) ∙ o.left
+        let all : most ≡ end = omega (arith, o.within) in
+        all ∙ sym (whole (most - end) (omega arith)) ∙ o.left
 
 -- ---- a step
 

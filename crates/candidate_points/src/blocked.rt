@@ -3,23 +3,24 @@ ghost use Rattle.std.specs.Prelude.{◌≡◌, ◌*◌, take};
 ghost use Rattle.grid.specs.Boundary.{Bounded};
 ghost use Rattle.candidate_points.specs.Blocked.{gets_grid, shut_by, blocked_of};
 ghost use Rattle.candidate_points.specs.Placed.{placed};
-ghost use Rattle.candidate_points.specs.BlockedWalk.{Silent, FlagRoom, Cleared};
+ghost use Rattle.candidate_points.specs.BlockedWalk.{Silent, FlagRoom, Unmarked};
 
 use crate::fill;
-use base_code::{layout, numbers};
+use base_code::layout::Layout;
+use candidate_span::bounds;
 use candidate_span::spacing::Spacing;
-use candidate_span::{bounds, listed};
 use grid::FrameGrid;
 use plan_settings::config::Gap;
 
 // A long silence gets grid candidates when silence is kept and no plan within the maximum could step over it; otherwise
 // its only candidate is its own.
+#[tactic(auto, unfolding(crate::specs::Blocked::gets_grid))]
 fn gets_grid(gap: Gap, g: FrameGrid, limit: u64, start: usize, end: usize) -> bool
     requires { Bounded g }
     ensures { result ≡ gets_grid gap g limit start end }
 {
     match gap {
-        Gap::Keep => limit < numbers::less(g.position(end), g.position(start)),
+        Gap::Keep => limit < g.position(end).saturating_sub(g.position(start)),
         Gap::Drop => false,
     }
 }
@@ -32,26 +33,19 @@ fn mark_silence(gap: Gap, g: FrameGrid, s: Spacing, start: usize, end: usize, fl
 {
     let b = bounds::silence_bounds(s.padding, start, end);
     fill::fill_range(flags, start, end + 1, 1);
-    if b.hi < b.lo {
-        return;
-    }
-    if gets_grid(gap, g, s.edge_limit, start, end) {
+    if b.lo <= b.hi && gets_grid(gap, g, s.edge_limit, start, end) {
         fill::fill_range(flags, b.lo, b.hi + 1, 0);
     }
 }
 
 // The flags of every silence, over flags that are all 0.
-fn mark_silences(gap: Gap, g: FrameGrid, s: Spacing, silences: usize, base: usize, work: &mut [u32])
-    requires flag_room { FlagRoom g s silences base work.old }
-    requires cleared { Cleared g base work.old }
-    ensures { work.new ≡
-        placed base (blocked_of gap g s (take (2 * silences) work.old)) work.old }
+fn mark_silences(gap: Gap, g: FrameGrid, s: Spacing, silences: &[u32], flags: &mut [u32])
+    requires { Unmarked g s silences.now flags.old }
+    ensures { flags.new ≡ blocked_of gap g s silences.now }
 {
-    let end = base + layout::side(g.frames);
-    for i in 0..silences {
-        let from = listed::start_at(&*work, i);
-        let to = listed::end_at(&*work, i);
-        mark_silence(gap, g, s, from, to, &mut work[base..end]);
+    let (pairs, _) = silences.as_chunks::<2>();
+    for pair in pairs {
+        mark_silence(gap, g, s, pair[0] as usize, pair[1] as usize, flags);
     }
 }
 
@@ -69,7 +63,9 @@ pub fn mark_blocked(
     ensures { work.new ≡
         placed base (blocked_of gap g s (take (2 * silences) work.old)) work.old }
 {
-    let end = base + layout::side(g.frames);
-    fill::fill_range(&mut *work, base, end, 0);
-    mark_silences(gap, g, s, silences, base, work);
+    let (list, behind) = work.split_at_mut(base);
+    let places = Layout { frames: g.frames };
+    let flags = &mut behind[..places.side()];
+    flags.fill(0);
+    mark_silences(gap, g, s, &list[..2 * silences], flags);
 }

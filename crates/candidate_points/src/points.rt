@@ -13,14 +13,12 @@ fn block_end(block: usize, last: usize, k: usize, flags: &[u32]) -> usize
     ensures { result ≡ block_end (is_set flags.now) block last k }
 {
     let most = bounds::after(last, k, block);
-    let mut end = k;
-    while end < most {
+    for end in k..most {
         if flags[end] != 0 {
             return end;
         }
-        end += 1;
     }
-    end
+    most
 }
 
 // At a blocked boundary: its flag goes, and the next boundary follows. At an open one: its block's point is marked, and
@@ -34,7 +32,7 @@ fn mark_block(block: usize, last: usize, k: usize, levels: &[f64], marks: &mut [
         marks[k] = 0;
         return k + 1;
     }
-    let end = block_end(block, last, k, &*marks);
+    let end = block_end(block, last, k, marks);
     let at = quietest::quietest(levels, k, end);
     marks[at] = 1;
     end
@@ -47,6 +45,7 @@ fn mark_blocks(block: usize, first: usize, last: usize, levels: &[f64], marks: &
     ensures { Marked levels.now block first last marks.old marks.new }
 {
     let mut k = first + 1;
+    // A `while`: each step says where the next block starts.
     while k < last {
         k = mark_block(block, last, k, levels, marks);
     }
@@ -58,8 +57,8 @@ pub fn mark_points(block: usize, first: usize, last: usize, levels: &[f64], mark
     requires { SpanFlagged block first last levels.now marks.old }
     ensures { marks.new ≡ marks_of levels.now block first last marks.old }
 {
-    mark_blocks(block, first, last, levels, &mut *marks);
-    fill::fill_range(&mut *marks, 0, first + 1, 0);
+    mark_blocks(block, first, last, levels, marks);
+    fill::fill_range(marks, 0, first + 1, 0);
     let end = marks.len();
     fill::fill_range(marks, last, end, 0);
 }

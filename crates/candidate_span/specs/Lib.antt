@@ -9,7 +9,6 @@ pub mod Bounds
 pub mod BoundsLaws
 pub mod Span
 pub mod SpanLaws
-pub mod SpanWalks
 pub mod SpanSilent
 pub mod Gaps
 pub mod GapsLaws

@@ -1,6 +1,8 @@
 -- Numbers that rise strictly are apart, so silences of a list are not empty, are apart, and are within the frame count.
-use Rattle.std.specs.Prelude.{◌≡◌, List, ℕ, ◌+◌, ◌*◌, ◌≤◌, ◌<◌, length}
-use Rattle.std.proofs.Common.{arith}
+use Rattle.std.specs.Prelude.{◌≡◌, List, ℕ, zero, suc, ◌+◌, ◌*◌, ◌≤◌, ◌<◌, length, drop, get_or}
+use Rattle.std.proofs.Common.{ap, ◌∙◌, arith, get_or-take, get_or-drop}
+use Rattle.std.proofs.Math.ListN.{length-drop}
+use Rattle.std.specs.Simd.{first_chunks}
 use Rattle.silence_runs.specs.Silences.{silences_of}
 use Rattle.silence_runs.specs.SilencesLaws.{Rising, rising_most, rising_apart, silences_rise, silences-length}
 use Rattle.candidate_span.specs.Listed.{silence_count, start_at, end_at}
@@ -28,3 +30,12 @@ module _ {n : ℕ} {ss : List ℕ} (l : Listed n ss) where
 -- the silences of n sound flags are such a list
 pub silences-listed : (sound : List ℕ) → Listed (length sound) (silences_of sound)
 silences-listed sound = record { even = omega (arith, silences-length sound); rises = silences_rise sound }
+
+-- ---- the list in pairs, one for each silence
+
+-- the two numbers of pair i are its start and its end
+pub pair_at : (n : ℕ) (xs : List ℕ) (i j : ℕ) (d : List ℕ) → i < n → j < 2 → 2 * n ≤ length xs → get_or (get_or (first_chunks 2 n xs) i d) j 0 ≡ get_or xs (2 * i + j) 0
+pair_at zero xs i j d h m l = absurd (omega arith)
+pair_at (suc n) xs zero j d h m l = get_or-take 2 xs j 0 m ∙ ap (λ (k : ℕ). get_or xs k 0) (omega arith)
+pair_at (suc n) xs (suc i) j d h m l =
+    pair_at n (drop 2 xs) i j d (omega arith) m (omega (arith, length-drop 2 xs)) ∙ get_or-drop 2 xs (2 * i + j) 0 ∙ ap (λ (k : ℕ). get_or xs k 0) (omega arith)

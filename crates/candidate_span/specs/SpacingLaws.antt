@@ -1,15 +1,14 @@
--- What the conversions of a plan's durations need, that a block has a frame at least, and what the parts make together.
-use Rattle.std.specs.Prelude.{◌≡◌, ℕ, ◌≤◌, ◌<◌, min, List, Float, length}
+-- What the conversions of a plan's durations need, and that a block has a frame at least.
+use Rattle.std.specs.Prelude.{ℕ, ◌≤◌, ◌<◌, List, Float, length}
 use Rattle.std.proofs.Common.{arith}
 use Rattle.grid.specs.Limits.{max_frame_rate, max_hop, max_duration, nanos_per_sec}
-use Rattle.grid.specs.Durations.{frames_in, InFrames}
+use Rattle.grid.specs.Durations.{InFrames}
 use Rattle.grid.specs.Boundary.{Bounded}
 use Rattle.grid.specs.Validate.{grid_of}
 use Rattle.grid.specs.ValidateLaws.{AcceptedRecording, passed_bounded, frames_parts, within_most, within_pos}
 use Rattle.grid.specs.declared.boundary.FrameGrid.{FrameGrid}
 use Rattle.grid.specs.declared.validate.Recording.{Recording}
-use Rattle.candidate_span.specs.Spacing.{block_time, block_of, padding_cap, padding_of, edge_limit_of, spacing_of}
-use Rattle.candidate_span.specs.declared.spacing.Spacing.{Spacing}
+use Rattle.candidate_span.specs.Spacing.{block_time, block_of}
 
 -- a grid that passed tests 1, 3 and 4, and a duration within refusal 7's limit
 pub record Spaced (g : FrameGrid) (ns : ℕ) : Type 0 where
@@ -42,11 +41,3 @@ spaced_block least most s = record { rate = s.rate; step = s.step; most = s.boun
 pub block_some : (g : FrameGrid) (least most : ℕ) → 1 ≤ block_of g least most
 unfolding block_of
 block_some g least most = omega arith
-
--- what `spacing_of` puts together
-pub spacing_is : (g : FrameGrid) (pre tail least most block cap before after kept after_kept limit : ℕ) → block ≡ block_of g least most → cap ≡ padding_cap g block most
-    → before ≡ frames_in g.frame_rate g.hop pre → kept ≡ min before cap → after ≡ frames_in g.frame_rate g.hop tail → after_kept ≡ min after cap
-    → limit ≡ edge_limit_of g block most
-    → ◌≡◌ {A = Spacing} (record { block = block; edge_limit = limit; padding = record { frames = g.frames; pre = kept; tail = after_kept } }) (spacing_of g pre tail least most)
-unfolding spacing_of padding_of
-spacing_is g pre tail least most block cap before after kept after_kept limit a b c d e f h = rw (h, f, e, d, c, b, a)

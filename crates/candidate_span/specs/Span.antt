@@ -1,10 +1,9 @@
 -- Document 01's "span", which "lies between its two ends, which the Rust takes from the frames, silences and settings".
 -- `ends_of` and `span_of` are what contracts cite; that the ends are in order is in SpanLaws. n is the frame count, ss the list of silences.
-use Rattle.std.specs.Prelude.{ℕ, ◌+◌, ◌-◌, min, Bool, ◌&&◌, ◌||◌, cond, List, eqb, ltb}
+use Rattle.std.specs.Prelude.{ℕ, ◌+◌, ◌-◌, min, Bool, ◌&&◌, ◌||◌, cond, List, Option, Some, None, eqb, ltb}
 use Rattle.plan_settings.specs.declared.config.Gap.{Gap}
 use Rattle.plan_settings.specs.declared.config.Gap.TheVariants.{Keep, Drop}
 use Rattle.candidate_span.specs.declared.ends.SpanEnds.{SpanEnds}
-use Rattle.candidate_span.specs.declared.ends.SpanEnds.TheVariants.{Empty, Between}
 use Rattle.candidate_span.specs.declared.padding.Padding.{Padding}
 use Rattle.candidate_span.specs.declared.held.HeldSpan.{HeldSpan}
 use Rattle.candidate_span.specs.Listed.{silence_count, start_at, end_at}
@@ -37,9 +36,9 @@ unfoldable pub last_of : Gap → Padding → List ℕ → ℕ
 last_of Keep p ss = p.frames
 last_of Drop p ss = cond (is_trailing p.frames ss) (min (start_at ss (silence_count ss - 1) + p.tail) p.frames) p.frames
 
--- the two ends of the span, or that it is empty
-unfoldable pub ends_of : Gap → Padding → List ℕ → SpanEnds
-ends_of gap p ss = cond (empty_span gap p.frames ss) Empty (Between (first_of gap p ss) (last_of gap p ss))
+-- the two ends of the span, or none where it is empty
+unfoldable pub ends_of : Gap → Padding → List ℕ → Option SpanEnds
+ends_of gap p ss = cond (empty_span gap p.frames ss) None (Some record { first = first_of gap p ss; last = last_of gap p ss })
 
 -- document 01's "span": it lies between its two ends, and the dropped gaps lie in it
 pub record Span : Type 0 where

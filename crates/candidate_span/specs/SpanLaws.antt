@@ -1,5 +1,5 @@
 -- The ends of a span that is not empty are in order, and each inner silence lies strictly inside it.
-use Rattle.std.specs.Prelude.{◌≡◌, refl, Bool, true, false, ◌&&◌, cond, List, ℕ, zero, suc, ◌+◌, ◌-◌, ◌≤◌, ◌<◌, min, eqb, ltb}
+use Rattle.std.specs.Prelude.{◌≡◌, refl, Bool, true, false, ◌&&◌, cond, List, Option, Some, None, ℕ, zero, suc, ◌+◌, ◌-◌, ◌≤◌, ◌<◌, min, eqb, ltb}
 use Rattle.std.proofs.Common.{sym, ap, subst, ◌∙◌, true≢false, arith, ltb-true, eqb-true, lt-ltb, eq-eqb, pos_of_ne-zero}
 use Rattle.std.proofs.Math.Logic.{inl, inr}
 use Rattle.std.proofs.lemmas.Bool.{eqb-false}
@@ -8,7 +8,6 @@ use Rattle.base_laws.specs.Tests.{both, neither, lt_or_le, tested}
 use Rattle.plan_settings.specs.declared.config.Gap.{Gap}
 use Rattle.plan_settings.specs.declared.config.Gap.TheVariants.{Keep, Drop}
 use Rattle.candidate_span.specs.declared.ends.SpanEnds.{SpanEnds}
-use Rattle.candidate_span.specs.declared.ends.SpanEnds.TheVariants.{Empty, Between}
 use Rattle.candidate_span.specs.declared.padding.Padding.{Padding}
 use Rattle.candidate_span.specs.Listed.{silence_count, start_at, end_at}
 use Rattle.candidate_span.specs.ListedLaws.{Listed, listed-own, listed_apart, listed-within}
@@ -127,21 +126,21 @@ inner_last Drop p ss w i h s = ends_inside p ss w (last_of Drop p ss) i (trailin
 
 -- ---- the answer
 
-abbrev first_in : SpanEnds → ℕ
-first_in Empty = 0
-first_in (Between f l) = f
+abbrev first_in : Option SpanEnds → ℕ
+first_in None = 0
+first_in (Some e) = e.first
 
-abbrev last_in : SpanEnds → ℕ
-last_in Empty = 0
-last_in (Between f l) = l
+abbrev last_in : Option SpanEnds → ℕ
+last_in None = 0
+last_in (Some e) = e.last
 
-abbrev is_empty : SpanEnds → Bool
-is_empty Empty = true
-is_empty (Between f l) = false
+abbrev is_empty : Option SpanEnds → Bool
+is_empty None = true
+is_empty (Some e) = false
 
 module _ (gap : Gap) (p : Padding) (ss : List ℕ) where
   -- any other has its first and its last boundary
-  pub ends-between : empty_span gap p.frames ss ≡ false → ends_of gap p ss ≡ Between (first_of gap p ss) (last_of gap p ss)
+  pub ends-between : empty_span gap p.frames ss ≡ false → ends_of gap p ss ≡ Some record { first = first_of gap p ss; last = last_of gap p ss }
   unfolding ends_of
   ends-between e = rw e
 
@@ -150,12 +149,13 @@ module _ (gap : Gap) (p : Padding) (ss : List ℕ) where
   empty_is = elim (tested (empty_span gap p.frames ss)) [ inl e ↦ rw e | inr e ↦ rw e ]
 
   -- an answer without ends: the span is empty
-  pub ends-none : Empty ≡ ends_of gap p ss → empty_span gap p.frames ss ≡ true
+  pub ends-none : ◌≡◌ {A = Option SpanEnds} None (ends_of gap p ss) → empty_span gap p.frames ss ≡ true
   ends-none e = sym empty_is ∙ sym (ap is_empty e)
 
   -- an answer with ends: it is not, and these are its own
-  pub ends_found : (f l : ℕ) → Between f l ≡ ends_of gap p ss → (empty_span gap p.frames ss ≡ false) × (f ≡ first_of gap p ss) × (l ≡ last_of gap p ss)
-  ends_found f l e =
-      let s : empty_span gap p.frames ss ≡ false = sym empty_is ∙ sym (ap is_empty e) in
-      let d : Between f l ≡ Between (first_of gap p ss) (last_of gap p ss) = e ∙ ends-between s in
-      (s, ap first_in d, ap last_in d)
+  pub ends_found : (s : SpanEnds) → ◌≡◌ {A = Option SpanEnds} (Some s) (ends_of gap p ss)
+      → (empty_span gap p.frames ss ≡ false) × (s.first ≡ first_of gap p ss) × (s.last ≡ last_of gap p ss)
+  ends_found s e =
+      let some : empty_span gap p.frames ss ≡ false = sym empty_is ∙ sym (ap is_empty e) in
+      let same : ◌≡◌ {A = Option SpanEnds} (Some s) (Some record { first = first_of gap p ss; last = last_of gap p ss }) = e ∙ ends-between some in
+      (some, ap first_in same, ap last_in same)

@@ -3,7 +3,6 @@ ghost use Rattle.std.specs.Prelude.{◌≡◌, ◌+◌, min};
 ghost use Rattle.candidate_span.specs.Bounds.{low_of, high_of, bounds_of};
 
 use crate::padding::Padding;
-use base_code::sizes;
 
 // Frame boundaries, both inclusive.
 #[derive(Clone, Copy)]
@@ -16,16 +15,11 @@ pub struct Bounds {
 pub fn after(n: usize, k: usize, by: usize) -> usize
     ensures { result ≡ min (k + by) n }
 {
-    if n <= k {
-        return n;
-    }
-    if n - k <= by {
-        return n;
-    }
-    k + by
+    k.saturating_add(by).min(n)
 }
 
 // Where it starts, less the padding after the sound before it.
+#[tactic(auto, unfolding(crate::specs::Bounds::low_of))]
 fn low(p: Padding, start: usize) -> usize
     ensures { result ≡ low_of p start }
 {
@@ -36,13 +30,14 @@ fn low(p: Padding, start: usize) -> usize
 }
 
 // Where it ends, less the padding before the sound after it.
+#[tactic(auto, unfolding(crate::specs::Bounds::high_of))]
 fn high(p: Padding, end: usize) -> usize
     ensures { result ≡ high_of p end }
 {
     if end == p.frames {
         return p.frames;
     }
-    sizes::less(end, p.pre)
+    end.saturating_sub(p.pre)
 }
 
 // The bounds of a silence.

@@ -1,79 +1,94 @@
 // The two ends of the span.
-ghost use Rattle.std.specs.Prelude.{◌≡◌};
+ghost use Rattle.std.specs.Prelude.{◌≡◌, ◌<◌, IsTrue};
 ghost use Rattle.plan_settings.specs.declared.config.Gap.TheVariants.{Drop};
-ghost use Rattle.candidate_span.specs.Span.{all_silent, first_of, last_of, ends_of};
+ghost use Rattle.candidate_span.specs.Span.{is_leading, is_trailing, all_silent, first_of, last_of, ends_of};
+ghost use Rattle.candidate_span.specs.Listed.{silence_count};
 
 use crate::padding::Padding;
 use crate::{bounds, listed};
-use base_code::sizes;
 use plan_settings::config::Gap;
 
-// First and last frame boundary of the plan, or that there is nothing to keep.
+// First and last frame boundary of the plan.
 #[derive(Clone, Copy)]
-pub enum SpanEnds {
-    Empty,
-    Between(usize, usize),
+pub struct SpanEnds {
+    pub first: usize,
+    pub last: usize,
+}
+
+// Whether the recording starts with silence.
+#[tactic(auto, unfolding(crate::specs::Span::is_leading))]
+fn is_leading(silences: &[u32]) -> bool
+    ensures value { result ≡ is_leading silences.now }
+    ensures some { IsTrue result → 0 < silence_count silences.now }
+{
+    silences.len() / 2 > 0 && listed::start_at(silences, 0) == 0
+}
+
+// Whether a recording of n frames ends with silence.
+#[tactic(auto, unfolding(crate::specs::Span::is_trailing))]
+fn is_trailing(n: usize, silences: &[u32]) -> bool
+    ensures value { result ≡ is_trailing n silences.now }
+    ensures some { IsTrue result → 0 < silence_count silences.now }
+{
+    let count = silences.len() / 2;
+    count > 0 && listed::end_at(silences, count - 1) == n
 }
 
 // Whether a recording of n frames is silent all through.
+#[tactic(auto, unfolding(crate::specs::Span::all_silent))]
 fn all_silent(n: usize, silences: &[u32]) -> bool
     ensures { result ≡ all_silent n silences.now }
 {
-    if silences.len() / 2 == 0 {
-        return false;
-    }
-    if listed::start_at(silences, 0) != 0 {
-        return false;
-    }
-    listed::end_at(silences, 0) == n
+    is_leading(silences) && listed::end_at(silences, 0) == n
 }
 
 // With gaps dropped: where the padding of the first sound starts.
+#[tactic(auto, unfolding(crate::specs::Span::first_of))]
 fn first(p: Padding, silences: &[u32]) -> usize
     ensures { result ≡ first_of Drop p silences.now }
 {
-    if silences.len() / 2 == 0 {
-        return 0;
+    if is_leading(silences) {
+        listed::end_at(silences, 0).saturating_sub(p.pre)
+    } else {
+        0
     }
-    if listed::start_at(silences, 0) != 0 {
-        return 0;
-    }
-    sizes::less(listed::end_at(silences, 0), p.pre)
 }
 
 // With gaps dropped: where the padding of the last sound ends.
+#[tactic(auto, unfolding(crate::specs::Span::last_of))]
 fn last(p: Padding, silences: &[u32]) -> usize
     ensures { result ≡ last_of Drop p silences.now }
 {
-    let silence_count = silences.len() / 2;
-    if silence_count == 0 {
-        return p.frames;
+    if is_trailing(p.frames, silences) {
+        let start = listed::start_at(silences, silences.len() / 2 - 1);
+        bounds::after(p.frames, start, p.tail)
+    } else {
+        p.frames
     }
-    if listed::end_at(silences, silence_count - 1) != p.frames {
-        return p.frames;
-    }
-    bounds::after(
-        p.frames,
-        listed::start_at(silences, silence_count - 1),
-        p.tail,
-    )
 }
 
-// The ends of the span of a recording with these silences. Dropping gaps moves its ends inward to the padding of the
-// first and last sound.
-pub fn ends(gap: Gap, p: Padding, silences: &[u32]) -> SpanEnds
+// The ends of the span of a recording with these silences, or none where there is nothing to keep. Dropping gaps moves
+// its ends inward to the padding of the first and last sound.
+#[tactic(auto, unfolding(crate::specs::Span::ends_of, crate::specs::Span::empty_span, crate::specs::Span::first_of, crate::specs::Span::last_of))]
+pub fn ends(gap: Gap, p: Padding, silences: &[u32]) -> Option<SpanEnds>
     ensures { result ≡ ends_of gap p silences.now }
 {
     if p.frames == 0 {
-        return SpanEnds::Empty;
+        return None;
     }
     match gap {
-        Gap::Keep => SpanEnds::Between(0, p.frames),
+        Gap::Keep => Some(SpanEnds {
+            first: 0,
+            last: p.frames,
+        }),
         Gap::Drop => {
             if all_silent(p.frames, silences) {
-                return SpanEnds::Empty;
+                return None;
             }
-            SpanEnds::Between(first(p, silences), last(p, silences))
+            Some(SpanEnds {
+                first: first(p, silences),
+                last: last(p, silences),
+            })
         }
     }
 }

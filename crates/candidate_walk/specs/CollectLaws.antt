@@ -1,8 +1,8 @@
 -- What the functions of the walk need of work memory.
 -- One law for each end of the step at a boundary: at a silence's own candidate, at a point, and at neither.
-use Rattle.std.specs.Prelude.{◌≡◌, ℕ, ◌+◌, ◌-◌, ◌*◌, ◌≤◌, ◌<◌, Float, length, take, drop, Bool, true, false, cond, ltb, eqb}
-use Rattle.std.proofs.Math.Path.{sym, ap}
-use Rattle.std.proofs.Common.{◌∙◌, arith, length-drop, length-take-le, ltb-true, eqb-true}
+use Rattle.std.specs.Prelude.{◌≡◌, ℕ, ◌+◌, ◌-◌, ◌*◌, ◌≤◌, ◌<◌, Float, length, take, drop, Option, Some, None, is_some, Bool, true, false, cond, eqb, ◌⊎◌}
+use Rattle.std.proofs.Math.Path.{refl, sym, ap}
+use Rattle.std.proofs.Common.{◌∙◌, arith, length-drop, length-take-le, eqb-true, eq-eqb}
 use mathlib.Core.List.{List, [], ◌∷◌}
 use Rattle.std.specs.Float.Ieee.{lt}
 use Rattle.base_terms.specs.Layout.{side, runs_at, entries_at, search_at, costs_at, scores_at}
@@ -16,11 +16,12 @@ use Rattle.candidates.specs.declared.context.Context.{Context}
 use Rattle.candidate_walk.specs.declared.collect.Walk.{Walk}
 use Rattle.candidate_walk.specs.Held.{silences_held, runs_held, levels_held}
 use Rattle.candidates.specs.PointLaws.{Heard, Stretched, Cuttable}
-use Rattle.base_laws.specs.Tests.{both}
+use Rattle.base_laws.specs.Tests.{holds, tested}
+use Rattle.std.proofs.Math.Logic.{inl, inr}
 use Rattle.candidates.specs.declared.candidate.Candidate.{Candidate}
 use Rattle.candidates.specs.Candidates.{point_at, cheaper}
 use Rattle.candidates.specs.Entries.{entries_of, costs_of}
-use Rattle.candidate_walk.specs.Collect.{own_here, with_point, point_held, next_own, here_of, entries_here, costs_here, walk_of}
+use Rattle.candidate_walk.specs.Collect.{starting_at, own_here, with_point, point_held, next_own, here_by, here_of, entries_here, costs_here, walk_by, walk_of}
 use Rattle.candidate_walk.specs.HeldLaws.{placed-none, Puttable}
 
 -- so many silences, and room for all that candidates are made from and for themselves
@@ -47,8 +48,9 @@ pub record Passing (x : Context) (silences stop k : ℕ) (w : Walk) (work : List
   pub inside : w.written ≤ x.padding.frames
   pub stops : stop ≤ silences
   pub ahead : (j : ℕ) → w.silence < j → j < stop → AtSilence x silences work workf j
-  pub left_in : w.silence < stop → w.own.left ≤ x.padding.frames
-  pub right_in : w.silence < stop → w.own.right ≤ x.padding.frames
+  pub own_listed : (c : Candidate) → ◌≡◌ {A = Option Candidate} w.own (Some c) → w.silence < stop
+  pub left_in : (c : Candidate) → ◌≡◌ {A = Option Candidate} w.own (Some c) → c.left ≤ x.padding.frames
+  pub right_in : (c : Candidate) → ◌≡◌ {A = Option Candidate} w.own (Some c) → c.right ≤ x.padding.frames
 
 -- what a whole walk needs: the span of a recording whose silences can be cut
 pub record Collectable (x : Context) (span : HeldSpan) (work : List ℕ) (workf : List Float) : Type 0 where
@@ -95,12 +97,32 @@ module _ (x : Context) (silences : ℕ) (work : List ℕ) (workf : List Float) (
 abbrev Inside : ℕ → Candidate → Type 0
 Inside n c = (c.left ≤ n) × (c.right ≤ n)
 
--- where the next silence's own candidate stands at boundary k: there is a next silence, and its left end is k
-pub own_parts : (w : Walk) (stop k : ℕ) → own_here w stop k ≡ true → (w.silence < stop) × (w.own.left ≡ k)
-unfolding own_here
-own_parts w stop k e =
-    let p = both (ltb w.silence stop) (eqb w.own.left k) e in
-    (ltb-true w.silence stop p.0, eqb-true w.own.left k p.1)
+-- there is one, or there is none
+pub told : (o : Option Candidate) → ((c : Candidate) × (◌≡◌ {A = Option Candidate} o (Some c))) ⊎ (◌≡◌ {A = Option Candidate} o None)
+told None = inr refl
+told (Some c) = inl (c, refl)
+
+-- where one starts at boundary k, it is that one
+pub started : (k : ℕ) (c : Candidate) → c.left ≡ k → ◌≡◌ {A = Option Candidate} (starting_at k (Some c)) (Some c)
+unfolding starting_at
+started k c e = rw (eq-eqb c.left k e)
+
+-- the candidate, or d where there is none
+abbrev pub candidate_or : Candidate → Option Candidate → Candidate
+candidate_or d None = d
+candidate_or d (Some c) = c
+
+parts : (k : ℕ) (o : Option Candidate) (c : Candidate) → ◌≡◌ {A = Option Candidate} (starting_at k o) (Some c) → (◌≡◌ {A = Option Candidate} o (Some c)) × (c.left ≡ k)
+unfolding starting_at
+parts k None c e = absurd (holds (ap is_some e))
+parts k (Some d) c e = elim (tested (eqb d.left k)) [
+  | inl t ↦ let same : d ≡ c = ap (candidate_or d) (rw t at e) in (ap Some same, ap (λ (b : Candidate). b.left) (sym same) ∙ eqb-true d.left k t)
+  | inr t ↦ absurd (holds (ap is_some (rw t at e)))
+]
+
+-- where the next silence's own candidate stands at boundary k: it is held, and its left end is k
+pub own_parts : (w : Walk) (k : ℕ) (c : Candidate) → ◌≡◌ {A = Option Candidate} (own_here w k) (Some c) → (◌≡◌ {A = Option Candidate} w.own (Some c)) × (c.left ≡ k)
+own_parts w k c e = parts k w.own c e
 
 point_inside : (x : Context) (silences k : ℕ) (work : List ℕ) (workf : List Float) → k ≤ x.padding.frames → Inside x.padding.frames (point_held x silences work workf k)
 unfolding point_at
@@ -120,59 +142,59 @@ module _ (x : Context) (silences stop k : ℕ) (mark : Bool) (w : Walk) (work : 
 
   -- ---- at a silence's own candidate
 
-  module _ (own : own_here w stop k ≡ true) (c : Candidate) (is : c ≡ with_point mark w.own (point_held x silences work workf k)) where
+  module _ (own : Candidate) (here : ◌≡◌ {A = Option Candidate} (own_here w k) (Some own)) (c : Candidate) (is : c ≡ with_point mark own (point_held x silences work workf k)) where
     -- it may be written
     pub own_puttable : Passing x silences stop k w work workf → Puttable c w.written x.padding.frames work workf
     own_puttable p =
-        let q = own_parts w stop k own in
+        let q = (own_parts w k own here).0 in
         puttable c p
-        (rw is (with_inside x.padding.frames mark w.own (point_held x silences work workf k)
-        (p.left_in q.0, p.right_in q.0) (point_inside x silences k work workf p.within)))
+        (rw is (with_inside x.padding.frames mark own (point_held x silences work workf k)
+        (p.left_in own q, p.right_in own q) (point_inside x silences k work workf p.within)))
 
     -- it is what is written there
-    pub own_here_lem : c ∷ [] ≡ here_of x silences stop k mark w work workf
-    unfolding here_of
-    own_here_lem = rw (own, is)
+    pub own_here_lem : c ∷ [] ≡ here_of x silences k mark w work workf
+    unfolding here_by
+    own_here_lem = rw (here, is)
 
     -- the walk goes on with the next silence
-    pub own_walk : (next : Candidate) → next ≡ next_own x silences stop work workf (w.silence + 1)
+    pub own_walk : (next : Option Candidate) → next ≡ next_own x silences stop work workf (w.silence + 1)
         → record { silence = w.silence + 1; own = next; written = w.written + 1 } ≡ walk_of x silences stop k mark w work workf
-    unfolding walk_of
-    own_walk next e = rw (own, e)
+    unfolding walk_by
+    own_walk next e = rw (here, e)
 
   -- ---- at a point
 
-  module _ (other : own_here w stop k ≡ false) (set : mark ≡ true) (c : Candidate) (is : c ≡ point_held x silences work workf k) where
+  module _ (other : ◌≡◌ {A = Option Candidate} (own_here w k) None) (set : mark ≡ true) (c : Candidate) (is : c ≡ point_held x silences work workf k) where
     -- the point may be written
     pub point_puttable : Passing x silences stop k w work workf → Puttable c w.written x.padding.frames work workf
     point_puttable p = puttable c p (rw is (point_inside x silences k work workf p.within))
 
     -- it is what is written there
-    pub point-here : c ∷ [] ≡ here_of x silences stop k mark w work workf
-    unfolding here_of
+    pub point-here : c ∷ [] ≡ here_of x silences k mark w work workf
+    unfolding here_by
     point-here = rw (other, set, is)
 
     -- the walk goes on with the same silence
     pub point_walk : record { silence = w.silence; own = w.own; written = w.written + 1 } ≡ walk_of x silences stop k mark w work workf
-    unfolding walk_of
+    unfolding walk_by
     point_walk = rw (other, set)
 
   -- ---- at neither
 
-  module _ (other : own_here w stop k ≡ false) (unset : mark ≡ false) where
-    none_here : [] ≡ here_of x silences stop k mark w work workf
-    unfolding here_of
+  module _ (other : ◌≡◌ {A = Option Candidate} (own_here w k) None) (unset : mark ≡ false) where
+    none_here : [] ≡ here_of x silences k mark w work workf
+    unfolding here_by
     none_here = rw (other, unset)
 
     -- nothing is written in the u32 list
-    pub none_entries : work ≡ entries_here x silences stop k mark w work workf
+    pub none_entries : work ≡ entries_here x silences k mark w work workf
     unfolding entries_of
     none_entries =
         sym (placed-none (entries_at x.padding.frames + 3 * w.written) work)
         ∙ ap (λ (cs : List Candidate). placed (entries_at x.padding.frames + 3 * w.written) (entries_of cs) work) none_here
 
     -- nor in the f64 list
-    pub none_costs : workf ≡ costs_here x silences stop k mark w work workf
+    pub none_costs : workf ≡ costs_here x silences k mark w work workf
     unfolding costs_of
     none_costs =
         sym (placed-none (costs_at x.padding.frames + w.written) workf)
@@ -180,5 +202,5 @@ module _ (x : Context) (silences stop k : ℕ) (mark : Bool) (w : Walk) (work : 
 
     -- the walk is as it was
     pub none_walk : w ≡ walk_of x silences stop k mark w work workf
-    unfolding walk_of
+    unfolding walk_by
     none_walk = rw (other, unset)

@@ -1,12 +1,12 @@
 -- A step of the walk keeps what holds of it; where it starts and ends.
-use Rattle.std.specs.Prelude.{◌≡◌, refl, Bool, true, false, ◌||◌, Float, length}
+use Rattle.std.specs.Prelude.{◌≡◌, refl, Bool, false, ◌||◌, Option, Some, None, is_some, Float, length}
 use Rattle.std.proofs.Math.Path.{sym, ap}
 use Rattle.std.proofs.Common.{◌∙◌, eq-or-lt_of_le, length-append}
 use Rattle.std.proofs.Math.Logic.{inl, inr}
 use mathlib.Core.List.{List, [], ◌∷◌, ◌++◌, append_assoc, append-nil}
 use Prim.Native.Nat.{ℕ, suc, ◌+◌, ◌-◌, ◌*◌, ◌≤◌, ◌<◌}
 use native.Mathlib.Omega.{arith}
-use Rattle.base_laws.specs.Tests.{lt_or_le, tested, neither}
+use Rattle.base_laws.specs.Tests.{lt_or_le, tested, neither, holds}
 use Rattle.base_terms.specs.Layout.{entries_at, costs_at}
 use Rattle.candidate_span.specs.declared.held.HeldSpan.{HeldSpan}
 use Rattle.candidate_span.specs.Kept.{boundaries}
@@ -21,34 +21,34 @@ use Rattle.candidates.specs.Entries.{entries_of, costs_of}
 use Rattle.candidate_walk.specs.Held.{silences_held, levels_held, marked}
 use Rattle.candidates.specs.EntriesLaws.{entries_length, costs_length, entries_append, costs_append}
 use Rattle.candidate_walk.specs.HeldLaws.{placed-more, placed-none}
-use Rattle.candidate_walk.specs.Collect.{own_here, next_own, here_of, walk_of, listed_held, inside_held}
-use Rattle.candidate_walk.specs.CollectLaws.{Collectable, own_parts, none_entries, none_costs, none_walk}
-use Rattle.candidate_walk.specs.CollectStep.{InnerRange, WalkHolds, last_in_lem, first_below, own-after, here_is, own_same, own_starts, later, next_inner, none-own}
+use Rattle.candidate_walk.specs.Collect.{own_here, next_own, here_by, here_of, walk_by, walk_of, listed_held, inside_held}
+use Rattle.candidate_walk.specs.CollectLaws.{Collectable, told, none_entries, none_costs, none_walk}
+use Rattle.candidate_walk.specs.CollectStep.{InnerRange, WalkHolds, last_in_lem, first_below, own-after, here_is, own_same, below, own_starts, later, next_inner, none-own}
 
 -- ---- what a step changes
 
 module _ (x : Context) (silences stop k : ℕ) (mark : Bool) (w : Walk) (work : List ℕ) (workf : List Float) where
   -- one candidate more, or none
-  pub step-written : ((walk_of x silences stop k mark w work workf).written ≡ w.written + length (here_of x silences stop k mark w work workf))
-      × (length (here_of x silences stop k mark w work workf) ≤ 1)
-  unfolding walk_of here_of
-  step-written = elim (tested (own_here w stop k)) [
-    | inl e ↦ rw e (refl, omega arith)
+  pub step-written : ((walk_of x silences stop k mark w work workf).written ≡ w.written + length (here_of x silences k mark w work workf))
+      × (length (here_of x silences k mark w work workf) ≤ 1)
+  unfolding walk_by here_by
+  step-written = elim (told (own_here w k)) [
+    | inl p ↦ rw p.1 (refl, omega arith)
     | inr e ↦ rw e (elim (tested mark) [ inl f ↦ rw f (refl, omega arith) | inr f ↦ rw f (omega arith, omega arith) ])
   ]
 
   -- past a silence's own candidate the next silence's is held
-  pub step-own : own_here w stop k ≡ true
+  pub step-own : (own : Candidate) → ◌≡◌ {A = Option Candidate} (own_here w k) (Some own)
       → ((walk_of x silences stop k mark w work workf).silence ≡ w.silence + 1)
       × ((walk_of x silences stop k mark w work workf).own ≡ next_own x silences stop work workf (w.silence + 1))
-  unfolding walk_of
-  step-own o = (rw o, rw o)
+  unfolding walk_by
+  step-own own o = (rw o, rw o)
 
   -- else the silence and its candidate are as they were
-  pub step_other : own_here w stop k ≡ false
+  pub step_other : ◌≡◌ {A = Option Candidate} (own_here w k) None
       → ((walk_of x silences stop k mark w work workf).silence ≡ w.silence)
       × ((walk_of x silences stop k mark w work workf).own ≡ w.own)
-  unfolding walk_of
+  unfolding walk_by
   step_other o = rw o (elim (tested mark) [ inl f ↦ rw f (refl, refl) | inr f ↦ rw f (refl, refl) ])
 
 -- ---- the next boundary
@@ -67,7 +67,7 @@ module _ {x : Context} {span : HeldSpan} {stop from : ℕ} {work₀ : List ℕ} 
   levels = levels_held n workf₀
 
   abbrev here : List Candidate
-  here = here_of x span.silences stop k mark w work workf
+  here = here_of x span.silences k mark w work workf
 
   abbrev listed : List Candidate
   listed = listed_held x span work₀ workf₀
@@ -130,15 +130,15 @@ module _ {x : Context} {span : HeldSpan} {stop from : ℕ} {work₀ : List ℕ} 
     }
 
     -- the next silence's own candidate stood here
-    module _ (o : own_here w stop k ≡ true) where
+    module _ (own : Candidate) (o : ◌≡◌ {A = Option Candidate} (own_here w k) (Some own)) where
       passed : w'.silence ≡ w.silence + 1
-      passed = rw is (step-own x span.silences stop k mark w work workf o).0
+      passed = rw is (step-own x span.silences stop k mark w work workf own o).0
 
       starts : left_at x ss levels w.silence ≡ k
-      starts = own_starts c r g more o
+      starts = own_starts c r g more own o
 
       inner : InnerAt n ss w.silence
-      inner = next_inner c r g more (own_parts w stop k o).0
+      inner = next_inner c r g more (below c r g more own o)
 
       before-own : (j : ℕ) → j < w'.silence → InnerAt n ss j → left_at x ss levels j < k + 1
       before-own j h a = elim (lt_or_le j w.silence) [
@@ -152,11 +152,11 @@ module _ {x : Context} {span : HeldSpan} {stop from : ℕ} {work₀ : List ℕ} 
       next_own_lem : WalkHolds x span stop from work₀ workf₀ (k + 1) w' work' workf'
       next_own_lem =
           next_holds (omega (arith, passed, g.begun)) before-own ahead_own
-          (rw is (step-own x span.silences stop k mark w work workf o).1 ∙ own_same c r g more (w.silence + 1)
+          (rw is (step-own x span.silences stop k mark w work workf own o).1 ∙ own_same c r g more (w.silence + 1)
           ∙ ap (next_own x span.silences stop work₀ workf₀) (sym passed))
 
     -- it did not
-    module _ (o : own_here w stop k ≡ false) where
+    module _ (o : ◌≡◌ {A = Option Candidate} (own_here w k) None) where
       waits : w'.silence ≡ w.silence
       waits = rw is (step_other x span.silences stop k mark w work workf o).0
 
@@ -173,14 +173,15 @@ module _ {x : Context} {span : HeldSpan} {stop from : ℕ} {work₀ : List ℕ} 
 
     -- what holds at boundary k holds at the next one after the step
     pub walk_next : WalkHolds x span stop from work₀ workf₀ (k + 1) w' work' workf'
-    walk_next = elim (tested (own_here w stop k)) [ inl o ↦ next_own_lem o | inr o ↦ next_other o ]
+    walk_next = elim (told (own_here w k)) [ inl p ↦ next_own_lem p.0 p.1 | inr o ↦ next_other o ]
 
   -- and without a step where nothing stands at boundary k
-  pub walk_none : (mark || own_here w stop k) ≡ false → WalkHolds x span stop from work₀ workf₀ (k + 1) w work workf
+  pub walk_none : (mark || is_some (own_here w k)) ≡ false → WalkHolds x span stop from work₀ workf₀ (k + 1) w work workf
   walk_none e =
-      let p = neither mark (own_here w stop k) e in
-      walk_next (none_walk x span.silences stop k mark w work workf p.1 p.0)
-      (none_entries x span.silences stop k mark w work workf p.1 p.0) (none_costs x span.silences stop k mark w work workf p.1 p.0)
+      let p = neither mark (is_some (own_here w k)) e in
+      let none : ◌≡◌ {A = Option Candidate} (own_here w k) None = elim (told (own_here w k)) [ inl q ↦ absurd (holds (sym p.1 ∙ ap is_some q.1)) | inr q ↦ q ] in
+      walk_next (none_walk x span.silences stop k mark w work workf none p.0)
+      (none_entries x span.silences stop k mark w work workf none p.0) (none_costs x span.silences stop k mark w work workf none p.0)
 
 -- ---- start and end
 

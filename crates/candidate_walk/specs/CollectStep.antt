@@ -1,15 +1,15 @@
 -- A boundary is among the marked ones exactly where it is marked.
 -- What holds of the walk at each boundary: so far the survivors at the boundaries before are written, and the next silence is the first whose own candidate does not start before.
 -- What is written at the boundary is the survivor there.
-use Rattle.std.specs.Prelude.{◌≡◌, Bool, cond, List, ◌∷◌, [], ◌++◌, Float, length}
+use Rattle.std.specs.Prelude.{◌≡◌, Bool, cond, List, ◌∷◌, [], ◌++◌, Option, Some, None, is_some, Float, length}
 use Rattle.std.proofs.Math.Path.{refl}
 use Rattle.std.proofs.Common.{sym, ap, subst, ◌∙◌, eq-or-lt_of_le, length-take-le}
 use Rattle.std.proofs.Math.Logic.{inl, inr}
 use Rattle.std.proofs.Math.Bool.{true, false}
 use Prim.Native.Nat.{ℕ, zero, suc, ◌+◌, ◌≤◌, ◌<◌, ◌-◌, ◌*◌}
 use native.Mathlib.Omega.{arith}
-use borrow.Author.Tests.{eq-eqb, ne_eqb, lt-ltb}
-use Rattle.base_laws.specs.Tests.{lt_or_le, tested, holds}
+use borrow.Author.Tests.{eq-eqb, ne_eqb, lt-ltb, le-ltb}
+use Rattle.base_laws.specs.Tests.{lt_or_le, holds}
 use Rattle.base_terms.specs.Layout.{entries_at, costs_at}
 use Rattle.candidate_span.specs.declared.held.HeldSpan.{HeldSpan}
 use Rattle.candidate_span.specs.Kept.{boundaries, passing}
@@ -30,8 +30,8 @@ use Rattle.candidates.specs.Entries.{entries_of, costs_of}
 use Rattle.candidate_walk.specs.Held.{silences_held, runs_held, levels_held, marked}
 use Rattle.candidates.specs.EntriesLaws.{entries_length, costs_length}
 use Rattle.candidate_walk.specs.HeldLaws.{silences-stay, marks_stay, runs-stay, levels-stay}
-use Rattle.candidate_walk.specs.Collect.{own_here, with_point, point_held, next_own, here_of, marks_held, listed_held, inside_held}
-use Rattle.candidate_walk.specs.CollectLaws.{AtSilence, Passing, Collectable, own_parts}
+use Rattle.candidate_walk.specs.Collect.{starting_at, own_here, with_point, point_held, next_own, here_by, here_of, marks_held, listed_held, inside_held}
+use Rattle.candidate_walk.specs.CollectLaws.{AtSilence, Passing, Collectable, candidate_or, told, started, own_parts}
 
 module _ (p : ℕ → Bool) where
   before-step : (b c : Bool) (k j : ℕ) (ks : List ℕ) → (j ≡ k → ⊥) → is_in ks k ≡ c → is_in (cond b (j ∷ ks) ks) k ≡ c
@@ -147,8 +147,18 @@ module _ {x : Context} {span : HeldSpan} {stop from : ℕ} {work₀ : List ℕ} 
 
     -- ---- the next silence
 
-    next_is : w.silence < stop → w.own ≡ own_at x ss levels w.silence
+    next_is : w.silence < stop → ◌≡◌ {A = Option Candidate} w.own (Some (own_at x ss levels w.silence))
     next_is h = g.own ∙ unfold next_own in rw (lt-ltb w.silence stop h)
+
+    none_is : stop ≤ w.silence → ◌≡◌ {A = Option Candidate} w.own None
+    none_is h = g.own ∙ unfold next_own in rw (le-ltb w.silence stop h)
+
+    -- where an own candidate is held, it is that of the next silence
+    own_is : (d : Candidate) → ◌≡◌ {A = Option Candidate} w.own (Some d) → (w.silence < stop) × (d ≡ own_at x ss levels w.silence)
+    own_is d e = elim (lt_or_le w.silence stop) [
+      | inl h ↦ (h, ap (candidate_or d) (sym e ∙ next_is h))
+      | inr h ↦ absurd (holds (ap is_some (sym (none_is h) ∙ e)))
+    ]
 
     -- it has sound on both sides
     pub next_inner : w.silence < stop → InnerAt n ss w.silence
@@ -171,10 +181,17 @@ module _ {x : Context} {span : HeldSpan} {stop from : ℕ} {work₀ : List ℕ} 
       inside = omega (arith, g.number, g.few, last_in_lem);
       stops = omega (arith, r.stops, length-take-le (2 * span.silences) work₀ (omega (arith, c.holding.apart, c.holding.room)));
       ahead = silent;
-      left_in = λ (h : w.silence < stop). rw (next_is h) (omega (arith, last_in_lem, own_inside x ss [] levels [] span.first span.last planned w.silence (next_inner h)));
-      right_in = λ (h : w.silence < stop). rw (next_is h) (omega (arith, last_in_lem, own_inside x ss [] levels [] span.first span.last planned w.silence (next_inner h)));
+      own_listed = λ (d : Candidate) (e : ◌≡◌ {A = Option Candidate} w.own (Some d)). (own_is d e).0;
+      left_in = λ (d : Candidate) (e : ◌≡◌ {A = Option Candidate} w.own (Some d)). (own_ends d e).0;
+      right_in = λ (d : Candidate) (e : ◌≡◌ {A = Option Candidate} w.own (Some d)). (own_ends d e).1;
     }
       where
+        own_ends : (d : Candidate) → ◌≡◌ {A = Option Candidate} w.own (Some d) → (d.left ≤ n) × (d.right ≤ n)
+        own_ends d e =
+            let p = own_is d e in
+            let q = own_inside x ss [] levels [] span.first span.last planned w.silence (next_inner p.0) in
+            rw p.1 (omega (arith, last_in_lem, q), omega (arith, last_in_lem, q))
+
         silent : (j : ℕ) → w.silence < j → j < stop → AtSilence x span.silences work workf j
         silent j a b =
             let i = r.inner j (omega (arith, g.begun)) b in
@@ -205,30 +222,33 @@ module _ {x : Context} {span : HeldSpan} {stop from : ℕ} {work₀ : List ℕ} 
     inner-at j h t = record { listed = h; inner = t }
 
     -- the next silence's own candidate stands here
-    module _ (o : own_here w stop k ≡ true) where
+    module _ (own : Candidate) (o : ◌≡◌ {A = Option Candidate} (own_here w k) (Some own)) where
       abbrev i : ℕ
       i = w.silence
 
-      below : i < stop
-      below = (own_parts w stop k o).0
+      -- it is one of those before `stop`
+      pub below : i < stop
+      below = (own_is own (own_parts w k own o).0).0
+
+      is : own ≡ own_at x ss levels i
+      is = (own_is own (own_parts w k own o).0).1
 
       -- its left end is k
       pub own_starts : left_at x ss levels i ≡ k
-      own_starts = ap (λ (d : Candidate). d.left) (sym (next_is below)) ∙ (own_parts w stop k o).1
+      own_starts = ap (λ (d : Candidate). d.left) (sym is) ∙ (own_parts w k own o).1
 
-      here-own : here_of x span.silences stop k (marked n work k) w work workf ≡ cheapest (with_left k (listed_held x span work₀ workf₀))
-      unfolding here_of with_point
+      here-own : here_of x span.silences k (marked n work k) w work workf ≡ cheapest (with_left k (listed_held x span work₀ workf₀))
+      unfolding here_by with_point
       here-own =
-          rw (o, point_same, marks_same, next_is below, ← mark_is)
+          rw (o, point_same, marks_same, is, ← mark_is)
           (sym (survivor_own x ss (runs_held n work₀) levels (marks_held x span work₀) k i (next_inner below).listed (next_inner below).inner own_starts
           (λ (j : ℕ) (h : j < i) (t : IsOwn x ss levels j) (e : left_at x ss levels j ≡ k). absurd (omega (arith, e, g.before j h (inner-at j (omega (arith, below, r.stops)) t))))
           (λ (j : ℕ) (h : i < j) (l : j < silence_count ss) (t : IsOwn x ss levels j) (e : left_at x ss levels j ≡ k). absurd (omega (arith, e, own_starts, later i j h (next_inner below) (inner-at j l t))))))
 
     -- it does not
-    module _ (o : own_here w stop k ≡ false) where
+    module _ (o : ◌≡◌ {A = Option Candidate} (own_here w k) None) where
       not_next : w.silence < stop → left_at x ss levels w.silence ≡ k → ⊥
-      unfolding own_here
-      not_next h e = holds (sym o ∙ rw (lt-ltb w.silence stop h, eq-eqb w.own.left k (ap (λ (d : Candidate). d.left) (next_is h) ∙ e)))
+      not_next h e = holds (ap is_some (sym o ∙ ap (starting_at k) (next_is h) ∙ started k (own_at x ss levels w.silence) e))
 
       -- nor does any other
       pub none-own : (j : ℕ) → InnerAt n ss j → left_at x ss levels j ≡ k → ⊥
@@ -243,12 +263,12 @@ module _ {x : Context} {span : HeldSpan} {stop from : ℕ} {work₀ : List ℕ} 
             ]
       ]
 
-      here_other : here_of x span.silences stop k (marked n work k) w work workf ≡ cheapest (with_left k (listed_held x span work₀ workf₀))
-      unfolding here_of
+      here_other : here_of x span.silences k (marked n work k) w work workf ≡ cheapest (with_left k (listed_held x span work₀ workf₀))
+      unfolding here_by
       here_other =
           rw (o, point_same, marks_same, ← mark_is)
           (sym (survivor_point x ss (runs_held n work₀) levels (marks_held x span work₀) k (λ (j : ℕ) (l : j < silence_count ss) (t : IsOwn x ss levels j) (e : left_at x ss levels j ≡ k). none-own j (inner-at j l t) e)))
 
     -- what is written at boundary k is the survivor there, or nothing where none is
-    pub here_is : here_of x span.silences stop k (marked n work k) w work workf ≡ cheapest (with_left k (listed_held x span work₀ workf₀))
-    here_is = elim (tested (own_here w stop k)) [ inl o ↦ here-own o | inr o ↦ here_other o ]
+    pub here_is : here_of x span.silences k (marked n work k) w work workf ≡ cheapest (with_left k (listed_held x span work₀ workf₀))
+    here_is = elim (told (own_here w k)) [ inl p ↦ here-own p.0 p.1 | inr o ↦ here_other o ]

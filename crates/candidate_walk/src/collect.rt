@@ -10,7 +10,7 @@ ghost use Rattle.candidate_walk.specs.CollectLaws.{Passing, Collectable};
 ghost use Rattle.candidate_walk.specs.CollectStep.{InnerRange};
 
 use crate::{held, put};
-use base_code::layout;
+use base_code::layout::Layout;
 use candidate_span::held::HeldSpan;
 use candidate_span::listed;
 use candidates::candidate;
@@ -20,22 +20,22 @@ use candidates::context::Context;
 // What the walk over the boundaries holds.
 #[derive(Clone, Copy)]
 pub struct Walk {
-    // The next silence, and its own candidate.
+    // The next silence, and its own candidate, where it has sound on both sides.
     pub silence: usize,
-    pub own: Candidate,
+    pub own: Option<Candidate>,
     // How many candidates were written.
     pub written: usize,
 }
 
-// Whether the next silence's own candidate has its left end at boundary k.
-fn own_here(w: Walk, stop: usize, k: usize) -> bool
-    ensures { result ≡ own_here w stop k }
+// The next silence's own candidate, where its left end is boundary k.
+#[tactic(auto, unfolding(crate::specs::Collect::starting_at))]
+fn own_here(w: Walk, k: usize) -> Option<Candidate>
+    ensures { result ≡ own_here w k }
 {
-    let own = w.own;
-    if stop <= w.silence {
-        return false;
+    match w.own {
+        Some(own) if own.left == k => Some(own),
+        _ => None,
     }
-    own.left == k
 }
 
 // Writes the candidate at boundary k, if there is one:
@@ -53,15 +53,14 @@ fn pass(
     requires { Passing x silences stop k w work_u32.old work_f64.old }
     ensures value { result ≡ walk_of x silences stop k marked w work_u32.old work_f64.old }
     ensures work_u32_after { work_u32.new
-        ≡ entries_here x silences stop k marked w work_u32.old work_f64.old }
+        ≡ entries_here x silences k marked w work_u32.old work_f64.old }
     ensures work_f64_after { work_f64.new
-        ≡ costs_here x silences stop k marked w work_u32.old work_f64.old }
+        ≡ costs_here x silences k marked w work_u32.old work_f64.old }
 {
     let n = x.padding.frames;
-    let own = w.own;
-    if own_here(w, stop, k) {
-        let c = held::with_point(x, silences, k, own, marked, &*work_u32, &*work_f64);
-        let next = held::next_own(x, silences, stop, w.silence + 1, &*work_u32, &*work_f64);
+    if let Some(own) = own_here(w, k) {
+        let c = held::with_point(x, silences, k, own, marked, work_u32, work_f64);
+        let next = held::next_own(x, silences, stop, w.silence + 1, work_u32, work_f64);
         put::put(c, w.written, n, work_u32, work_f64);
         return Walk {
             silence: w.silence + 1,
@@ -70,11 +69,11 @@ fn pass(
         };
     }
     if marked {
-        let c = held::point_in(x, silences, k, &*work_u32, &*work_f64);
+        let c = held::point_in(x, silences, k, work_u32, work_f64);
         put::put(c, w.written, n, work_u32, work_f64);
         return Walk {
             silence: w.silence,
-            own,
+            own: w.own,
             written: w.written + 1,
         };
     }
@@ -88,7 +87,7 @@ fn pass_all(
     span: HeldSpan,
     stop: usize,
     from: usize,
-    own: Candidate,
+    own: Option<Candidate>,
     work_u32: &mut [u32],
     work_f64: &mut [f64],
 ) -> usize
@@ -105,7 +104,10 @@ fn pass_all(
         (costs_of (inside_held x span work_u32.old work_f64.old))
         work_f64.old }
 {
-    let marks = layout::marks_at(x.padding.frames);
+    let places = Layout {
+        frames: x.padding.frames,
+    };
+    let marks = places.marks_at();
     let mut w = Walk {
         silence: from,
         own,
@@ -114,7 +116,7 @@ fn pass_all(
     for k in span.first + 1..span.last {
         let marked = work_u32[marks + k] != 0;
         // Most boundaries have no candidate: what `pass` is handed is copied only where there is one.
-        if marked | own_here(w, stop, k) {
+        if marked | own_here(w, k).is_some() {
             w = pass(x, span.silences, stop, k, marked, w, work_u32, work_f64);
         }
     }
@@ -123,14 +125,12 @@ fn pass_all(
 
 // The first of so many silences with sound on both sides:
 // silence at the recording's start has sound on one side only.
+#[tactic(auto, unfolding(crate::specs::Collect::inner_from))]
 fn inner_from(silences: usize, work_u32: &[u32]) -> usize
     requires { 2 * silences ≤ length work_u32.now }
     ensures { result ≡ inner_from silences work_u32.now }
 {
-    if silences == 0 {
-        return 0;
-    }
-    if listed::start_at(work_u32, 0) == 0 {
+    if silences > 0 && listed::start_at(work_u32, 0) == 0 {
         1
     } else {
         0
@@ -138,14 +138,12 @@ fn inner_from(silences: usize, work_u32: &[u32]) -> usize
 }
 
 // The silence after the last such one.
+#[tactic(auto, unfolding(crate::specs::Collect::inner_to))]
 fn inner_to(frames: usize, silences: usize, work_u32: &[u32]) -> usize
     requires { 2 * silences ≤ length work_u32.now }
     ensures { result ≡ inner_to frames silences work_u32.now }
 {
-    if silences == 0 {
-        return 0;
-    }
-    if listed::end_at(work_u32, silences - 1) == frames {
+    if silences > 0 && listed::end_at(work_u32, silences - 1) == frames {
         silences - 1
     } else {
         silences
@@ -160,9 +158,9 @@ pub fn collect(x: Context, span: HeldSpan, work_u32: &mut [u32], work_f64: &mut 
     ensures work_f64_after { work_f64.new ≡ costs_all x span work_u32.old work_f64.old }
 {
     let n = x.padding.frames;
-    let from = inner_from(span.silences, &*work_u32);
-    let stop = inner_to(n, span.silences, &*work_u32);
-    let own = held::next_own(x, span.silences, stop, from, &*work_u32, &*work_f64);
+    let from = inner_from(span.silences, work_u32);
+    let stop = inner_to(n, span.silences, work_u32);
+    let own = held::next_own(x, span.silences, stop, from, work_u32, work_f64);
     let written = pass_all(x, span, stop, from, own, work_u32, work_f64);
     put::put(candidate::node(span.first), 0, n, work_u32, work_f64);
     put::put(candidate::node(span.last), written, n, work_u32, work_f64);

@@ -5,7 +5,7 @@ ghost use Rattle.candidate_walk.specs.Held.{silences_held, levels_held};
 ghost use Rattle.candidate_walk.specs.Collect.{point_held, next_own, with_point};
 ghost use Rattle.candidate_walk.specs.CollectLaws.{Holding, AtBoundary, AtSilence};
 
-use base_code::layout;
+use base_code::layout::Layout;
 use candidates::candidate::Candidate;
 use candidates::context::Context;
 use candidates::{candidate, own, point};
@@ -23,8 +23,9 @@ pub fn point_in(
     ensures { result ≡ point_held x silences work_u32.now work_f64.now k }
 {
     let n = x.padding.frames;
-    let runs = layout::runs_at(n);
-    let side = layout::side(n);
+    let places = Layout { frames: n };
+    let runs = places.runs_at();
+    let side = places.side();
     point::point(
         x,
         &work_u32[..2 * silences],
@@ -44,11 +45,15 @@ fn own_in(x: Context, silences: usize, i: usize, work_u32: &[u32], work_f64: &[f
         (levels_held x.padding.frames work_f64.now)
         i }
 {
-    let side = layout::side(x.padding.frames);
+    let places = Layout {
+        frames: x.padding.frames,
+    };
+    let side = places.side();
     own::own(x, &work_u32[..2 * silences], &work_f64[..side], i)
 }
 
-// The own candidate of silence i, if there are more than i that have one. None is asked for beyond them.
+// The own candidate of silence i, if it is one of those before `stop`.
+#[tactic(auto, unfolding(crate::specs::Collect::next_own))]
 pub fn next_own(
     x: Context,
     silences: usize,
@@ -56,19 +61,20 @@ pub fn next_own(
     i: usize,
     work_u32: &[u32],
     work_f64: &[f64],
-) -> Candidate
+) -> Option<Candidate>
     requires holding { Holding x silences work_u32.now work_f64.now }
     requires at_silence { i < stop → AtSilence x silences work_u32.now work_f64.now i }
     ensures { result ≡ next_own x silences stop work_u32.now work_f64.now i }
 {
     if i < stop {
-        own_in(x, silences, i, work_u32, work_f64)
+        Some(own_in(x, silences, i, work_u32, work_f64))
     } else {
-        candidate::node(0)
+        None
     }
 }
 
 // A silence's own candidate at boundary k, or the point there if one is marked and it is cheaper.
+#[tactic(auto, unfolding(crate::specs::Collect::with_point))]
 pub fn with_point(
     x: Context,
     silences: usize,

@@ -5,8 +5,7 @@ ghost use Rattle.candidate_points.specs.Placed.{placed};
 ghost use Rattle.candidates.specs.Entries.{entries_of, costs_of};
 ghost use Rattle.candidate_walk.specs.HeldLaws.{Puttable};
 
-use base_code::layout;
-use candidates::candidate;
+use base_code::layout::Layout;
 use candidates::candidate::Candidate;
 
 // Candidate number `at` of a recording of so many frames.
@@ -17,11 +16,11 @@ pub fn put(c: Candidate, at: usize, frames: usize, work_u32: &mut [u32], work_f6
     ensures work_f64_after { work_f64.new
         ≡ placed (costs_at frames + at) (costs_of (c ∷ [])) work_f64.old }
 {
-    let reason = c.reason;
-    let here = layout::entries_at(frames) + 3 * at;
-    let price = layout::costs_at(frames) + at;
+    let places = Layout { frames };
+    let here = places.entries_at() + 3 * at;
+    let price = places.costs_at() + at;
     work_u32[here] = c.left as u32;
     work_u32[here + 1] = c.right as u32;
-    work_u32[here + 2] = candidate::reason_number(reason);
+    work_u32[here + 2] = u32::from(c.reason);
     work_f64[price] = c.cost;
 }

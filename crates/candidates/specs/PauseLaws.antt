@@ -61,7 +61,7 @@ module _ (x : Context) (ss : List ℕ) (k : ℕ) where
     told = rw (is, begins, stops) (pause_one i l e h ∙ unfold touches in refl)
 
     -- below the lower bound k is in no pause
-    pub pause_before : k < b.lo → false ≡ in_pause x ss k
+    pub pause_before : k < b.lo → leb b.lo k ≡ in_pause x ss k
     pause_before m = rw (told, lt-leb b.lo k m)
 
     -- from there on it is in one up to the upper bound

@@ -23,13 +23,15 @@ pub struct Candidate {
 }
 
 // Document 01's order of the reasons, as numbers.
-pub fn reason_number(reason: Reason) -> u32
-    ensures { result ≡ reason_number reason }
-{
-    match reason {
-        Reason::Silence => 0,
-        Reason::Quiet => 1,
-        Reason::Forced => 2,
+impl From<Reason> for u32 {
+    ghost from_gives = { λ r n. n ≡ reason_number r };
+
+    fn from(reason: Reason) -> u32 {
+        match reason {
+            Reason::Silence => 0,
+            Reason::Quiet => 1,
+            Reason::Forced => 2,
+        }
     }
 }
 
@@ -45,7 +47,8 @@ pub fn node(k: usize) -> Candidate
     }
 }
 
-// Of two candidates the cheaper, the earlier listed on equal cost.
+// Of two candidates the cheaper, the earlier listed on equal cost. Floats have no `Ord`: std's `min` is no plainer.
+#[tactic(auto, unfolding(crate::specs::Candidates::cheaper))]
 pub fn cheaper(earlier: Candidate, later: Candidate) -> Candidate
     ensures { result ≡ cheaper earlier later }
 {

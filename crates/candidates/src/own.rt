@@ -16,16 +16,12 @@ pub fn own(x: Context, silences: &[u32], levels: &[f64], i: usize) -> Candidate
 {
     let start = listed::start_at(silences, i);
     let end = listed::end_at(silences, i);
-    let gap = x.gap;
-    let placement = x.placement;
-    let weights = x.weights;
-    let padding = x.padding;
-    let c = cut::silence_cut(gap, placement, padding, levels, start, end);
+    let c = cut::silence_cut(x.gap, x.placement, x.padding, levels, start, end);
     let secs = stretch::secs_of(x.frame_secs, (end - start) as u32);
     Candidate {
         left: c.left,
         right: c.right,
-        cost: cost::cut_cost(weights, c.level, secs),
+        cost: cost::cut_cost(x.weights, c.level, secs),
         reason: Reason::Silence,
     }
 }

@@ -17,10 +17,6 @@ pub fn in_pause(x: Context, silences: &[u32], k: usize) -> bool
     }
     let start = listed::start_at(silences, i);
     let end = listed::end_at(silences, i);
-    let padding = x.padding;
-    let b = bounds::silence_bounds(padding, start, end);
-    if k < b.lo {
-        return false;
-    }
-    k <= b.hi
+    let b = bounds::silence_bounds(x.padding, start, end);
+    b.lo <= k && k <= b.hi
 }

@@ -17,9 +17,8 @@ fn point_reason(x: Context, silences: &[u32], levels: &[f64], k: usize) -> Reaso
     ensures { result ≡ point_reason x silences.now levels.now k }
 {
     if pause::in_pause(x, silences, k) {
-        return Reason::Silence;
-    }
-    if levels[k] <= QUIET_LEVEL {
+        Reason::Silence
+    } else if levels[k] <= QUIET_LEVEL {
         Reason::Quiet
     } else {
         Reason::Forced
@@ -34,11 +33,10 @@ pub fn point(x: Context, silences: &[u32], runs: &[u32], levels: &[f64], k: usiz
     ensures { result ≡ point_at x silences.now runs.now levels.now k }
 {
     let secs = stretch::secs_of(x.frame_secs, stretch::stretch_at(runs, k));
-    let weights = x.weights;
     Candidate {
         left: k,
         right: k,
-        cost: cost::cut_cost(weights, levels[k], secs),
+        cost: cost::cut_cost(x.weights, levels[k], secs),
         reason: point_reason(x, silences, levels, k),
     }
 }

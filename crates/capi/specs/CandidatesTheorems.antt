@@ -6,9 +6,8 @@ use Rattle.base_terms.specs.Work.{Work}
 use Rattle.grid.specs.declared.validate.Recording.{Recording}
 use Rattle.silence_list.specs.declared.config.SegmentConfig.{SegmentConfig}
 use Rattle.plan_settings.specs.declared.config.PlanConfig.{PlanConfig}
-use Rattle.candidate_list.specs.CandidateList.{Output, candidate_list_of}
+use Rattle.candidate_list.specs.CandidateList.{Answer, Output, candidate_list_of}
 use Rattle.candidate_list.specs.Theorems.{IsFound, CandidatesHanded, found-handed, number_zero}
-use Rattle.candidate_list.specs.declared.list.Answer.{Answer}
 use Rattle.handed_back.specs.Candidates.{found_after}
 use Rattle.capi.specs.Candidates.{ListCalled, list_called_of}
 

@@ -1,5 +1,5 @@
 -- What the number of the exported operation "path over lent candidates" means: 0 exactly where a path was found, which is then document 01's best path; and where 12 cannot come.
-use Rattle.std.specs.Prelude.{◌≡◌, ◌↔◌, List, ℕ, ◌≤◌, Float, length as listLength}
+use Rattle.std.specs.Prelude.{◌≡◌, ◌↔◌, List, Ok, ℕ, ◌≤◌, Float, length as listLength}
 use Rattle.base_terms.specs.Work.{Work}
 use Rattle.path_pieces.specs.declared.lengths.Lengths.{Lengths}
 use Rattle.path_pieces.specs.declared.mode.Mode.{Mode}
@@ -9,11 +9,10 @@ use Rattle.path_list.specs.Operation.{End, path_of}
 use Rattle.path_list.specs.Found.{FoundByLength, FoundByCount}
 use Rattle.path_list.specs.Theorems.{found-by_length, found-by_count, number_zero, number_short}
 use Rattle.path_list.specs.GivesLaws.{never_short}
-use Rattle.path_list.specs.declared.search.Answer.TheVariants.{Found}
 use Rattle.capi.specs.Paths.{PathCalled, path_called_of}
 
 -- 0 exactly where a path was found
-pub called_zero : (e : End) (length over : ℕ) (cost : Float) → ((path_called_of e length over cost).number ≡ 0) ↔ ((s : Solved) × (e.answer ≡ Found s))
+pub called_zero : (e : End) (length over : ℕ) (cost : Float) → ((path_called_of e length over cost).number ≡ 0) ↔ ((s : Solved) × (e.answer ≡ Ok s))
 unfolding path_called_of
 called_zero e length over cost = number_zero e.answer
 
@@ -22,7 +21,7 @@ abbrev pub solved_in : PathCalled → Solved
 solved_in p = record { score = record { over = p.over; cost = p.cost }; len = p.length }
 
 -- where a path was found they are the answer's
-pub solved_is : (e : End) (length over : ℕ) (cost : Float) (s : Solved) → e.answer ≡ Found s → s ≡ solved_in (path_called_of e length over cost)
+pub solved_is : (e : End) (length over : ℕ) (cost : Float) (s : Solved) → e.answer ≡ Ok s → s ≡ solved_in (path_called_of e length over cost)
 unfolding path_called_of
 solved_is e length over cost s q = rw q
 

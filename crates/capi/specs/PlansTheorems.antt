@@ -1,6 +1,6 @@
 -- From the number that C gets to what was handed out: 0 says that a plan was made, and the theorems on plans hold of it.
 -- The lengths that the header's functions name are enough: 14 and 12 do not come then.
-use Rattle.std.specs.Prelude.{◌≡◌, ◌↔◌, true, List, ℕ, ◌+◌, ◌*◌, ◌≤◌, min, Float, length}
+use Rattle.std.specs.Prelude.{◌≡◌, ◌↔◌, true, List, Ok, ℕ, ◌+◌, ◌*◌, ◌≤◌, min, Float, length}
 use Rattle.std.proofs.Common.{sym, ap, arith}
 use Rattle.std.proofs.Math.Path.{subst}
 use Rattle.std.proofs.Math.Logic.{inl, inr}
@@ -13,11 +13,9 @@ use Rattle.plan_settings.specs.declared.config.PlanConfig.{PlanConfig}
 use Rattle.plan_tests.specs.Fitting.{Fitting}
 use Rattle.plan_tests.specs.Refusal as tests
 use Rattle.plan_tests.specs.RefusalLaws.{never_work, never_output, number_most}
-use Rattle.plan_tests.specs.declared.refusal.Verdict.TheVariants.{Fine}
 use Rattle.plan_pieces.specs.AnswerLaws.{number-parent, number-output, answer_most}
 use Rattle.plan_pieces.specs.Output.{Output}
-use Rattle.plan_pieces.specs.declared.answer.Answer.{Answer}
-use Rattle.plan_pieces.specs.declared.answer.Answer.TheVariants.{Planned}
+use Rattle.plan_pieces.specs.Answer.{Answer}
 use Rattle.planner.specs.Operation.{plan_of}
 use Rattle.handed_back.specs.Plan.{pieces_after}
 use Rattle.plan_theorems.specs.Made.{HasRoom, Made}
@@ -39,7 +37,7 @@ module _ (r : Recording) (segment : SegmentConfig) (settings : PlanConfig) (valu
     called = plan_called_of (plan_of r segment settings values flags levels out work parent) before
 
     -- the number is 0 where a plan was made, and nowhere else
-    pub plan_called_zero : (called.number ≡ 0) ↔ ((k : ℕ) × ((plan_of r segment settings values flags levels out work parent).answer ≡ Planned k))
+    pub plan_called_zero : (called.number ≡ 0) ↔ ((k : ℕ) × ((plan_of r segment settings values flags levels out work parent).answer ≡ Ok k))
     unfolding plan_called_of
     plan_called_zero = (plan_ended r segment settings values flags levels out work parent).number
 
@@ -78,7 +76,7 @@ module _ (r : Recording) (segment : SegmentConfig) (settings : PlanConfig) (valu
         room = (pieces, omega (arith, cuts))
 
         -- a recording and settings that pass the tests up to 13 have a plan
-        pub plan_called_sure : tests.first_refusal_of r segment settings values flags levels (length work.u32s) (length work.u64s) (length work.f64s) ≡ Fine → called.number ≡ 0
+        pub plan_called_sure : tests.first_refusal_of r segment settings values flags levels (length work.u32s) (length work.u64s) (length work.f64s) ≡ Ok tt → called.number ≡ 0
         unfolding plan_called_of
         plan_called_sure fine = plan_called_zero.1 (plan_sure r segment settings values flags levels out work parent f parents room fine)
 

@@ -1,11 +1,10 @@
 -- What the number of the exported operation "silence list" means: 0 exactly where the list was made, which is then the recording's silences.
-use Rattle.std.specs.Prelude.{◌≡◌, ◌↔◌, List, ℕ, Float, length}
+use Rattle.std.specs.Prelude.{◌≡◌, ◌↔◌, List, Ok, ℕ, Float, length}
 use Rattle.base_terms.specs.Work.{Work}
 use Rattle.grid.specs.declared.validate.Recording.{Recording}
 use Rattle.silence_list.specs.Silences.{sounds_in, silence_list_of}
 use Rattle.silence_list.specs.Theorems.{ListsSilences, silences-found, list_zero}
 use Rattle.silence_list.specs.declared.config.SegmentConfig.{SegmentConfig}
-use Rattle.silence_list.specs.declared.list.Answer.TheVariants.{Found}
 use Rattle.capi.specs.Silences.{SilencesCalled, silences_called_of}
 
 module _ (r : Recording) (c : SegmentConfig) (values : List Float) (flags : List ℕ) (levels : List Float) (out : List ℕ) (work : Work) (count : ℕ) where
@@ -14,7 +13,7 @@ module _ (r : Recording) (c : SegmentConfig) (values : List Float) (flags : List
   called = silences_called_of (silence_list_of r c values flags levels out work) count
 
   -- 0 exactly where the list was made
-  pub silences_called_zero : (called.number ≡ 0) ↔ ((n : ℕ) × ((silence_list_of r c values flags levels out work).answer ≡ Found n))
+  pub silences_called_zero : (called.number ≡ 0) ↔ ((n : ℕ) × ((silence_list_of r c values flags levels out work).answer ≡ Ok n))
   unfolding silences_called_of
   silences_called_zero = list_zero r c values flags levels out work
 

@@ -5,9 +5,9 @@ ghost use Rattle.base_terms.specs.Work.{work_of};
 ghost use Rattle.kinds.specs.Flagged.{mode_of};
 ghost use Rattle.capi.specs.Paths.{lengths_of, path_called, path_called_of};
 
-use handed_back::path;
 use kinds::flagged;
 use path_list::operation;
+use path_pieces::ends::Ends;
 use path_pieces::lengths::Lengths;
 use path_pieces::weights;
 
@@ -51,8 +51,7 @@ pub fn buchawzer_path(
         weights: weights::length_weights(target_weight, short_weight),
     };
     let answer = operation::best_path(
-        left,
-        right,
+        &Ends { left, right },
         cost,
         lengths,
         flagged::mode_of(by_count, count),
@@ -62,8 +61,13 @@ pub fn buchawzer_path(
         parent,
         path,
     );
-    *length = path::length_after(answer, *length);
-    *over = path::over_after(answer, *over);
-    *score_cost = path::cost_after(answer, *score_cost);
-    operation::number(answer)
+    match answer {
+        Ok(solved) => {
+            *length = solved.len as u64;
+            *over = solved.score.over;
+            *score_cost = solved.score.cost;
+            0
+        }
+        Err(error) => u32::from(error),
+    }
 }

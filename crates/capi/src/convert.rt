@@ -1,4 +1,5 @@
-// Boundaries and durations. Outside document 01's limits a number is answered by 2^64 - 1, and a float by -1.
+// Boundaries and durations. Outside document 01's limits a number is answered by 2^64 - 1, and a float by -1,
+// markers that the C interface has.
 ghost use Rattle.std.specs.Prelude.{◌≡◌, ◌&&◌};
 ghost use Rattle.grid.specs.Boundary.{boundary_of, covers};
 ghost use Rattle.grid.specs.Durations.{frames_in, frames_ceil, frames_floor, samples_floor, samples_in};
@@ -11,39 +12,30 @@ use grid::{FrameGrid, durations, validate};
 const NO_NUMBER: u64 = 18_446_744_073_709_551_615;
 
 // Whether a duration has a number of frames.
+#[tactic(auto, unfolding(crate::specs::Grid::frames_args))]
 fn frames_args(frame_rate: u32, hop: u32, nanos: u64) -> bool
     ensures { result ≡ frames_args frame_rate hop nanos }
 {
-    if !validate::frame_step_ok(frame_rate, hop) {
-        return false;
-    }
-    durations::duration_ok(nanos)
+    validate::frame_step_ok(frame_rate, hop) && durations::duration_ok(nanos)
 }
 
 // Whether a duration has a number of samples.
+#[tactic(auto, unfolding(crate::specs::Grid::samples_args))]
 fn samples_args(sample_rate: u32, nanos: u64) -> bool
     ensures { result ≡ samples_args sample_rate nanos }
 {
-    if !validate::rate_ok(sample_rate) {
-        return false;
-    }
-    durations::duration_ok(nanos)
+    validate::rate_ok(sample_rate) && durations::duration_ok(nanos)
 }
 
 // Whether a grid has boundaries.
+#[tactic(auto, unfolding(crate::specs::Grid::grid_args))]
 fn grid_args(g: FrameGrid) -> bool
     ensures { result ≡ grid_args g }
 {
-    if !validate::rate_ok(g.sample_rate) {
-        return false;
-    }
-    if !validate::frame_step_ok(g.frame_rate, g.hop) {
-        return false;
-    }
-    if validate::MAX_FRAMES < g.frames {
-        return false;
-    }
-    g.len <= validate::MAX_LEN
+    validate::rate_ok(g.sample_rate)
+        && validate::frame_step_ok(g.frame_rate, g.hop)
+        && g.frames <= validate::MAX_FRAMES
+        && g.len <= validate::MAX_LEN
 }
 
 // Boundary k of the grid with these numbers.
@@ -65,80 +57,89 @@ pub fn buchawzer_boundary(
         len,
         frames,
     };
-    if !grid_args(g) {
-        return NO_NUMBER;
+    if grid_args(g) {
+        g.position(k)
+    } else {
+        NO_NUMBER
     }
-    g.position(k)
 }
 
-// A duration in whole frames, rounded half up.
+// A duration in whole frames, rounded half up. The three ways of rounding stay three functions: each is an export that C
+// names, and one body with the way as a closure would need a `requires` for it.
 pub fn buchawzer_frames_in(frame_rate: u32, hop: u32, nanos: u64) -> u64
     ensures { result ≡ number_if (frames_args frame_rate hop nanos) (frames_in frame_rate hop nanos) }
 {
-    if !frames_args(frame_rate, hop, nanos) {
-        return NO_NUMBER;
+    if frames_args(frame_rate, hop, nanos) {
+        durations::frames_in(frame_rate, hop, nanos)
+    } else {
+        NO_NUMBER
     }
-    durations::frames_in(frame_rate, hop, nanos)
 }
 
 // A duration in whole frames, rounded up.
 pub fn buchawzer_frames_ceil(frame_rate: u32, hop: u32, nanos: u64) -> u64
     ensures { result ≡ number_if (frames_args frame_rate hop nanos) (frames_ceil frame_rate hop nanos) }
 {
-    if !frames_args(frame_rate, hop, nanos) {
-        return NO_NUMBER;
+    if frames_args(frame_rate, hop, nanos) {
+        durations::frames_ceil(frame_rate, hop, nanos)
+    } else {
+        NO_NUMBER
     }
-    durations::frames_ceil(frame_rate, hop, nanos)
 }
 
 // A duration in whole frames, rounded down.
 pub fn buchawzer_frames_floor(frame_rate: u32, hop: u32, nanos: u64) -> u64
     ensures { result ≡ number_if (frames_args frame_rate hop nanos) (frames_floor frame_rate hop nanos) }
 {
-    if !frames_args(frame_rate, hop, nanos) {
-        return NO_NUMBER;
+    if frames_args(frame_rate, hop, nanos) {
+        durations::frames_floor(frame_rate, hop, nanos)
+    } else {
+        NO_NUMBER
     }
-    durations::frames_floor(frame_rate, hop, nanos)
 }
 
 // A duration in whole samples, rounded down.
 pub fn buchawzer_samples_floor(sample_rate: u32, nanos: u64) -> u64
     ensures { result ≡ number_if (samples_args sample_rate nanos) (samples_floor sample_rate nanos) }
 {
-    if !samples_args(sample_rate, nanos) {
-        return NO_NUMBER;
+    if samples_args(sample_rate, nanos) {
+        durations::samples_floor(sample_rate, nanos)
+    } else {
+        NO_NUMBER
     }
-    durations::samples_floor(sample_rate, nanos)
 }
 
 // A duration in samples as a float.
 pub fn buchawzer_samples_in(sample_rate: u32, nanos: u64) -> f64
     ensures { result ≡ float_if (samples_args sample_rate nanos) (samples_in sample_rate nanos) }
 {
-    if !samples_args(sample_rate, nanos) {
-        return -1.0;
+    if samples_args(sample_rate, nanos) {
+        durations::samples_in(sample_rate, nanos)
+    } else {
+        -1.0
     }
-    durations::samples_in(sample_rate, nanos)
 }
 
 // A duration in seconds.
 pub fn buchawzer_seconds(nanos: u64) -> f64
     ensures { result ≡ float_if (samples_args 1 nanos) (seconds_of nanos) }
 {
-    if !samples_args(1, nanos) {
-        return -1.0;
+    if samples_args(1, nanos) {
+        durations::as_secs_f64(nanos)
+    } else {
+        -1.0
     }
-    durations::as_secs_f64(nanos)
 }
 
 // One frame in seconds.
 pub fn buchawzer_frame_secs(frame_rate: u32, hop: u32) -> f64
     ensures { result ≡ float_if (frames_args frame_rate hop 0) (frame_secs_of frame_rate hop) }
 {
-    if !frames_args(frame_rate, hop, 0) {
-        return -1.0;
+    if frames_args(frame_rate, hop, 0) {
+        durations::frame_secs(frame_rate, hop)
+    } else {
+        -1.0
     }
-    durations::frame_secs(frame_rate, hop)
 }
 
 // Whether the frames cover the length; no grid outside the limits does.
@@ -159,8 +160,5 @@ pub fn buchawzer_covers(
         len,
         frames,
     };
-    if !grid_args(g) {
-        return false;
-    }
-    g.covered()
+    grid_args(g) && g.covered()
 }

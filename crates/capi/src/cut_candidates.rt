@@ -12,7 +12,7 @@ ghost use Rattle.capi.specs.Candidates.{list_called, list_called_of};
 
 use crate::{recording, settings, silences};
 use candidate_list::list;
-use handed_back::cut_candidates;
+use grid::Readings;
 
 // 0 where the list was made, and else document 01's number.
 // Candidate i has its left boundary at ends[3 i], its right boundary at ends[3 i + 1],
@@ -91,9 +91,19 @@ pub fn buchawzer_candidates(
         ratio,
         weights,
     );
+    let readings = Readings {
+        values,
+        flags,
+        levels,
+    };
     let answer = list::candidate_list(
-        r, segment, plan, values, flags, levels, work_u32, work_u64, work_f64, ends, costs,
+        r, segment, plan, &readings, work_u32, work_u64, work_f64, ends, costs,
     );
-    *found = cut_candidates::found_after(answer, *found);
-    list::number(answer)
+    match answer {
+        Ok(candidates) => {
+            *found = candidates as u64;
+            0
+        }
+        Err(error) => u32::from(error),
+    }
 }

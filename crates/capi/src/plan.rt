@@ -10,8 +10,7 @@ ghost use Rattle.capi.specs.Settings.{weights_of, plan_config_of};
 ghost use Rattle.capi.specs.Plans.{plan_called, plan_called_of};
 
 use crate::{recording, settings, silences};
-use handed_back::plan;
-use plan_pieces::answer;
+use grid::Readings;
 use planner::operation;
 
 // 0 where the plan was made, and else document 01's number.
@@ -95,9 +94,19 @@ pub fn buchawzer_plan(
         ratio,
         weights,
     );
+    let readings = Readings {
+        values,
+        flags,
+        levels,
+    };
     let answer = operation::plan(
-        r, segment, plan, values, flags, levels, work_u32, work_u64, work_f64, parent, pieces, cuts,
+        r, segment, plan, &readings, work_u32, work_u64, work_f64, parent, pieces, cuts,
     );
-    *found = plan::pieces_after(answer, *found);
-    answer::number(answer)
+    match answer {
+        Ok(pieces) => {
+            *found = pieces as u64;
+            0
+        }
+        Err(error) => u32::from(error),
+    }
 }

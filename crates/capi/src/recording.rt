@@ -5,6 +5,7 @@ ghost use Rattle.grid.specs.Values.{is_flag};
 ghost use Rattle.grid.specs.Validate.{validity_of, refusal_of};
 ghost use Rattle.capi.specs.Grid.{recording_of};
 
+use grid::Readings;
 use grid::validate::Recording;
 use kinds::flagged;
 
@@ -45,7 +46,15 @@ pub fn buchawzer_validate(
         values.now flags.now levels.now) }
 {
     let r = recording_of(sample_rate, channels, frame_rate, hop, len, decibels);
-    grid::validate::refusal(r.validate(values, flags, levels))
+    let readings = Readings {
+        values,
+        flags,
+        levels,
+    };
+    match r.validate(&readings) {
+        Ok(()) => 0,
+        Err(refusal) => u32::from(refusal),
+    }
 }
 
 // Whether each flag byte is 0 or 1, as test 5 asks it of decibels: by itself, for the benchmark.

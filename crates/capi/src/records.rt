@@ -7,7 +7,7 @@ ghost use Rattle.plan_records.specs.Cuts.{cut_of};
 
 use plan_records::cuts::Cut;
 use plan_records::pieces::Piece;
-use plan_records::{cuts, pieces};
+use plan_records::records;
 
 // Writes a record for each piece to the front of `records`: 0, or 12 and nothing is written
 // where the list is too short.
@@ -18,16 +18,7 @@ pub fn buchawzer_piece_records(numbers: &[u64], records: &mut [Piece]) -> u32
     ensures { records_end result records.new
         ≡ records_end_of piece_of numbers.now records.old }
 {
-    let count = numbers.len() / 3;
-    if records.len() < count {
-        return 12;
-    }
-    let mut i: usize = 0;
-    while i < count {
-        records[i] = pieces::piece_at(numbers, i);
-        i += 1;
-    }
-    0
+    records::write_records(numbers, records)
 }
 
 // The same of cuts: the first 3 (n - 1) numbers of `buchawzer_plan`'s cuts.
@@ -35,14 +26,5 @@ pub fn buchawzer_cut_records(numbers: &[u64], records: &mut [Cut]) -> u32
     ensures { records_end result records.new
         ≡ records_end_of cut_of numbers.now records.old }
 {
-    let count = numbers.len() / 3;
-    if records.len() < count {
-        return 12;
-    }
-    let mut i: usize = 0;
-    while i < count {
-        records[i] = cuts::cut_at(numbers, i);
-        i += 1;
-    }
-    0
+    records::write_records(numbers, records)
 }

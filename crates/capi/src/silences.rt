@@ -6,7 +6,7 @@ ghost use Rattle.capi.specs.Grid.{recording_of};
 ghost use Rattle.capi.specs.Silences.{segment_of, silences_called, silences_called_of};
 
 use crate::recording;
-use handed_back::silences;
+use grid::Readings;
 use kinds::numbered;
 use silence_list::config::SegmentConfig;
 use silence_list::list;
@@ -66,9 +66,16 @@ pub fn buchawzer_silence_list(
 {
     let r = recording::recording_of(sample_rate, channels, frame_rate, hop, len, decibels);
     let c = segment_of(threshold_kind, threshold, min_silence, min_sound, pre, tail);
-    let answer = list::silence_list(
-        r, c, values, flags, levels, work_u32, work_u64, work_f64, out,
-    );
-    *count = silences::count_after(answer, *count);
-    list::number(answer)
+    let readings = Readings {
+        values,
+        flags,
+        levels,
+    };
+    match list::silence_list(r, c, &readings, work_u32, work_u64, work_f64, out) {
+        Ok(silences) => {
+            *count = silences as u64;
+            0
+        }
+        Err(error) => u32::from(error),
+    }
 }

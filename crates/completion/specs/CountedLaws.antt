@@ -1,7 +1,7 @@
 -- Places stand a kept frame apart, so the place with j kept frames before it starts j boundaries after the span's first, moved on by the gaps between.
 use Rattle.std.specs.Prelude.{◌≡◌, ◌⊎◌, Bool, ◌&&◌, ℕ, zero, suc, ◌+◌, ◌-◌, ◌*◌, ◌≤◌, ◌<◌, ltb, length, get_or, drop}
 use Rattle.std.proofs.Math.Path.{refl, ap}
-use Rattle.std.proofs.Common.{sym, ◌∙◌, inl, inr, drop-cons}
+use Rattle.std.proofs.Common.{sym, subst, ◌∙◌, inl, inr, drop-cons}
 use Rattle.std.proofs.Math.Bool.{true, false, cond}
 use mathlib.Core.List.{List, [], ◌∷◌}
 use native.Mathlib.Omega.{arith}
@@ -209,6 +209,12 @@ module _ (p : Padding) (ss : List ℕ) (at i removed : ℕ) (c : Counting Drop p
   counted_all h =
       c.moved at (omega arith)
       ∙ ap (λ (gs : List Cut). moved_on gs (at + removed)) (no_pair p (drop (2 * i) ss) (omega (arith, c.within, h, length-drop (2 * i) ss)))
+
+  -- and with all silences passed the boundary is moved on by what was removed
+  pub counted_none : silence_count ss ≤ i → Counted Drop p ss at (record { silences = silence_count ss; removed = removed })
+  counted_none h =
+      subst (λ (j : ℕ). Counted Drop p ss at (record { silences = j; removed = removed })) (omega (arith, c.within, h))
+      (record { counting = c; here = counted_all h })
 
   module _ (here : i < silence_count ss) (start end : ℕ) (begins : start ≡ start_at ss i) (stops : end ≡ end_at ss i) where
     rest : drop (2 * i) ss ≡ start ∷ (end ∷ drop (2 * (i + 1)) ss)

@@ -18,6 +18,8 @@ use Rattle.completion_reach.specs.declared.next.Next.{Next}
 use Rattle.completion_reach.specs.declared.next.Next.TheVariants.{Whole, Stuck, To}
 use Rattle.completion_reach.specs.GroundLaws.{Founded}
 use Rattle.completion_reach.specs.Next.{next_cut_of}
+use Rattle.completion_reach.specs.declared.place.HeldCut.{HeldCut}
+use Rattle.completion_reach.specs.Place.{cut_held}
 use Rattle.completion_reach.specs.NextLaws.{Stepped, next_stepped}
 use Rattle.completion_reach.specs.Cuts.{cutting, greedy_cuts_from, cuts_of, mark_cut, marking}
 
@@ -108,32 +110,32 @@ module _ (x : Ground) (base pieces limit : ℕ) (work₀ : List ℕ) (room : Mar
       unfolding marking
       walking_stuck e = ap (λ (ks : List Cut). marking base ks work) (sym (more ∙ ap (λ (t : Next). cutting t (greedy_cuts_from x.grid span limit (n - 1))) e)) ∙ w.ahead
 
-      module _ (l r : ℕ) (e : next ≡ To l r) where
-        place : Place span (record { left = l; right = r })
+      module _ (c : HeldCut) (e : next ≡ To c) where
+        place : Place span (cut_held c)
         place =
             (subst (Stepped x.grid span limit a) (sym step ∙ e)
             (next_stepped x.grid room.founded.accepted span room.founded.spread limit a w.stands.from w.stands.to w.stands.start)).1.place
 
-        inside : (span.first < l) × (l ≤ r) × (r < span.last)
-        inside = place_inside span room.founded.spread (record { left = l; right = r }) place
+        inside : (span.first < c.left) × (c.left ≤ c.right) × (c.right < span.last)
+        inside = place_inside span room.founded.spread (cut_held c) place
 
         -- a step to a cut: there is room for its mark
-        pub walking_room : base + l < length work
+        pub walking_room : base + c.left < length work
         walking_room = omega (arith, inside.1, inside.2, room.room, w.size)
 
         -- and with it the marks from its right end on are ahead
-        pub walking_to : (work' : List ℕ) → work' ≡ mark_cut base (record { left = l; right = r }) work → MarkedUpTo x base pieces limit work₀ r (n - 1) work'
+        pub walking_to : (work' : List ℕ) → work' ≡ mark_cut base (cut_held c) work → MarkedUpTo x base pieces limit work₀ c.right (n - 1) work'
         unfolding marking
         walking_to work' q =
             record {
               stands = record {
                 from = omega (arith, inside.0, inside.1);
                 to = inside.2;
-                start = start_right x.grid room.founded.accepted span room.founded.spread (record { left = l; right = r }) place;
+                start = start_right x.grid room.founded.accepted span room.founded.spread (cut_held c) place;
               };
-              same = ap (take (2 * x.span.silences)) q ∙ mark_stays base (2 * x.span.silences) (record { left = l; right = r }) work room.apart ∙ w.same;
-              size = ap length q ∙ mark_length base (record { left = l; right = r }) work ∙ w.size;
+              same = ap (take (2 * x.span.silences)) q ∙ mark_stays base (2 * x.span.silences) (cut_held c) work room.apart ∙ w.same;
+              size = ap length q ∙ mark_length base (cut_held c) work ∙ w.size;
               ahead =
-                  ap (marking base (greedy_cuts_from x.grid span limit (n - 1) r)) q
+                  ap (marking base (greedy_cuts_from x.grid span limit (n - 1) c.right)) q
                   ∙ ap (λ (ks : List Cut). marking base ks work) (sym (more ∙ ap (λ (t : Next). cutting t (greedy_cuts_from x.grid span limit (n - 1))) e)) ∙ w.ahead;
             }

@@ -8,7 +8,7 @@ ghost use Rattle.completion.specs.Complete.{bridges_of};
 ghost use Rattle.completion.specs.CompleteLaws.{Completable};
 
 use crate::far;
-use base_code::sizes;
+use completion_reach::place::HeldCut;
 use completion_reach::reachable;
 use grid::FrameGrid;
 
@@ -20,13 +20,18 @@ pub fn bridge(g: FrameGrid, base: usize, from: usize, end: usize, limit: u64, wo
 {
     let stop = g.position(end);
     let mut at = from;
+    // A `while`: how far a turn goes is what it finds, so no range counts the turns.
     while limit < stop - g.position(at) {
         // A frame longer than the limit cannot be split; it stays a piece of its own.
-        let next = sizes::larger(reachable::reachable(g, at, end, limit), at + 1);
+        let next = reachable::reachable(g, at, end, limit).max(at + 1);
         if next == end {
             return;
         }
-        far::mark_cut(base, next, next, &mut *work);
+        let cut = HeldCut {
+            left: next,
+            right: next,
+        };
+        far::mark_cut(base, cut, work);
         at = next;
     }
 }
@@ -45,11 +50,9 @@ pub fn complete_max(
     ensures { work.new
         ≡ marking base (bridges_of g limit entries work.old steps) work.old }
 {
-    let mut i = 0;
-    while i < steps {
+    for i in 0..steps {
         let from = work[entries + 3 * i + 1] as usize;
         let end = work[entries + 3 * i + 3] as usize;
-        bridge(g, base, from, end, limit, &mut *work);
-        i += 1;
+        bridge(g, base, from, end, limit, work);
     }
 }

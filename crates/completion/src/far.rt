@@ -2,20 +2,22 @@
 ghost use Rattle.std.specs.Prelude.{◌≡◌, ◌+◌, ◌*◌, ◌<◌, length, take};
 ghost use Rattle.candidate_span.specs.Span.{span_in};
 ghost use Rattle.completion_reach.specs.Cuts.{cuts_of, mark_cut, marking};
+ghost use Rattle.completion_reach.specs.Place.{cut_held};
 ghost use Rattle.completion.specs.CutsLaws.{MarkRoom};
 
 use completion_reach::ground::Ground;
 use completion_reach::next;
 use completion_reach::next::Next;
+use completion_reach::place::HeldCut;
 
-// Marks a cut from boundary `left` to boundary `right`, if it is at one boundary.
+// Marks a cut, if it is at one boundary.
 // A gap is a candidate already, and a point at its left end would compete with it.
-pub fn mark_cut(base: usize, left: usize, right: usize, work: &mut [u32])
-    requires { base + left < length work.old }
-    ensures { work.new ≡ mark_cut base (record { left = left; right = right }) work.old }
+pub fn mark_cut(base: usize, cut: HeldCut, work: &mut [u32])
+    requires { base + cut.left < length work.old }
+    ensures { work.new ≡ mark_cut base (cut_held cut) work.old }
 {
-    if left == right {
-        work[base + left] = 1;
+    if cut.left == cut.right {
+        work[base + cut.left] = 1;
     }
 }
 
@@ -28,16 +30,12 @@ pub fn mark_far(x: Ground, base: usize, pieces: usize, limit: u64, work: &mut [u
         limit pieces) work.old }
 {
     let mut at = x.span.first;
-    let mut left = pieces;
-    while 0 < left {
-        let step = next::next_cut(x, &work[..2 * x.span.silences], at, limit);
-        match step {
-            Next::Whole => return,
-            Next::Stuck => return,
-            Next::To(end, start) => {
-                mark_cut(base, end, start, &mut *work);
-                at = start;
-                left -= 1;
+    for _ in 0..pieces {
+        match next::next_cut(x, &work[..2 * x.span.silences], at, limit) {
+            Next::Whole | Next::Stuck => return,
+            Next::To(cut) => {
+                mark_cut(base, cut, work);
+                at = cut.right;
             }
         }
     }

@@ -29,11 +29,7 @@ pub struct Passed {
 fn is_ahead(p: Padding, start: usize, end: usize, k: usize) -> bool
     ensures { result ≡ is_ahead p start end k }
 {
-    if kept::gap_width(p, start, end) == 0 {
-        return false;
-    }
-    let b = bounds::silence_bounds(p, start, end);
-    k <= b.lo
+    kept::gap_width(p, start, end) != 0 && k <= bounds::silence_bounds(p, start, end).lo
 }
 
 // Passes the gaps that start before boundary `at`, counted over kept frames alone: each moves it on.
@@ -42,23 +38,21 @@ fn pass_gaps(p: Padding, silences: &[u32], at: usize, passed: Passed) -> Passed
     requires silences_bound { at + dropped (gaps_of Drop p silences.now) ≤ max_frames }
     ensures { Counted Drop p silences.now at result }
 {
-    let mut i = passed.silences;
     let mut removed = passed.removed;
-    while i < silences.len() / 2 {
+    for i in passed.silences..silences.len() / 2 {
         let start = listed::start_at(silences, i);
         let end = listed::end_at(silences, i);
         if is_ahead(p, start, end, at + removed) {
             return Passed {
                 silences: i,
-                removed: removed,
+                removed,
             };
         }
         removed += kept::gap_width(p, start, end);
-        i += 1;
     }
     Passed {
-        silences: i,
-        removed: removed,
+        silences: silences.len() / 2,
+        removed,
     }
 }
 
@@ -86,11 +80,9 @@ fn share_cut(x: Ground, silences: &[u32], at: usize, passed: Passed) -> Share
     requires { Partable x silences.now at passed }
     ensures { Parted x silences.now at result }
 {
-    let gap = x.gap;
-    let now = pass(gap, x.padding, silences, at, passed);
-    let k = at + now.removed;
+    let now = pass(x.gap, x.padding, silences, at, passed);
     Share {
-        cut: place::place_at(x, silences, k),
+        cut: place::place_at(x, silences, at + now.removed),
         passed: now,
     }
 }
@@ -108,13 +100,10 @@ pub fn mark_shares(x: Ground, base: usize, frames: usize, pieces: usize, work: &
         silences: 0,
         removed: 0,
     };
-    let mut i: usize = 1;
-    while i < pieces {
+    for i in 1..pieces {
         let at = x.span.first + i * frames / pieces;
         let share = share_cut(x, &work[..2 * x.span.silences], at, passed);
-        let cut = share.cut;
-        far::mark_cut(base, cut.left, cut.right, &mut *work);
+        far::mark_cut(base, share.cut, work);
         passed = share.passed;
-        i += 1;
     }
 }

@@ -6,12 +6,13 @@ use Rattle.candidate_span.specs.Span.{Span}
 use Rattle.completion_reach.specs.declared.next.Next.{Next}
 use Rattle.completion_reach.specs.declared.next.Next.TheVariants.{Whole, Stuck, To}
 use Rattle.completion_reach.specs.Next.{next_cut_of}
+use Rattle.completion_reach.specs.Place.{cut_held}
 
 -- the cut that a step makes, and those that follow from the boundary that it leads to
 abbrev pub cutting : Next → (ℕ → List Cut) → List Cut
 cutting Whole f = []
 cutting Stuck f = []
-cutting (To l r) f = record { left = l; right = r } ∷ f r
+cutting (To c) f = cut_held c ∷ f c.right
 
 -- the cuts from boundary a on, of n pieces at most
 unfoldable pub greedy_cuts_from : FrameGrid → Span → ℕ → ℕ → ℕ → List Cut

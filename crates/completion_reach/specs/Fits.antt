@@ -10,7 +10,7 @@ use Rattle.completion_reach.specs.Next.{next_cut_of}
 abbrev pub onward : Next → (ℕ → Bool) → Bool
 onward Whole f = true
 onward Stuck f = false
-onward (To l r) f = f r
+onward (To c) f = f c.right
 
 -- whether it has n pieces at most from boundary a on
 unfoldable pub fits_from : FrameGrid → Span → ℕ → ℕ → ℕ → Bool

@@ -25,6 +25,8 @@ use Rattle.completion_reach.specs.declared.next.Next.{Next}
 use Rattle.completion_reach.specs.declared.next.Next.TheVariants.{Whole, Stuck, To}
 use Rattle.completion_reach.specs.Next.{next_cut_of}
 use Rattle.completion_reach.specs.NextLaws.{Stepped, next_stepped}
+use Rattle.completion_reach.specs.declared.place.HeldCut.{HeldCut}
+use Rattle.completion_reach.specs.Place.{cut_held}
 use Rattle.completion_reach.specs.Cuts.{cutting, greedy_cuts_from, cuts_of}
 use Rattle.completion_reach.specs.Fits.{onward, fits_from, fits_of}
 
@@ -43,8 +45,8 @@ module _ (g : FrameGrid) (s : Span) (limit n a : ℕ) (some : 0 < n) (next : Nex
   pub fits_stuck : next ≡ Stuck → fits_from g s limit n a ≡ false
   fits_stuck e = more ∙ ap (λ (t : Next). onward t (fits_from g s limit (n - 1))) e
 
-  pub fits-to : (l r : ℕ) → next ≡ To l r → fits_from g s limit n a ≡ fits_from g s limit (n - 1) r
-  fits-to l r e = more ∙ ap (λ (t : Next). onward t (fits_from g s limit (n - 1))) e
+  pub fits-to : (c : HeldCut) → next ≡ To c → fits_from g s limit n a ≡ fits_from g s limit (n - 1) c.right
+  fits-to c e = more ∙ ap (λ (t : Next). onward t (fits_from g s limit (n - 1))) e
 
 pub fits-none : (g : FrameGrid) (s : Span) (limit n a : ℕ) → n ≤ 0 → fits_from g s limit n a ≡ false
 unfolding fits_from
@@ -66,9 +68,9 @@ module _ (g : FrameGrid) (ok : Accepted g) (s : Span) (spread : Spread s.first s
           → GreedyFrom g s limit a (cutting t (greedy_cuts_from g s limit n)) × (length (cutting t (greedy_cuts_from g s limit n)) < suc n)
       go Whole p h rest = (p, omega arith)
       go Stuck p h rest = unmet h
-      go (To l r) p h rest =
-          let i = place_inside s spread (record { left = l; right = r }) p.1.place in
-          let t = rest r (omega (arith, i.0, i.1)) i.2 (start_right g ok s spread (record { left = l; right = r }) p.1.place) h in
+      go (To c) p h rest =
+          let i = place_inside s spread (cut_held c) p.1.place in
+          let t = rest c.right (omega (arith, i.0, i.1)) i.2 (start_right g ok s spread (cut_held c) p.1.place) h in
           ((p.0, p.1, t.0), omega (arith, t.1))
 
   fits_from_lem : (n a : ℕ) (ks : List Cut) → s.first ≤ a → a < s.last → MayBegin s a → GreedyFrom g s limit a ks → length ks < n → fits_from g s limit n a ≡ true
@@ -79,7 +81,7 @@ module _ (g : FrameGrid) (ok : Accepted g) (s : Span) (spread : Spread s.first s
       go : (t : Next) → Stepped g s limit a t → onward t (fits_from g s limit n) ≡ true
       go Whole p = refl
       go Stuck p = absurd (omega (arith, far, p.0))
-      go (To l r) p = absurd (omega (arith, far, p.0))
+      go (To c) p = absurd (omega (arith, far, p.0))
   fits_from_lem (suc n) a (k ∷ ks) from to start far h =
       go (next_cut_of g s limit a) (next_stepped g ok s spread limit a from to start)
       (fits_from_lem n k.right ks (omega (arith, inside.0, inside.1)) inside.2 (start_right g ok s spread k far.1.place) far.2 (omega arith))
@@ -90,8 +92,8 @@ module _ (g : FrameGrid) (ok : Accepted g) (s : Span) (spread : Spread s.first s
       go : (t : Next) → Stepped g s limit a t → fits_from g s limit n k.right ≡ true → onward t (fits_from g s limit n) ≡ true
       go Whole p e = absurd (omega (arith, far.0, p))
       go Stuck p e = absurd (omega (arith, far.1.within, p.1 k far.1.place far.1.after))
-      go (To l r) p e =
-          ap (λ (c : Cut). fits_from g s limit n c.right) (farthest_one g ok s spread limit a (record { left = l; right = r }) k p.1 far.1) ∙ e
+      go (To c) p e =
+          ap (λ (j : Cut). fits_from g s limit n j.right) (farthest_one g ok s spread limit a (cut_held c) k p.1 far.1) ∙ e
 
   whole : s.first < s.last
   whole = spread_ends s.first s.gaps s.last spread

@@ -6,11 +6,11 @@ use Rattle.candidate_span.specs.Span.{Span}
 use Rattle.completion_reach.specs.declared.next.Next.{Next}
 use Rattle.completion_reach.specs.declared.next.Next.TheVariants.{Whole, Stuck, To}
 use Rattle.completion_reach.specs.Reachable.{reachable_of}
-use Rattle.completion_reach.specs.Place.{place_at}
+use Rattle.completion_reach.specs.Place.{place_at, held_cut}
 
 -- the piece ends at a cut
 abbrev pub to_cut : Cut → Next
-to_cut k = To k.left k.right
+to_cut k = To (held_cut k)
 
 -- from boundary a, where a piece reaches boundary k
 unfoldable pub next_at : Span → ℕ → ℕ → Next

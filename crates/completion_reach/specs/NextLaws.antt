@@ -19,7 +19,7 @@ use Rattle.completion_reach.specs.declared.next.Next.TheVariants.{Whole, Stuck, 
 use Rattle.completion_reach.specs.Reachable.{reachable_of}
 use Rattle.completion_reach.specs.ReachableLaws.{Reached, reached}
 use Rattle.completion_reach.specs.declared.place.HeldCut.{HeldCut}
-use Rattle.completion_reach.specs.Place.{place_at, held_cut}
+use Rattle.completion_reach.specs.Place.{place_at, held_cut, cut_held}
 use Rattle.completion_reach.specs.PlaceLaws.{Standing, held, free, standing}
 use Rattle.completion_reach.specs.Next.{to_cut, next_at, next_cut_of}
 
@@ -34,9 +34,9 @@ module _ (g : FrameGrid) (s : Span) (limit a k : ℕ) (is : k ≡ reachable_of g
   unfolding next_at
   next_stuck d e = rw (← is, ne_eqb k s.last d, eq-eqb k a e)
 
-  pub next_to : (k ≡ s.last → ⊥) → (k ≡ a → ⊥) → (c : HeldCut) → c ≡ held_cut (place_at s.gaps k) → To c.left c.right ≡ next_cut_of g s limit a
+  pub next_to : (k ≡ s.last → ⊥) → (k ≡ a → ⊥) → (c : HeldCut) → c ≡ held_cut (place_at s.gaps k) → To c ≡ next_cut_of g s limit a
   unfolding next_at
-  next_to d d' c e = rw (← is, ne_eqb k s.last d, ne_eqb k a d') (ap (λ (t : HeldCut). To t.left t.right) e)
+  next_to d d' c e = rw (← is, ne_eqb k s.last d, ne_eqb k a d') (ap (λ (t : HeldCut). To t) e)
 
 -- ---- what the step is
 
@@ -44,7 +44,7 @@ module _ (g : FrameGrid) (s : Span) (limit a k : ℕ) (is : k ≡ reachable_of g
 abbrev pub Stepped : FrameGrid → Span → ℕ → ℕ → Next → Type 0
 Stepped g s limit a Whole = length_of g (piece_from a s.last) ≤ limit
 Stepped g s limit a Stuck = (limit < length_of g (piece_from a s.last)) × NoneWithin g s limit a
-Stepped g s limit a (To l r) = (limit < length_of g (piece_from a s.last)) × Farthest g s limit a (record { left = l; right = r })
+Stepped g s limit a (To c) = (limit < length_of g (piece_from a s.last)) × Farthest g s limit a (cut_held c)
 
 module _ (g : FrameGrid) (ok : Accepted g) (s : Span) (spread : Spread s.first s.gaps s.last) (limit a k : ℕ)
     (from : s.first ≤ a) (to : a < s.last) (start : MayBegin s a) (r : Reached g limit a (s.last - a) k) where

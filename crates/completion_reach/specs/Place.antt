@@ -22,3 +22,7 @@ is_held p start end k = is_gap p start end && (leb (low_of p start) k && leb k (
 -- a cut as code holds it
 abbrev pub held_cut : Cut → HeldCut
 held_cut k = record { left = k.left; right = k.right }
+
+-- and what it holds, as a cut
+abbrev pub cut_held : HeldCut → Cut
+cut_held c = record { left = c.left; right = c.right }

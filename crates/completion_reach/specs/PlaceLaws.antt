@@ -1,11 +1,11 @@
 -- Of all silences only the first that does not end before a boundary can hold it in its gap.
-use Rattle.std.specs.Prelude.{◌≡◌, refl, ◌⊎◌, Bool, false, ◌&&◌, ℕ, ◌≤◌, ◌<◌}
+use Rattle.std.specs.Prelude.{◌≡◌, refl, ◌⊎◌, Bool, false, ◌&&◌, ℕ, ◌≤◌, ◌<◌, not, eqb, ltb}
 use Rattle.std.proofs.Common.{sym, ap, subst, ◌∙◌, inl, inr, arith}
 use Rattle.std.proofs.Math.Bool.{true}
 use mathlib.Core.List.Memᴰ
 use mathlib.Core.List.{List, [], ◌∷◌, Memᴰ}
 use Rattle.std.proofs.Math.Dec.{leb}
-use borrow.Author.Tests.{leb-true, leb-false, le-leb, lt-leb, lt-ltb, le-ltb, eq-eqb, ne_eqb}
+use borrow.Author.Tests.{leb-true, leb-false, le-leb}
 use Rattle.base_laws.specs.Tests.{both, lt_or_le, unmet}
 use Rattle.plan_settings.specs.declared.config.Gap.TheVariants.{Keep, Drop}
 use Rattle.candidate_span.specs.declared.bounds.Bounds.{Bounds}
@@ -58,37 +58,18 @@ standing (g ∷ gs) k = go (holds_boundary g k) refl (standing gs k)
 -- ---- whether the gap of one silence holds boundary k
 
 module _ (p : Padding) (start end k : ℕ) where
-  pub held_leading : start ≡ 0 → false ≡ is_held p start end k
+  -- its tests in the order in which code makes them
+  pub held_tests : (b : Bounds) → b ≡ bounds_of p start end
+      → is_held p start end k ≡ ((((not (eqb start 0) && not (eqb end p.frames)) && ltb b.lo b.hi) && leb b.lo k) && leb k b.hi)
   unfolding is_held is_gap is_inner
-  held_leading e = rw (eq-eqb start 0 e)
-
-  module _ (inner : start ≡ 0 → ⊥) where
-    pub held_trailing : end ≡ p.frames → false ≡ is_held p start end k
-    unfolding is_held is_gap is_inner
-    held_trailing e = rw (ne_eqb start 0 inner, eq-eqb end p.frames e)
-
-    module _ (inner' : end ≡ p.frames → ⊥) (b : Bounds) (is : b ≡ bounds_of p start end) where
-      low : b.lo ≡ low_of p start
-      low = ap (λ (c : Bounds). c.lo) is
-
-      high : b.hi ≡ high_of p end
-      high = ap (λ (c : Bounds). c.hi) is
-
-      pub held_narrow : b.hi ≤ b.lo → false ≡ is_held p start end k
-      unfolding is_held is_gap is_inner
-      held_narrow h = rw (ne_eqb start 0 inner, ne_eqb end p.frames inner', le-ltb (low_of p start) (high_of p end) (omega (arith, h, low, high)))
-
-      pub held-before : b.lo < b.hi → k < b.lo → false ≡ is_held p start end k
-      unfolding is_held is_gap is_inner
-      held-before h l =
-          rw (ne_eqb start 0 inner, ne_eqb end p.frames inner', lt-ltb (low_of p start) (high_of p end) (omega (arith, h, low, high)))
-          (rw (lt-leb (low_of p start) k (omega (arith, l, low))))
-
-      pub held-from : b.lo < b.hi → b.lo ≤ k → leb k b.hi ≡ is_held p start end k
-      unfolding is_held is_gap is_inner
-      held-from h l =
-          rw (ne_eqb start 0 inner, ne_eqb end p.frames inner', lt-ltb (low_of p start) (high_of p end) (omega (arith, h, low, high)))
-          (rw (le-leb (low_of p start) k (omega (arith, l, low))) (ap (leb k) high))
+  held_tests b is =
+      rw is (go (not (eqb start 0)) (not (eqb end p.frames)) (ltb (low_of p start) (high_of p end)) (leb (low_of p start) k) (leb k (high_of p end)))
+    where
+      go : (d e f g h : Bool) → (((d && e) && f) && (g && h)) ≡ ((((d && e) && f) && g) && h)
+      go true true true g h = refl
+      go true true false g h = refl
+      go true false f g h = refl
+      go false e f g h = refl
 
 -- ---- by the silence that was found
 

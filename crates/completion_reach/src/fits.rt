@@ -16,16 +16,11 @@ pub fn fits(x: Ground, silences: &[u32], pieces: usize, limit: u64) -> bool
         ≡ fits_of x.grid (span_in x.gap x.padding x.span silences.now) limit pieces }
 {
     let mut at = x.span.first;
-    let mut left = pieces;
-    while 0 < left {
-        let step = next::next_cut(x, silences, at, limit);
-        match step {
+    for _ in 0..pieces {
+        match next::next_cut(x, silences, at, limit) {
             Next::Whole => return true,
             Next::Stuck => return false,
-            Next::To(end, start) => {
-                at = start;
-                left -= 1;
-            }
+            Next::To(cut) => at = cut.right,
         }
     }
     false

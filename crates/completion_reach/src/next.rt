@@ -5,14 +5,16 @@ ghost use Rattle.completion_reach.specs.GroundLaws.{Founded};
 ghost use Rattle.completion_reach.specs.Next.{next_cut_of};
 
 use crate::ground::Ground;
+use crate::place::HeldCut;
 use crate::{place, reachable};
 
 // Where the piece that starts at a boundary ends: at the span's end, nowhere within the limit, or at a cut.
+// Three ways with names of their own; neither of the first two is an error or the lack of a value.
 #[derive(Clone, Copy)]
 pub enum Next {
     Whole,
     Stuck,
-    To(usize, usize),
+    To(HeldCut),
 }
 
 // The farthest cut for a piece from boundary `at`, within `limit` samples.
@@ -28,6 +30,5 @@ pub fn next_cut(x: Ground, silences: &[u32], at: usize, limit: u64) -> Next
     if k == at {
         return Next::Stuck;
     }
-    let cut = place::place_at(x, silences, k);
-    Next::To(cut.left, cut.right)
+    Next::To(place::place_at(x, silences, k))
 }

@@ -21,20 +21,8 @@ pub struct HeldCut {
 fn is_held(p: Padding, start: usize, end: usize, k: usize) -> bool
     ensures { result ≡ is_held p start end k }
 {
-    if start == 0 {
-        return false;
-    }
-    if end == p.frames {
-        return false;
-    }
     let b = bounds::silence_bounds(p, start, end);
-    if b.hi <= b.lo {
-        return false;
-    }
-    if k < b.lo {
-        return false;
-    }
-    k <= b.hi
+    start != 0 && end != p.frames && b.lo < b.hi && b.lo <= k && k <= b.hi
 }
 
 // With gaps dropped: the gap that holds boundary k, or the cut at k.
@@ -63,8 +51,7 @@ pub fn place_at(x: Ground, silences: &[u32], k: usize) -> HeldCut
     requires { Listed x.padding.frames silences.now }
     ensures { result ≡ held_cut (place_at (gaps_of x.gap x.padding silences.now) k) }
 {
-    let gap = x.gap;
-    match gap {
+    match x.gap {
         Gap::Keep => HeldCut { left: k, right: k },
         Gap::Drop => dropped_place(x.padding, silences, k),
     }

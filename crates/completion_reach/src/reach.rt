@@ -9,7 +9,6 @@ ghost use Rattle.std.specs.Prelude.{◌≡◌, ◌<◌};
 
 use crate::fits;
 use crate::ground::Ground;
-use base_code::sizes;
 use candidate_span::kept;
 
 // The reach, between a maximum that is too low and a limit that is enough.
@@ -30,6 +29,7 @@ fn bisect(
 {
     let mut low = maximum;
     let mut high = enough;
+    // By hand: `partition_point` seeks in a slice, and the limits between stand in none.
     while low + 1 < high {
         let middle = low + (high - low) / 2;
         if fits::fits(x, silences, pieces, middle) {
@@ -48,14 +48,12 @@ pub fn reach(x: Ground, silences: &[u32], count: usize, maximum: u64) -> u64
     ensures { result
         ≡ reach_of x.grid (span_in x.gap x.padding x.span silences.now) count maximum }
 {
-    let g = x.grid;
-    let gap = x.gap;
-    let frames = kept::kept_frames(gap, x.padding, x.span.first, x.span.last, silences);
-    let pieces = sizes::lesser(count, frames);
+    let frames = kept::kept_frames(x.gap, x.padding, x.span.first, x.span.last, silences);
+    let pieces = count.min(frames);
     if fits::fits(x, silences, pieces, maximum) {
         return maximum;
     }
     // a limit as long as the span divides it, into one piece
-    let whole = g.position(x.span.last) - g.position(x.span.first);
+    let whole = x.grid.position(x.span.last) - x.grid.position(x.span.first);
     bisect(x, silences, count, pieces, maximum, whole)
 }

@@ -13,6 +13,7 @@ pub fn reachable(g: FrameGrid, from: usize, end: usize, limit: u64) -> usize
     let start = g.position(from);
     let mut low = from;
     let mut high = end;
+    // By hand: `partition_point` seeks in a slice, and the boundaries between stand in none.
     while low < high {
         // above low, so that the range shrinks either way
         let middle = high - (high - low) / 2;

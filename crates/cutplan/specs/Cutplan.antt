@@ -1,15 +1,16 @@
 -- Document 01's program `cutplan`, from the bytes of a job to those of its listing: `cutplan_of`.
-use Rattle.std.specs.Prelude.{ℕ, Bool, cond, List, eqb, ltb, length}
+use Rattle.std.specs.Prelude.{ℕ, Bool, cond, List, eqb, ltb, length, Result, Ok, Err}
 use Rattle.base_terms.specs.Lists.{onto}
 use Rattle.job.specs.Answer.{fault_number}
-use Rattle.job.specs.Job.{JobOrFault, asks, fails, job_of}
+use Rattle.job.specs.Job.{Asked, job_of}
+use Rattle.job.specs.declared.answer.Refusal.{Refusal}
 use Rattle.listing.specs.Listing.{plan_line, refusal_line}
 use Rattle.cutplan.specs.Lines.{longest_listing, lines_of_plan, refused_of_plan}
 
 -- the lines for a job, or that of refusal 19
-unfoldable pub printed_for : JobOrFault → List ℕ
-printed_for (asks a) = lines_of_plan a.recording a.segment a.settings a.values a.flags a.levels
-printed_for (fails fault at) = refusal_line (fault_number fault)
+unfoldable pub printed_for : Result Asked Refusal → List ℕ
+printed_for (Ok a) = lines_of_plan a.recording a.segment a.settings a.values a.flags a.levels
+printed_for (Err refusal) = refusal_line (fault_number refusal.fault)
 
 -- what `cutplan` prints for the bytes that it reads
 -- document 02, S-2: "A job of 0 bytes then means an empty recording, and `cutplan` prints `plan 0 0`."
@@ -17,9 +18,9 @@ unfoldable pub cutplan_of : List ℕ → List ℕ
 cutplan_of job = cond (eqb (length job) 0) (plan_line 0 0) (printed_for (job_of job))
 
 -- the number of a job's refusal, 19 where there is no job, and 0 where there is a plan
-unfoldable pub refused_for : JobOrFault → ℕ
-refused_for (asks a) = refused_of_plan a.recording a.segment a.settings a.values a.flags a.levels
-refused_for (fails fault at) = fault_number fault
+unfoldable pub refused_for : Result Asked Refusal → ℕ
+refused_for (Ok a) = refused_of_plan a.recording a.segment a.settings a.values a.flags a.levels
+refused_for (Err refusal) = fault_number refusal.fault
 
 -- that of what `cutplan` prints for the bytes that it reads; 0 for no bytes, since a plan is printed
 unfoldable pub refused_in : List ℕ → ℕ

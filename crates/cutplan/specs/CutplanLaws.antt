@@ -1,14 +1,13 @@
 -- The ends of `cutplan`: a lent list that is too short, no bytes, a job that was read, bytes that are none.
-use Rattle.std.specs.Prelude.{◌≡◌, List, ℕ, ◌≤◌, ◌<◌, length, take, drop}
+use Rattle.std.specs.Prelude.{◌≡◌, List, ℕ, ◌≤◌, ◌<◌, length, take, drop, Ok, Err}
 use Rattle.std.proofs.Common.{ap, sym, ◌∙◌, arith, eq-eqb, ne_eqb, lt-ltb, le-ltb, length-append, length-take-le}
 use Rattle.base_terms.specs.Lists.{onto}
 use Rattle.base_code.specs.FrontLaws.{onto-take}
 use Rattle.io.specs.Counts.{IsPrefixLen}
 use Rattle.job.specs.Answer.{fault_number}
 use Rattle.job.specs.Job.{read_of, with_lists, job_of}
-use Rattle.job.specs.declared.answer.Fault.{Fault}
 use Rattle.job.specs.declared.answer.Head.{Head}
-use Rattle.job.specs.declared.answer.Reading.TheVariants.{Job, Refused}
+use Rattle.job.specs.declared.answer.Refusal.{Refusal}
 use Rattle.listing.specs.Listing.{plan_line, refusal_line}
 use Rattle.cutplan.specs.Lines.{longest_listing}
 use Rattle.cutplan.specs.Head.{lines_of_head, refused_of_head}
@@ -37,24 +36,24 @@ module _ (job : List ℕ) where
     bytes_refused = rw (ne_eqb (length job) 0 some)
 
     -- what is printed for a job that was read
-    pub job_printed : (h : Head) → read_of job ≡ Job h → lines_of_head job h ≡ cutplan_of job
+    pub job_printed : (h : Head) → read_of job ≡ Ok h → lines_of_head job h ≡ cutplan_of job
     unfolding job_of with_lists printed_for
     job_printed h e = rw (bytes_printed, e)
 
     -- and for bytes that are none
-    pub fault_printed : (fault : Fault) (at : ℕ) → read_of job ≡ Refused fault at → refusal_line (fault_number fault) ≡ cutplan_of job
+    pub fault_printed : (refusal : Refusal) → read_of job ≡ Err refusal → refusal_line (fault_number refusal.fault) ≡ cutplan_of job
     unfolding job_of with_lists printed_for
-    fault_printed fault at e = rw (bytes_printed, e)
+    fault_printed refusal e = rw (bytes_printed, e)
 
     -- the number that goes with a job that was read
-    pub job_refused : (h : Head) → read_of job ≡ Job h → refused_of_head job h ≡ refused_in job
+    pub job_refused : (h : Head) → read_of job ≡ Ok h → refused_of_head job h ≡ refused_in job
     unfolding job_of with_lists refused_for
     job_refused h e = rw (bytes_refused, e)
 
     -- and with bytes that are none
-    pub fault_refused : (fault : Fault) (at : ℕ) → read_of job ≡ Refused fault at → fault_number fault ≡ refused_in job
+    pub fault_refused : (refusal : Refusal) → read_of job ≡ Err refusal → fault_number refusal.fault ≡ refused_in job
     unfolding job_of with_lists refused_for
-    fault_refused fault at e = rw (bytes_refused, e)
+    fault_refused refusal e = rw (bytes_refused, e)
 
 -- ---- into a lent list
 

@@ -1,12 +1,10 @@
 -- What `cutplan` prints for an answer of Plan: the lines of the plan, or that of the refusal.
-use Rattle.std.specs.Prelude.{ℕ, List, Float, replicate}
+use Rattle.std.specs.Prelude.{ℕ, List, Float, replicate, Ok, Err}
 use Rattle.grid.specs.declared.validate.Recording.{Recording}
 use Rattle.silence_list.specs.declared.config.SegmentConfig.{SegmentConfig}
 use Rattle.plan_settings.specs.declared.config.PlanConfig.{PlanConfig}
-use Rattle.plan_pieces.specs.Answer.{number_of}
+use Rattle.plan_pieces.specs.Answer.{Answer, error_number, number_of}
 use Rattle.plan_pieces.specs.Output.{Output, output_of}
-use Rattle.plan_pieces.specs.declared.answer.Answer.{Answer}
-use Rattle.plan_pieces.specs.declared.answer.Answer.TheVariants.{Planned, Refused, ShortParent, ShortOutput}
 use Rattle.listing.specs.Listing.{listing_of, refusal_line}
 use Rattle.cutplan.specs.Memory.{handed_within}
 
@@ -16,10 +14,8 @@ longest_listing = 53702
 
 -- the lines of an answer with its output
 unfoldable pub lines_for : Answer → Output → List ℕ
-lines_for (Planned n) out = listing_of n out.pieces out.cuts
-lines_for (Refused v) out = refusal_line (number_of (Refused v))
-lines_for ShortParent out = refusal_line (number_of ShortParent)
-lines_for ShortOutput out = refusal_line (number_of ShortOutput)
+lines_for (Ok n) out = listing_of n out.pieces out.cuts
+lines_for (Err error) out = refusal_line (error_number error)
 
 -- "its other lists are large enough": three numbers for a piece, and for a cut, at each of 511 frames
 abbrev pub lent_output : Output

@@ -1,5 +1,5 @@
 -- No listing is longer than `longest_listing`, whatever the input: a plan has at most 511 pieces, and no number of it has more than 64 bits.
-use Rattle.std.specs.Prelude.{◌≡◌, refl, List, ℕ, suc, ◌-◌, ◌≤◌, ◌<◌, length}
+use Rattle.std.specs.Prelude.{◌≡◌, refl, List, ℕ, suc, ◌-◌, ◌≤◌, ◌<◌, length, Ok, Err}
 use Rattle.std.proofs.Common.{sym, subst, arith}
 use Rattle.base_terms.specs.Limits.{IsU64}
 use Rattle.grid.specs.Boundary.{boundary_of}
@@ -14,14 +14,13 @@ use Rattle.candidate_finder.specs.SpanIn.{padding_in}
 use Rattle.silence_list.specs.Silences.{silences_in}
 use Rattle.plan_tests.specs.PlanReady.{PlanReady, passed_ready}
 use Rattle.plan_tests.specs.RefusalLaws.{passed}
-use Rattle.plan_pieces.specs.Answer.{number_of}
+use Rattle.plan_pieces.specs.Answer.{Answer, number_of}
 use Rattle.plan_pieces.specs.AnswerLaws.{answer_most}
 use Rattle.plan_pieces.specs.Output.{Output}
-use Rattle.plan_pieces.specs.declared.answer.Answer.{Answer}
-use Rattle.plan_pieces.specs.declared.answer.Answer.TheVariants.{Planned, Refused, ShortParent, ShortOutput}
+use Rattle.plan_pieces.specs.declared.answer.Error.TheVariants.{Refused, ShortParent, ShortOutput}
 use Rattle.plan_theorems.specs.Made.{piece_start, piece_end, Shows, PlanWritten}
 use Rattle.plan_theorems.proofs.Theorems.{plan_made, plan_ended}
-use Rattle.job.specs.Job.{Asked, asks, job_of}
+use Rattle.job.specs.Job.{Asked, job_of}
 use Rattle.listing.specs.Listing.{plan_line, listing_of, refusal_line}
 use Rattle.listing.specs.Rows.{AllWide}
 use Rattle.listing.proofs.FitsLaws.{plan_fits, listing_fits, refusal_fits}
@@ -32,7 +31,7 @@ use Rattle.cutplan.specs.CutplanLaws.{empty_printed}
 use Rattle.cutplan.specs.WideLaws.{wide_rows}
 use Rattle.cutplan.specs.Theorems.{BytesAre, nothing, some_job, no_job, bytes_are, end_for, job_lines, of_span, fault_line}
 
-module _ (job : List ℕ) (a : Asked) (read : job_of job ≡ asks a) where
+module _ (job : List ℕ) (a : Asked) (read : job_of job ≡ Ok a) where
   abbrev out : Output
   out = (end_for job a read).out
 
@@ -42,7 +41,7 @@ module _ (job : List ℕ) (a : Asked) (read : job_of job ≡ asks a) where
   abbrev s : Span
   s = span_of a.settings.gap (padding_in a.recording a.segment a.settings (length a.values)) (silences_in a.recording a.segment a.values a.flags)
 
-  module _ (n : ℕ) (made : (end_for job a read).answer ≡ Planned n) where
+  module _ (n : ℕ) (made : (end_for job a read).answer ≡ Ok n) where
     written : PlanWritten n lent_output out
     written = (plan_made a.recording a.segment a.settings a.values a.flags a.levels lent_output lent_work lent_parents n made).written
 
@@ -88,10 +87,10 @@ module _ (job : List ℕ) (a : Asked) (read : job_of job ≡ asks a) where
 
   answer-short : (b : Answer) → (end_for job a read).answer ≡ b → length (lines_for b out) ≤ longest_listing
   unfolding lines_for
-  answer-short (Planned n) e = plan_short n e
-  answer-short (Refused v) e = omega (arith, refusal_fits (number_of (Refused v)) (omega (arith, answer_most (Refused v))))
-  answer-short ShortParent e = omega (arith, refusal_fits 14 (omega arith))
-  answer-short ShortOutput e = omega (arith, refusal_fits 12 (omega arith))
+  answer-short (Ok n) e = plan_short n e
+  answer-short (Err (Refused v)) e = omega (arith, refusal_fits (number_of (Err (Refused v))) (omega (arith, answer_most (Err (Refused v)))))
+  answer-short (Err ShortParent) e = omega (arith, refusal_fits 14 (omega arith))
+  answer-short (Err ShortOutput) e = omega (arith, refusal_fits 12 (omega arith))
 
 -- whatever the input
 pub cutplan_short : (job : List ℕ) → length (cutplan_of job) ≤ longest_listing
@@ -103,4 +102,4 @@ cutplan_short job = go (bytes_are job)
     go : BytesAre job → length (cutplan_of job) ≤ longest_listing
     go (nothing e) = short (plan_line 0 0) (sym (empty_printed job e)) (omega (arith, plan_fits 0 0 (omega arith) (omega arith)))
     go (some_job a e) = short _ (job_lines job a e) (answer-short job a e (end_for job a e).answer refl)
-    go (no_job s fault at e) = short (refusal_line 19) (fault_line job s fault at e) (omega (arith, refusal_fits 19 (omega arith)))
+    go (no_job s refusal e) = short (refusal_line 19) (fault_line job s refusal e) (omega (arith, refusal_fits 19 (omega arith)))

@@ -10,7 +10,7 @@
 --                     the number that goes with what is printed (`refused_in`) is at most 19, is that of the line that is printed,
 --                     and is 0 only where a plan is printed
 --   cutplan-encoded   of every job within the limits, encoded, that job's lines are printed
-use Rattle.std.specs.Prelude.{◌≡◌, Bool, true, false, ℕ, ◌-◌, ◌≤◌, ◌<◌, Float, length, get_or}
+use Rattle.std.specs.Prelude.{◌≡◌, Bool, true, false, ℕ, ◌-◌, ◌≤◌, ◌<◌, Float, length, get_or, Result, Ok, Err, is_ok}
 use Rattle.std.proofs.Math.Path.{refl, sym, ap}
 use Rattle.std.proofs.Common.{subst, ◌∙◌, inl, inr, arith}
 use mathlib.Core.List.{List, []}
@@ -32,19 +32,17 @@ use Rattle.candidate_finder.specs.PrepareLaws.{no_frames}
 use Rattle.candidate_finder.specs.SpanIn.{empty_in}
 use Rattle.plan_pieces.specs.Answer.{number_of}
 use Rattle.plan_pieces.specs.AnswerLaws.{answer_most}
-use Rattle.plan_pieces.specs.declared.answer.Answer.TheVariants.{Planned}
 use Rattle.planner.specs.Operation.{End}
 use Rattle.plan_theorems.specs.Made.{MadeOfSpan}
 use Rattle.plan_theorems.proofs.Theorems.{plan_made, plan_ended, made_of_span}
 use Rattle.job.specs.Limits.{most_frames}
-use Rattle.job.specs.Job.{read_of, values_in, levels_for, levels_in, Asked, JobOrFault, asks, fails, with_lists, job_of}
+use Rattle.job.specs.Fields.{◌>>=◌}
+use Rattle.job.specs.Job.{read_of, values_in, levels_for, levels_in, Asked, with_lists, job_of}
 use Rattle.job.specs.JobLaws.{read_within, read_long, values_length}
 use Rattle.job.specs.Encode.{encode, Encodable}
 use Rattle.job.specs.Theorems.{fault_number_lem, read_encoded}
-use Rattle.job.specs.declared.answer.Fault.{Fault}
 use Rattle.job.specs.declared.answer.Head.{Head}
-use Rattle.job.specs.declared.answer.Reading.{Reading}
-use Rattle.job.specs.declared.answer.Reading.TheVariants.{Job, Refused}
+use Rattle.job.specs.declared.answer.Refusal.{Refusal}
 use Rattle.listing.specs.Text.{text_bytes}
 use Rattle.listing.specs.Listing.{listing_of, refusal_line}
 use Rattle.listing.specs.LineLaws.{no_pieces}
@@ -80,7 +78,7 @@ module _ (job : List ℕ) (h : Head) where
       go Decibels at n i = read_fits binary64 _ n i (λ k. of_bits-fits binary64 _)
       go Scores at n i = nan-fits binary64
 
-  few : read_of job ≡ Job h → length (values_in job h) ≤ most_frames
+  few : read_of job ≡ Ok h → length (values_in job h) ≤ most_frames
   few e = omega (arith, values_length job h, (read_within job h e).few_frames)
 
 -- what is known of a job: its bytes are some, its frames few, and its floats of their formats
@@ -89,39 +87,35 @@ record Asking (job : List ℕ) (a : Asked) : Type 0 where
   few : length a.values ≤ most_frames
   fitting : Fitting a.values a.levels
 
--- a job, and whether there is one
-abbrev asked_or : Asked → JobOrFault → Asked
-asked_or other (asks a) = a
-asked_or other (fails fault at) = other
+-- a job, and another where there is none
+abbrev asked_or : Asked → Result Asked Refusal → Asked
+asked_or other (Ok a) = a
+asked_or other (Err refusal) = other
 
-abbrev is_asked : JobOrFault → Bool
-is_asked (asks a) = true
-is_asked (fails fault at) = false
-
-asking : (job : List ℕ) (a : Asked) → job_of job ≡ asks a → Asking job a
-unfolding job_of with_lists
-asking job a = go (read_of job) refl
+asking : (job : List ℕ) (a : Asked) → job_of job ≡ Ok a → Asking job a
+unfolding job_of
+asking job a e = go (read_of job) refl e
   where
-    go : (r : Reading) → read_of job ≡ r → with_lists job r ≡ asks a → Asking job a
-    go (Job h) e f = subst (Asking job) (ap (asked_or a) f) (record { long = read_long job h e; few = few job h e; fitting = fitting job h })
-    go (Refused fault at) e f = absurd (holds (ap is_asked f))
+    go : (r : Result Head Refusal) → read_of job ≡ r → (r >>= λ (h : Head). Ok (with_lists job h)) ≡ Ok a → Asking job a
+    go (Ok h) e f = subst (Asking job) (ap (asked_or a) f) (unfold with_lists in record { long = read_long job h e; few = few job h e; fitting = fitting job h })
+    go (Err refusal) e f = absurd (holds (ap is_ok f))
 
 -- ---- what bytes are
 
 -- none, a job, or others that are no job
 pub data BytesAre (job : List ℕ) : Type 0 where
   nothing : length job ≡ 0 → BytesAre job
-  some_job : (a : Asked) → job_of job ≡ asks a → BytesAre job
-  no_job : 0 < length job → (fault : Fault) (at : ℕ) → job_of job ≡ fails fault at → BytesAre job
+  some_job : (a : Asked) → job_of job ≡ Ok a → BytesAre job
+  no_job : 0 < length job → (refusal : Refusal) → job_of job ≡ Err refusal → BytesAre job
 
 -- whatever the bytes
 pub bytes_are : (job : List ℕ) → BytesAre job
 bytes_are job = go (job_of job) refl
   where
-    go : (o : JobOrFault) → job_of job ≡ o → BytesAre job
-    go (asks a) e = some_job a e
-    go (fails fault at) e = elim (lt_or_le 0 (length job)) [
-      | inl h ↦ no_job h fault at e
+    go : (o : Result Asked Refusal) → job_of job ≡ o → BytesAre job
+    go (Ok a) e = some_job a e
+    go (Err refusal) e = elim (lt_or_le 0 (length job)) [
+      | inl h ↦ no_job h refusal e
       | inr h ↦ nothing (omega (arith, h))
     ]
 
@@ -143,7 +137,7 @@ module _ (a : Asked) (accepted : refused_of_plan a.recording a.segment a.setting
       let end = end_within a.recording a.segment a.settings a.values a.flags a.levels lent_output in
       let made = (plan_ended a.recording a.segment a.settings a.values a.flags a.levels lent_output lent_work lent_parents).number.0 accepted in
       let no_piece = ((plan_made a.recording a.segment a.settings a.values a.flags a.levels lent_output lent_work lent_parents made.0 made.1).empty is-empty).0 in
-      sym (planned_lines end.answer 0 end.out (made.1 ∙ ap Planned no_piece)) ∙ no_pieces end.out.pieces end.out.cuts ∙ empty_printed [] refl
+      sym (planned_lines end.answer 0 end.out (made.1 ∙ ap Ok no_piece)) ∙ no_pieces end.out.pieces end.out.cuts ∙ empty_printed [] refl
 
   -- so it is for every recording without frames
   pub cutplan_no_frames : length a.values ≡ 0 → lines_of_plan a.recording a.segment a.settings a.values a.flags a.levels ≡ cutplan_of []
@@ -152,7 +146,7 @@ module _ (a : Asked) (accepted : refused_of_plan a.recording a.segment a.setting
 
 -- ---- the answer
 
-module _ (job : List ℕ) (a : Asked) (read : job_of job ≡ asks a) where
+module _ (job : List ℕ) (a : Asked) (read : job_of job ≡ Ok a) where
   -- what Plan leaves in the lists that it is lent
   abbrev pub end_for : End
   end_for = end_within a.recording a.segment a.settings a.values a.flags a.levels lent_output
@@ -181,7 +175,7 @@ module _ (job : List ℕ) (a : Asked) (read : job_of job ≡ asks a) where
 
   -- ---- a plan
 
-  module _ (n : ℕ) (made : end_for.answer ≡ Planned n) where
+  module _ (n : ℕ) (made : end_for.answer ≡ Ok n) where
     -- one that has a piece is that of a span
     pub of_span : 0 < n → MadeOfSpan a.recording a.segment a.settings a.values a.flags a.levels n end_for.out
     of_span pieces =
@@ -199,25 +193,25 @@ module _ (job : List ℕ) (a : Asked) (read : job_of job ≡ asks a) where
   -- ---- a refusal of Plan
 
   -- what is printed for a refusal, parsed, is its number
-  pub cutplan_refused : ((n : ℕ) → end_for.answer ≡ Planned n → ⊥) → parsed_of (cutplan_of job) ≡ some (refused (number_of end_for.answer))
+  pub cutplan_refused : ((n : ℕ) → end_for.answer ≡ Ok n → ⊥) → parsed_of (cutplan_of job) ≡ some (refused (number_of end_for.answer))
   cutplan_refused never =
       ap parsed_of (job_lines ∙ sym (refused_lines end_for.answer end_for.out never)) ∙ parsed_refusal (number_of end_for.answer)
 
 -- ---- bytes that are no job, one at least
 
-module _ (job : List ℕ) (some_bytes : 0 < length job) (fault : Fault) (at : ℕ) (unread : job_of job ≡ fails fault at) where
+module _ (job : List ℕ) (some_bytes : 0 < length job) (refusal : Refusal) (unread : job_of job ≡ Err refusal) where
   not_empty : length job ≡ 0 → ⊥
   not_empty none = omega (arith, some_bytes, none)
 
   -- the line of 19 is printed
   pub fault_line : cutplan_of job ≡ refusal_line 19
   unfolding printed_for
-  fault_line = rw (bytes_printed job not_empty, unread, fault_number_lem fault)
+  fault_line = rw (bytes_printed job not_empty, unread, fault_number_lem refusal.fault)
 
   -- and 19 is the number that goes with it
   pub fault_refusal : refused_in job ≡ 19
   unfolding refused_for
-  fault_refusal = rw (bytes_refused job not_empty, unread) (fault_number_lem fault)
+  fault_refusal = rw (bytes_refused job not_empty, unread) (fault_number_lem refusal.fault)
 
   -- so they are refused by 19
   pub cutplan_unread : parsed_of (cutplan_of job) ≡ some (refused 19)
@@ -230,7 +224,7 @@ cutplan_few_bytes job some_bytes few_bytes = go (bytes_are job)
     go : BytesAre job → parsed_of (cutplan_of job) ≡ some (refused 19)
     go (nothing e) = absurd (omega (arith, some_bytes, e))
     go (some_job a e) = absurd (omega (arith, few_bytes, (asking job a e).long))
-    go (no_job s fault at e) = cutplan_unread job s fault at e
+    go (no_job s refusal e) = cutplan_unread job s refusal e
 
 -- ---- the number that goes with what is printed, whatever the bytes
 
@@ -241,7 +235,7 @@ cutplan_number_most job = go (bytes_are job)
     go : BytesAre job → refused_in job ≤ 19
     go (nothing e) = omega (arith, empty_refused job e)
     go (some_job a e) = omega (arith, job_number job a e, answer_most (end_for job a e).answer)
-    go (no_job s fault at e) = omega (arith, fault_refusal job s fault at e)
+    go (no_job s refusal e) = omega (arith, fault_refusal job s refusal e)
 
 -- it is never 12 or 13
 pub cutplan_never_short : (job : List ℕ) → (refused_in job ≡ 12 → ⊥) × (refused_in job ≡ 13 → ⊥)
@@ -251,8 +245,8 @@ cutplan_never_short job = go (bytes_are job)
     go (nothing e) = (λ n. omega (arith, n, empty_refused job e), λ n. omega (arith, n, empty_refused job e))
     go (some_job a e) =
         let number = sym (job_number job a e) in (λ n. (never_short job a e).0 (number ∙ n), λ n. (never_short job a e).1 (number ∙ n))
-    go (no_job s fault at e) =
-        let number = fault_refusal job s fault at e in (λ n. omega (arith, n, number), λ n. omega (arith, n, number))
+    go (no_job s refusal e) =
+        let number = fault_refusal job s refusal e in (λ n. omega (arith, n, number), λ n. omega (arith, n, number))
 
 -- where it is not 0, what is printed is its line
 pub cutplan_number_line : (job : List ℕ) → (refused_in job ≡ 0 → ⊥) → cutplan_of job ≡ refusal_line (refused_in job)
@@ -265,7 +259,7 @@ cutplan_number_line job other = go (bytes_are job)
         job_lines job a e
         ∙ sym (refused_lines (end_for job a e).answer (end_for job a e).out (λ n made. other (number ∙ ap number_of made)))
         ∙ ap refusal_line (sym number)
-    go (no_job s fault at e) = fault_line job s fault at e ∙ ap refusal_line (sym (fault_refusal job s fault at e))
+    go (no_job s refusal e) = fault_line job s refusal e ∙ ap refusal_line (sym (fault_refusal job s refusal e))
 
 -- where it is 0, what is printed, parsed, is a plan
 pub cutplan_number_plan : (job : List ℕ) → refused_in job ≡ 0 → (pieces : List ListedRow) × (cuts : List ListedRow) × (parsed_of (cutplan_of job) ≡ some (planned pieces cuts))
@@ -277,7 +271,7 @@ cutplan_number_plan job none = go (bytes_are job)
         let made = (plan_ended a.recording a.segment a.settings a.values a.flags a.levels lent_output lent_work lent_parents).number.0
         (sym (job_number job a e) ∙ none) in
         (rows_of made.0 (end_for job a e).out.pieces, rows_of (made.0 - 1) (end_for job a e).out.cuts, cutplan_parsed job a e made.0 made.1)
-    go (no_job s fault at e) = absurd (omega (arith, none, fault_refusal job s fault at e))
+    go (no_job s refusal e) = absurd (omega (arith, none, fault_refusal job s refusal e))
 
 -- ---- jobs that are written as bytes
 

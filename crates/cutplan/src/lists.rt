@@ -1,10 +1,12 @@
 // The operation Plan with an output of its own, and its answer as lines.
 ghost use Rattle.std.specs.Prelude.{◌≡◌, ◌≤◌, length};
 ghost use Rattle.base_terms.specs.Lists.{onto};
+ghost use Rattle.std.specs.Option.{unwrap_or};
 ghost use Rattle.cutplan.specs.Lines.{longest_listing, lines_of_plan, refused_of_plan};
 
 use crate::answer::Answered;
 use crate::{answer, memory};
+use grid::Readings;
 use grid::validate::Recording;
 use plan_settings::config::PlanConfig;
 use silence_list::config::SegmentConfig;
@@ -12,7 +14,8 @@ use silence_list::config::SegmentConfig;
 // Three numbers for a piece, or a cut, at each frame.
 const NUMBERS: usize = 1_533;
 
-// The listing of a plan that is made in lists of its own.
+// The listing of a plan that is made in lists of its own. Three lists, not `Readings`: of arrays that the caller fills
+// the check does not know what their types say (tried: `invariant_of-readings` of `plan::plan_read` did not close).
 pub fn plan_lists(
     r: Recording,
     segment: SegmentConfig,
@@ -25,7 +28,7 @@ pub fn plan_lists(
     requires { longest_listing ≤ length out.old }
     ensures size_value { result.size
         ≡ length (lines_of_plan r segment settings values.now flags.now levels.now) }
-    ensures refused_value { result.refused
+    ensures refused_value { unwrap_or result.refused 0
         ≡ refused_of_plan r segment settings values.now flags.now levels.now }
     ensures out_after { out.new
         ≡ onto (lines_of_plan r segment settings values.now flags.now levels.now)
@@ -33,15 +36,11 @@ pub fn plan_lists(
 {
     let mut pieces = [0u64; NUMBERS];
     let mut cuts = [0u64; NUMBERS];
-    let answer = memory::plan_within(
-        r,
-        segment,
-        settings,
+    let readings = Readings {
         values,
         flags,
         levels,
-        &mut pieces,
-        &mut cuts,
-    );
+    };
+    let answer = memory::plan_within(r, segment, settings, &readings, &mut pieces, &mut cuts);
     answer::write_answer(answer, &pieces, &cuts, out)
 }

@@ -3,6 +3,7 @@ ghost use Rattle.std.specs.Prelude.{◌≡◌};
 ghost use Rattle.plan_pieces.specs.Output.{output_of, handed_of};
 ghost use Rattle.cutplan.specs.Memory.{handed_within};
 
+use grid::Readings;
 use grid::validate::Recording;
 use plan_pieces::answer::Answer;
 use plan_settings::config::PlanConfig;
@@ -20,14 +21,13 @@ pub fn plan_within(
     r: Recording,
     segment: SegmentConfig,
     settings: PlanConfig,
-    values: &[f32],
-    flags: &[u8],
-    levels: &[f64],
+    readings: &Readings,
     pieces: &mut [u64],
     cuts: &mut [u64],
 ) -> Answer
     ensures { handed_of result (output_of pieces.new cuts.new)
-        ≡ handed_within r segment settings values.now flags.now levels.now
+        ≡ handed_within r segment settings
+        readings.now.values.now readings.now.flags.now readings.now.levels.now
         (output_of pieces.old cuts.old) }
 {
     let mut work_u32 = [0u32; WORK];
@@ -38,9 +38,7 @@ pub fn plan_within(
         r,
         segment,
         settings,
-        values,
-        flags,
-        levels,
+        readings,
         &mut work_u32,
         &mut work_u64,
         &mut work_f64,

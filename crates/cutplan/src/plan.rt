@@ -1,5 +1,6 @@
 // From a job to its listing.
 ghost use Rattle.std.specs.Prelude.{◌≡◌, ◌≤◌, length};
+ghost use Rattle.std.specs.Option.{unwrap_or};
 ghost use Rattle.base_terms.specs.Lists.{onto};
 ghost use Rattle.io.specs.Counts.{IsPrefixLen};
 ghost use Rattle.job.specs.Job.{Within};
@@ -8,10 +9,10 @@ ghost use Rattle.cutplan.specs.Cutplan.{cutplan_of, refused_in, printed, printed
 ghost use Rattle.cutplan.specs.Head.{lines_of_head, refused_of_head};
 
 use crate::answer::Answered;
-use crate::{answer as answers, lists};
+use crate::{answer, lists};
 use grid::validate;
-use job::answer::{Head, Reading};
-use job::{answer, lists as held, read};
+use job::answer::Head;
+use job::{lists as held, read};
 
 // No listing is longer.
 pub const LONGEST_LISTING: usize = 53_702;
@@ -21,7 +22,7 @@ fn plan_read(job: &[u8], head: Head, out: &mut [u8]) -> Answered
     requires within { Within job.now head }
     requires longest_listing_in_bounds { longest_listing ≤ length out.old }
     ensures size_value { result.size ≡ length (lines_of_head job.now head) }
-    ensures refused_value { result.refused ≡ refused_of_head job.now head }
+    ensures refused_value { unwrap_or result.refused 0 ≡ refused_of_head job.now head }
     ensures out_after { out.new ≡ onto (lines_of_head job.now head) out.old }
 {
     let mut values = [0f32; read::MOST_FRAMES];
@@ -30,16 +31,12 @@ fn plan_read(job: &[u8], head: Head, out: &mut [u8]) -> Answered
     held::put_values(job, head, &mut values);
     held::put_flags(job, head, &mut flags);
     held::put_levels(job, head, &mut levels);
-    let recording = head.recording;
-    let segment = head.segment;
-    let settings = head.settings;
     let frames = head.frames;
-    let domain = recording.domain;
-    let levelled = validate::level_count(domain, frames);
+    let levelled = validate::level_count(head.recording.domain, frames);
     lists::plan_lists(
-        recording,
-        segment,
-        settings,
+        head.recording,
+        head.segment,
+        head.settings,
         &values[..frames],
         &flags[..frames],
         &levels[..levelled],
@@ -53,15 +50,15 @@ fn plan_read(job: &[u8], head: Head, out: &mut [u8]) -> Answered
 pub fn list_job(job: &[u8], out: &mut [u8]) -> Answered
     requires { longest_listing ≤ length out.old }
     ensures size_value { result.size ≡ length (cutplan_of job.now) }
-    ensures refused_value { result.refused ≡ refused_in job.now }
+    ensures refused_value { unwrap_or result.refused 0 ≡ refused_in job.now }
     ensures out_after { out.new ≡ onto (cutplan_of job.now) out.old }
 {
     if job.len() == 0 {
-        return answers::write_empty(out);
+        return answer::write_empty(out);
     }
     match read::read(job) {
-        Reading::Job(head) => plan_read(job, head, out),
-        Reading::Refused(fault, _) => answers::write_number(answer::number(fault), out),
+        Ok(head) => plan_read(job, head, out),
+        Err(refusal) => answer::write_number(u32::from(refusal.fault), out),
     }
 }
 
@@ -75,6 +72,5 @@ pub fn plan_job(job: &[u8], out: &mut [u8]) -> usize
     if out.len() < LONGEST_LISTING {
         return 0;
     }
-    let listed = list_job(job, out);
-    listed.size
+    list_job(job, out).size
 }

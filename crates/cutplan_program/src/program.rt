@@ -1,5 +1,6 @@
 // One job from standard input, its listing to standard output.
 ghost use Rattle.std.specs.Prelude.{◌≤◌, ◌<◌, ◌≡◌, length};
+ghost use Rattle.std.specs.Option.{unwrap_or};
 ghost use Rattle.base_terms.specs.Lists.{onto};
 ghost use Rattle.io.specs.Counts.{IsPrefixLen};
 ghost use Rattle.job.specs.Limits.{most_bytes};
@@ -11,8 +12,7 @@ use cutplan::answer::Answered;
 use cutplan::plan::LONGEST_LISTING;
 use cutplan::{answer, plan};
 use input_reader::input;
-use input_reader::input::Input;
-use std::io::Stdin;
+use std::io::{Error, Stdin};
 
 // One byte more than a job can have, so that a longer one is seen and not cut.
 const INPUT: usize = 8_193;
@@ -22,18 +22,18 @@ const STDOUT: i32 = 1;
 
 // The listing for what was read; a read that failed is refused as bytes that are no job are. `IsPrefixLen` lets the caller
 // hand on the listing.
-fn list_input(got: Input, job: &[u8], out: &mut [u8]) -> Answered
+fn list_input(got: Result<usize, Error>, job: &[u8], out: &mut [u8]) -> Answered
     requires fits_in { FitsIn got (length job.now) }
     requires most_bytes_in_bounds { most_bytes < length job.now }
     requires longest_listing_in_bounds { longest_listing ≤ length out.old }
-    ensures refused_value { result.refused ≡ refused_after got job.now }
+    ensures refused_value { unwrap_or result.refused 0 ≡ refused_after got job.now }
     ensures size_value { result.size ≡ length (printed_after got job.now) }
     ensures out_after { out.new ≡ onto (printed_after got job.now) out.old }
     ensures prefix_len { IsPrefixLen result.size out.new }
 {
     match got {
-        Input::Read(n) => plan::list_job(&job[..n], out),
-        Input::Failed => answer::write_number(19, out),
+        Ok(n) => plan::list_job(&job[..n], out),
+        Err(_) => answer::write_number(19, out),
     }
 }
 
@@ -48,9 +48,8 @@ pub extern "C" fn buchawzer_cutplan_program(refused: &mut u32, mut stdin: Stdin)
     let mut out = [0u8; LONGEST_LISTING];
     let got = input::read_to_end(&mut stdin, &mut job);
     let listed = list_input(got, &job, &mut out);
-    *refused = listed.refused;
-    let size = listed.size;
-    if io::write_all(STDOUT, &out[..size]) {
+    *refused = listed.refused.unwrap_or(0);
+    if io::write_all(STDOUT, &out[..listed.size]) {
         return 0;
     }
     1

@@ -1,11 +1,13 @@
 -- What fits in 64 bits: the bounds that each product of the grid uses, and that they hold. A duration times a frame rate does, up to 192,000; times a sample
 -- rate it does not, up to 768,000, so that `samples_floor` and `samples_in` go by steps that do, to the same numbers.
-use Rattle.std.specs.Prelude.{◌≡◌, ℕ, ◌+◌, ◌*◌, ◌/◌, ◌%◌, ◌^◌, ◌≤◌, ◌<◌, pos, Float}
-use Rattle.std.proofs.Common.{sym, ap, ◌∙◌, le_refl, le_trans, add-le-add, add-mul, mul_assoc, mul-le-mul, arith, lit≤}
+use Rattle.std.specs.Prelude.{◌≡◌, ℕ, ◌+◌, ◌-◌, min, ◌*◌, ◌/◌, ◌%◌, ◌^◌, ◌≤◌, ◌<◌, pos, Float}
+use Rattle.std.proofs.Common.{sym, ap, ◌∙◌, inl, inr, mod-lt, le_refl, le_trans, add-le-add, add-mul, mul_assoc, mul-le-mul, arith, lit≤}
 use Rattle.std.proofs.Math.Nat.{div-add-mod, mul-add-div}
 use Rattle.std.specs.Float.{binary64}
 use Rattle.std.specs.Float.Ieee.{mul, div, of_int}
+use Rattle.std.proofs.lemmas.Nat.{div-mul-add}
 use Rattle.base_laws.specs.Nearest.{whole-product}
+use Rattle.base_laws.specs.Tests.{lt_or_le}
 use Rattle.grid.specs.Limits.{max_rate, max_duration, nanos_per_sec}
 use Rattle.grid.specs.Boundary.{Bounded}
 use Rattle.grid.specs.Durations.{InFrames, InSamples, frames_num, frames_den, samples_floor, samples_in}
@@ -37,6 +39,20 @@ samples_fit rate ns p =
 
     part : (n : ℕ) → n % nanos_per_sec ≤ nanos_per_sec
     part n = omega arith
+
+-- ---- a quotient rounded up
+
+-- what is left over counts as one more: so does all but one of the divisor, added first
+pub rounded_up : (n d : ℕ) → 0 < d → n / d + min 1 (n % d) ≡ (n + (d - 1)) / d
+rounded_up n d D =
+    let whole : n + (d - 1) ≡ d * (n / d) + (n % d + (d - 1)) = omega (arith, div-add-mod n d) in
+    sym (ap (λ (k : ℕ). k / d) whole ∙ mul-add-div D (n / d) (n % d + (d - 1)) ∙ ap (λ (k : ℕ). n / d + k) (one (n % d) (mod-lt n D)))
+  where
+    one : (r : ℕ) → r < d → (r + (d - 1)) / d ≡ min 1 r
+    one r h = elim (lt_or_le 0 r) [
+      | inl l ↦ let e : r + (d - 1) ≡ 1 * d + (r - 1) = omega (arith, l, D) in let m : min 1 r ≡ 1 = omega (arith, l) in rw (e, m) (div-mul-add 1 d (r - 1) (omega (arith, h)))
+      | inr l ↦ let e : r + (d - 1) ≡ 0 * d + (d - 1) = omega (arith, l, D) in let m : min 1 r ≡ 0 = omega (arith, l) in rw (e, m) (div-mul-add 0 d (d - 1) (omega (arith, D)))
+    ]
 
 -- ---- samples by steps that fit
 

@@ -1,7 +1,13 @@
 -- The tests of flag bytes as masks, of a byte, of a word and of a list, and what holds while a list is tested word by word.
-use Rattle.std.specs.Prelude.{◌≡◌, Bool, ℕ, zero, suc, ◌+◌, ◌*◌, ◌/◌, ◌%◌, ◌≤◌, ◌<◌, length, get_or, take, drop}
+use Rattle.std.specs.Prelude.{◌≡◌, Bool, ◌&&◌, ℕ, zero, suc, ◌+◌, ◌*◌, ◌/◌, ◌%◌, ◌≤◌, ◌<◌, length, get_or, take, drop}
 use Rattle.std.proofs.Math.Path.{refl}
-use Rattle.std.proofs.Common.{sym, ap, ◌∙◌, inl, inr, arith, take-add, eq-eqb, ne_eqb, le-leb}
+use Rattle.std.proofs.Common.{sym, ap, ◌∙◌, inl, inr, arith, take-add, length-drop, length-take-le, get_or-drop, eq-eqb, ne_eqb, le-leb}
+use Rattle.std.proofs.Math.Bool.{and-true}
+use Rattle.std.proofs.lemmas.List.{get_or-take, take-append-drop}
+use Rattle.std.proofs.Math.ListN.{get_or-eq_default}
+use Rattle.std.specs.Int.{w64, from_le_bytes}
+use Rattle.std.specs.List.{fold}
+use Rattle.std.specs.Simd.{first_chunks}
 use mathlib.Core.List.{List, [], ◌∷◌}
 use Rattle.std.specs.Int.Bits.{bit_and, bit_or}
 use Rattle.std.proofs.lemmas.Nat.Bits.{and_high}
@@ -10,10 +16,10 @@ use Rattle.std.proofs.lemmas.Bool.{lt-leb}
 use Rattle.base_laws.specs.Tests.{lt_or_le}
 use Rattle.base_terms.specs.Lists.{all_of}
 use Rattle.base_terms.specs.Bytes.{bytes_of}
-use Rattle.base_code.specs.ListsLaws.{Tested, all_append}
+use Rattle.base_code.specs.ListsLaws.{all_append, and_assoc}
 use Rattle.grid.specs.Values.{is_flag, is_unflagged}
 use Rattle.grid.specs.Words.{is_clear, mask_of}
-use Rattle.grid.specs.WordsLaws.{clear_none, clear_or, word_clear, mask_eight}
+use Rattle.grid.specs.WordsLaws.{clear_none, clear_or, word_clear, mask_eight, word_eight}
 
 -- ---- a byte
 
@@ -71,25 +77,42 @@ unflagged_word w = unfold mask_of in word_passes is_unflagged 255 unflagged_mask
 
 -- ---- a list, word by word
 
--- the first i words, laid over each other, pass where their bytes do: what holds while a loop lays them so
-abbrev pub Overlaid : (mask : ℕ) (bytes : List ℕ) (seen i : ℕ) → Type 0
-Overlaid mask bytes seen i = is_clear (mask_of 8 mask) seen ≡ all_of (is_clear mask) (take (8 * i) bytes)
+-- a word of eight bytes laid over what is laid so far
+abbrev pub laid : (seen : ℕ) (word : List ℕ) → ℕ
+laid seen word = bit_or seen (from_le_bytes w64 word)
 
-module _ (mask : ℕ) (bytes : List ℕ) where
-  -- no word is laid yet
-  pub overlaid_start : Overlaid mask bytes 0 0
-  unfolding all_of
-  overlaid_start = clear_none (mask_of 8 mask)
+module _ (mask : ℕ) (below : mask < 256) where
+  -- the bytes of a word of eight are those that it was made of
+  word_laid : (word : List ℕ) → length word ≡ 8 → ((i : ℕ) → get_or word i 0 < 256) → is_clear (mask_of 8 mask) (from_le_bytes w64 word) ≡ all_of (is_clear mask) word
+  word_laid word e h = word_clear mask below 8 (from_le_bytes w64 word) ∙ ap (all_of (is_clear mask)) (word_eight word e h)
 
-  -- one more is
-  pub overlaid_next : (seen w i : ℕ) → mask < 256 → bytes_of 8 w ≡ take 8 (drop (8 * i) bytes) → Overlaid mask bytes seen i → Overlaid mask bytes (bit_or seen w) (i + 1)
-  overlaid_next seen w i h e l =
-      let next : 8 * (i + 1) ≡ 8 * i + 8 = omega arith in
-      rw (clear_or (mask_of 8 mask) seen w, l, word_clear mask h 8 w, e, next, take-add (8 * i) 8 bytes) (sym (all_append (is_clear mask) (take (8 * i) bytes) (take 8 (drop (8 * i) bytes))))
+  -- n words laid over what is laid so far have no bit of the mask where neither they nor that has one
+  overlaid-from : (n seen : ℕ) (bytes : List ℕ) → 8 * n ≤ length bytes → ((i : ℕ) → get_or bytes i 0 < 256)
+      → is_clear (mask_of 8 mask) (fold laid seen (first_chunks 8 n bytes)) ≡ (is_clear (mask_of 8 mask) seen && all_of (is_clear mask) (take (8 * n) bytes))
+  overlaid-from zero seen bytes l h = unfold all_of in sym (and-true (is_clear (mask_of 8 mask) seen))
+  overlaid-from (suc n) seen bytes l h =
+      let more : 8 * suc n ≡ 8 + 8 * n = omega arith in
+      overlaid-from n (laid seen (take 8 bytes)) (drop 8 bytes) (rw length-drop (omega (arith, l))) (λ i. rw get_or-drop (h (8 + i)))
+      ∙ rw (
+        clear_or (mask_of 8 mask) seen (from_le_bytes w64 (take 8 bytes)),
+        word_laid (take 8 bytes) (length-take-le 8 bytes (omega (arith, l))) first,
+        more,
+        take-add 8 (8 * n) bytes,
+        all_append (is_clear mask) (take 8 bytes) (take (8 * n) (drop 8 bytes)),
+      ) (sym (and_assoc (is_clear (mask_of 8 mask) seen) (all_of (is_clear mask) (take 8 bytes)) (all_of (is_clear mask) (take (8 * n) (drop 8 bytes)))))
+    where
+      first : (i : ℕ) → get_or (take 8 bytes) i 0 < 256
+      first i = elim (lt_or_le i 8) [
+        | inl k ↦ rw (get_or-take 8 bytes i 0 k) (h i)
+        | inr k ↦ let e : get_or (take 8 bytes) i 0 ≡ 0 = get_or-eq_default (take 8 bytes) 0 (rw (length-take-le 8 bytes (omega (arith, l))) k) in omega (arith, e)
+      ]
 
-  -- all are, and tested; the bytes that fill none remain
-  pub overlaid_tested : (seen i words : ℕ) (ok : Bool) → i ≤ words → words ≤ i → 8 * words ≤ length bytes → ok ≡ is_clear (mask * 0x0101_0101_0101_0101) seen
-      → Overlaid mask bytes seen i → Tested (is_clear mask) bytes (length bytes) ok (8 * words)
-  overlaid_tested seen i words ok a b h e l =
-      let n : i ≡ words = omega (arith, a, b) in
-      (h, refl, e ∙ rw (mask_eight mask, l, n))
+  -- all words of a list, laid over each other and tested together, and the bytes behind them one by one: that tests every byte
+  pub overlaid : (bytes : List ℕ) → ((i : ℕ) → get_or bytes i 0 < 256)
+      → (is_clear (mask * 0x0101_0101_0101_0101) (fold laid 0 (first_chunks 8 (length bytes / 8) bytes)) && all_of (is_clear mask) (drop (length bytes / 8 * 8) bytes))
+      ≡ all_of (is_clear mask) bytes
+  overlaid bytes h =
+      let n = length bytes / 8 in
+      let same : n * 8 ≡ 8 * n = omega arith in
+      rw (mask_eight mask, overlaid-from n 0 bytes (omega arith) h, clear_none (mask_of 8 mask), same)
+      (sym (all_append (is_clear mask) (take (8 * n) bytes) (drop (8 * n) bytes)) ∙ ap (all_of (is_clear mask)) (take-append-drop (8 * n) bytes))

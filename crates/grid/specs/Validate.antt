@@ -1,5 +1,5 @@
 -- Document 01's refusals 1 to 6 of a recording: what each test passes, and which refusal is given first.
-use Rattle.std.specs.Prelude.{ℕ, ◌*◌, Bool, true, false, ◌&&◌, cond, List, ltb, leb, eqb, Float, length}
+use Rattle.std.specs.Prelude.{ℕ, ◌*◌, Bool, true, false, ◌&&◌, cond, List, ltb, leb, eqb, Float, length, Result, Ok, Err}
 use Rattle.base_terms.specs.Lists.{all_of}
 use Rattle.base_terms.specs.Limits.{max_len}
 use Rattle.grid.specs.Limits.{max_rate, max_frame_rate, max_hop, max_frames}
@@ -9,8 +9,8 @@ use Rattle.grid.specs.declared.boundary.FrameGrid.{FrameGrid}
 use Rattle.grid.specs.declared.validate.Domain.{Domain}
 use Rattle.grid.specs.declared.validate.Domain.TheVariants.{Decibels, Scores}
 use Rattle.grid.specs.declared.validate.Recording.{Recording}
-use Rattle.grid.specs.declared.validate.Validity.{Validity}
-use Rattle.grid.specs.declared.validate.Validity.TheVariants.{Valid, BadSampleRate, NoChannels, BadFrames, BadLists, BadValue, NotCovered}
+use Rattle.grid.specs.declared.validate.Refusal.{Refusal}
+use Rattle.grid.specs.declared.validate.Refusal.TheVariants.{BadSampleRate, NoChannels, BadFrames, BadLists, BadValue, NotCovered}
 
 -- ---- the six tests, each true where the recording passes
 
@@ -60,11 +60,11 @@ grid_of r frames =
     record { sample_rate = r.sample_rate; frame_rate = r.frame_rate; hop = r.hop; len = r.len; frames = frames }
 
 -- the rest of the chain where a test passes, its refusal where it does not
-abbrev pub or_else : Bool → Validity → Validity → Validity
-or_else passes refusal rest = cond passes rest refusal
+abbrev pub or_else : Bool → Refusal → Result Unit Refusal → Result Unit Refusal
+or_else passes refusal rest = cond passes rest (Err refusal)
 
 -- the first test that fails, in document 01's order
-unfoldable pub validity_of : Recording → List Float → List ℕ → List Float → Validity
+unfoldable pub validity_of : Recording → List Float → List ℕ → List Float → Result Unit Refusal
 validity_of r values flags levels =
     or_else (rate_ok r.sample_rate) BadSampleRate
     (or_else (channels_ok r.channels) NoChannels
@@ -72,24 +72,23 @@ validity_of r values flags levels =
     (or_else (lists_ok r.domain (length values) (length flags) (length levels)) BadLists
     (or_else (values_ok r.domain values flags levels) BadValue
     (or_else (length_ok (grid_of r (length values))) NotCovered
-    Valid)))))
+    (Ok tt))))))
 
 -- the recording is accepted
-abbrev pub is_valid : Validity → Bool
-is_valid Valid = true
-is_valid BadSampleRate = false
-is_valid NoChannels = false
-is_valid BadFrames = false
-is_valid BadLists = false
-is_valid BadValue = false
-is_valid NotCovered = false
+abbrev pub is_valid : Result Unit Refusal → Bool
+is_valid (Ok u) = true
+is_valid (Err r) = false
 
--- document 01's number for each case; 0 where the recording is accepted
-abbrev pub refusal_of : Validity → ℕ
-refusal_of Valid = 0
-refusal_of BadSampleRate = 1
-refusal_of NoChannels = 2
-refusal_of BadFrames = 3
-refusal_of BadLists = 4
-refusal_of BadValue = 5
-refusal_of NotCovered = 6
+-- document 01's number for each refusal
+abbrev pub number_of : Refusal → ℕ
+number_of BadSampleRate = 1
+number_of NoChannels = 2
+number_of BadFrames = 3
+number_of BadLists = 4
+number_of BadValue = 5
+number_of NotCovered = 6
+
+-- and 0 where the recording is accepted
+abbrev pub refusal_of : Result Unit Refusal → ℕ
+refusal_of (Ok u) = 0
+refusal_of (Err r) = number_of r

@@ -1,6 +1,6 @@
 -- The chain of the tests: which answer each end gives, and what an accepted recording has passed.
-use Rattle.std.specs.Prelude.{◌≡◌, refl, ◌↔◌, Bool, true, false, ◌&&◌, List, ℕ, ◌+◌, ◌*◌, ◌≤◌, ◌<◌, T, ltb, leb, eqb, Float}
-use Rattle.std.proofs.Common.{sym, ap, subst, ◌∙◌, le_trans, arith, ltb→lt, leb→le, lit≤, le-leb}
+use Rattle.std.specs.Prelude.{◌≡◌, refl, ◌↔◌, Bool, true, false, ◌&&◌, List, ℕ, ◌+◌, ◌*◌, ◌≤◌, ◌<◌, ltb, leb, eqb, Float, Result, Ok, Err}
+use Rattle.std.proofs.Common.{sym, ap, ◌∙◌, le_trans, arith, ltb→lt, leb→le, lit≤, le-leb}
 use Rattle.std.specs.Float.Ieee.Fits.{and_l, and_r}
 use Rattle.std.proofs.Math.ListN.{length}
 use Rattle.base_terms.specs.Limits.{max_len}
@@ -8,12 +8,12 @@ use Rattle.base_laws.specs.Tests.{holds, both, unmet}
 use Rattle.grid.specs.Limits.{max_rate, max_frame_rate, max_hop, max_frames}
 use Rattle.grid.specs.Boundary.{Bounded, boundary_of, covers}
 use Rattle.grid.specs.BoundaryLaws.{Accepted, boundary_rises}
-use Rattle.grid.specs.Validate.{is_up_to, rate_ok, channels_ok, frame_step_ok, frames_ok, level_count, lists_ok, values_ok, length_ok, grid_of, or_else, validity_of, is_valid, refusal_of}
+use Rattle.grid.specs.Validate.{is_up_to, rate_ok, channels_ok, frame_step_ok, frames_ok, level_count, lists_ok, values_ok, length_ok, grid_of, or_else, validity_of, is_valid, number_of, refusal_of}
 use Rattle.grid.specs.declared.boundary.FrameGrid.{FrameGrid}
 use Rattle.grid.specs.declared.validate.Domain.{Domain}
 use Rattle.grid.specs.declared.validate.Recording.{Recording}
-use Rattle.grid.specs.declared.validate.Validity.{Validity}
-use Rattle.grid.specs.declared.validate.Validity.TheVariants.{Valid, BadSampleRate, NoChannels, BadFrames, BadLists, BadValue, NotCovered}
+use Rattle.grid.specs.declared.validate.Refusal.{Refusal}
+use Rattle.grid.specs.declared.validate.Refusal.TheVariants.{BadSampleRate, NoChannels, BadFrames, BadLists, BadValue, NotCovered}
 
 -- what the six tests leave of a recording
 pub record AcceptedRecording (r : Recording) (values : List Float) (flags : List ℕ) (levels : List Float) : Type 0 where
@@ -55,10 +55,10 @@ frames_parts rate frameRate hop e =
     let q = step_parts frameRate hop p.0 in
     (q.0, q.1, leb→le frameRate (hop * rate) (holds p.1))
 
--- a chain that accepts has passed its first test, and its rest accepts: no refusal has the number 0
-step : (b : Bool) (refusal : Validity) {rest : Validity} → T (ltb 0 (refusal_of refusal)) → or_else b refusal rest ≡ Valid → (b ≡ true) × (rest ≡ Valid)
-step true refusal n e = (refl, e)
-step false refusal n e = absurd (subst (λ (v : Validity). T (ltb 0 (refusal_of v))) e n)
+-- a chain that accepts has passed its first test, and its rest accepts
+step : (b : Bool) (refusal : Refusal) {rest : Result Unit Refusal} → or_else b refusal rest ≡ Ok tt → (b ≡ true) × (rest ≡ Ok tt)
+step true refusal e = (refl, e)
+step false refusal e = unmet (ap is_valid e)
 
 -- test 4, taken apart
 pub lists_parts : (domain : Domain) (frames flags levels : ℕ) → lists_ok domain frames flags levels ≡ true
@@ -76,28 +76,27 @@ length_parts g e = both (leb g.len max_len) (covers g) e
 
 -- ---- the number 0
 
--- only `Valid` accepts
-pub valid_is : (v : Validity) → is_valid v ≡ true → v ≡ Valid
-valid_is Valid e = refl
-valid_is BadSampleRate e = unmet e
-valid_is NoChannels e = unmet e
-valid_is BadFrames e = unmet e
-valid_is BadLists e = unmet e
-valid_is BadValue e = unmet e
-valid_is NotCovered e = unmet e
+-- only `Ok` accepts
+pub valid_is : (v : Result Unit Refusal) → is_valid v ≡ true → v ≡ Ok tt
+valid_is (Ok u) e = refl
+valid_is (Err r) e = unmet e
+
+-- no refusal has the number 0
+pub number_some : (r : Refusal) → number_of r ≡ 0 → ⊥
+number_some BadSampleRate e = omega arith
+number_some NoChannels e = omega arith
+number_some BadFrames e = omega arith
+number_some BadLists e = omega arith
+number_some BadValue e = omega arith
+number_some NotCovered e = omega arith
 
 -- the number is 0 exactly where the recording is accepted
-pub refusal_none : (v : Validity) → (refusal_of v ≡ 0) ↔ (v ≡ Valid)
+pub refusal_none : (v : Result Unit Refusal) → (refusal_of v ≡ 0) ↔ (v ≡ Ok tt)
 refusal_none v = (only v, λ e. ap refusal_of e)
   where
-    only : (w : Validity) → refusal_of w ≡ 0 → w ≡ Valid
-    only Valid e = refl
-    only BadSampleRate e = absurd (omega arith)
-    only NoChannels e = absurd (omega arith)
-    only BadFrames e = absurd (omega arith)
-    only BadLists e = absurd (omega arith)
-    only BadValue e = absurd (omega arith)
-    only NotCovered e = absurd (omega arith)
+    only : (w : Result Unit Refusal) → refusal_of w ≡ 0 → w ≡ Ok tt
+    only (Ok u) e = refl
+    only (Err r) e = absurd (number_some r e)
 
 -- ---- an accepted recording
 
@@ -130,59 +129,59 @@ module _ (r : Recording) (values : List Float) (flags : List ℕ) (levels : List
   -- ---- the seven ends of the chain, each under what has passed before it
 
   -- 1 is given where the sample rate is outside its limits
-  pub fails_rate : rate_ok r.sample_rate ≡ false → BadSampleRate ≡ validity_of r values flags levels
+  pub fails_rate : rate_ok r.sample_rate ≡ false → Err BadSampleRate ≡ validity_of r values flags levels
   unfolding validity_of
   fails_rate n = rw n
 
   module _ (a : rate_ok r.sample_rate ≡ true) where
     -- 2, where there is no channel
-    pub fails_channels : channels_ok r.channels ≡ false → NoChannels ≡ validity_of r values flags levels
+    pub fails_channels : channels_ok r.channels ≡ false → Err NoChannels ≡ validity_of r values flags levels
     unfolding validity_of
     fails_channels n = rw (a, n)
 
     module _ (b : channels_ok r.channels ≡ true) where
       -- 3, where frame rate or hop is outside its limits, or a frame is shorter than a sample
-      pub fails_frames : frames_ok r.sample_rate r.frame_rate r.hop ≡ false → BadFrames ≡ validity_of r values flags levels
+      pub fails_frames : frames_ok r.sample_rate r.frame_rate r.hop ≡ false → Err BadFrames ≡ validity_of r values flags levels
       unfolding validity_of
       fails_frames n = rw (a, b, n)
 
       module _ (c : frames_ok r.sample_rate r.frame_rate r.hop ≡ true) where
         -- 4, where the lists do not have the lengths that go together
-        pub fails_lists : lists_ok r.domain (length values) (length flags) (length levels) ≡ false → BadLists ≡ validity_of r values flags levels
+        pub fails_lists : lists_ok r.domain (length values) (length flags) (length levels) ≡ false → Err BadLists ≡ validity_of r values flags levels
         unfolding validity_of
         fails_lists n = rw (a, b, c, n)
 
         module _ (d : lists_ok r.domain (length values) (length flags) (length levels) ≡ true) where
           -- 5, where a value, flag or level is not one of its domain
-          pub fails_values : values_ok r.domain values flags levels ≡ false → BadValue ≡ validity_of r values flags levels
+          pub fails_values : values_ok r.domain values flags levels ≡ false → Err BadValue ≡ validity_of r values flags levels
           unfolding validity_of
           fails_values n = rw (a, b, c, d, n)
 
           -- 6, where the frames do not cover the length, or it is too long
-          pub fails_length : values_ok r.domain values flags levels ≡ true → length_ok (grid_of r (length values)) ≡ false → NotCovered ≡ validity_of r values flags levels
+          pub fails_length : values_ok r.domain values flags levels ≡ true → length_ok (grid_of r (length values)) ≡ false → Err NotCovered ≡ validity_of r values flags levels
           unfolding validity_of
           fails_length e n = rw (a, b, c, d, e, n)
 
   -- where all six pass, the recording is accepted
-  pub passes : AcceptedRecording r values flags levels → Valid ≡ validity_of r values flags levels
+  pub passes : AcceptedRecording r values flags levels → Ok tt ≡ validity_of r values flags levels
   unfolding validity_of
   passes p = rw (p.rate, p.channels, p.frames, p.lists, p.within, p.length)
 
   -- ---- and back: what an accepted recording has passed
 
   -- only a recording that has passed all six is accepted; in which order the last three are tested does not matter
-  pub passed : validity_of r values flags levels ≡ Valid → AcceptedRecording r values flags levels
+  pub passed : validity_of r values flags levels ≡ Ok tt → AcceptedRecording r values flags levels
   unfolding validity_of
   passed e =
-      let p = step (rate_ok r.sample_rate) BadSampleRate tt e in
-      let q = step (channels_ok r.channels) NoChannels tt p.1 in
-      let s = step (frames_ok r.sample_rate r.frame_rate r.hop) BadFrames tt q.1 in
+      let p = step (rate_ok r.sample_rate) BadSampleRate e in
+      let q = step (channels_ok r.channels) NoChannels p.1 in
+      let s = step (frames_ok r.sample_rate r.frame_rate r.hop) BadFrames q.1 in
       record { rate = p.0; channels = q.0; frames = s.0; lists = grind (arith, s.1); within = grind (arith, s.1); length = grind (arith, s.1) }
 
   -- so its grid is accepted
-  pub valid_accepted : validity_of r values flags levels ≡ Valid → Accepted (grid_of r (length values))
+  pub valid_accepted : validity_of r values flags levels ≡ Ok tt → Accepted (grid_of r (length values))
   valid_accepted e = passed_accepted (passed e)
 
   -- document 01: "in an accepted recording each boundary up to the frame count is above the one before"
-  pub valid_rises : validity_of r values flags levels ≡ Valid → (k : ℕ) → k < length values → boundary_of (grid_of r (length values)) k < boundary_of (grid_of r (length values)) (k + 1)
+  pub valid_rises : validity_of r values flags levels ≡ Ok tt → (k : ℕ) → k < length values → boundary_of (grid_of r (length values)) k < boundary_of (grid_of r (length values)) (k + 1)
   valid_rises e k h = boundary_rises (grid_of r (length values)) (valid_accepted e) k h

@@ -1,6 +1,6 @@
 -- What refusal 5's ranges leave of a value: a finite one is a number, and a score is finite.
 use Rattle.std.specs.Prelude.{◌≡◌, refl, true, false, not, ◌&&◌, List, ℕ, T, Float}
-use Rattle.std.specs.Float.{nan, inf, fin}
+use Rattle.std.specs.Float.{nan, inf, fin, float_is_finite}
 use Rattle.std.specs.Float.Ieee.{le, lt, is_nan}
 use Rattle.std.specs.Float.Ieee.Scale.{finite}
 use Rattle.base_laws.specs.Tests.{holds, both}
@@ -19,6 +19,14 @@ value_finite nan h = holds h
 value_finite (inf true) h = holds h
 value_finite (inf false) h = holds h
 value_finite (fin s m e) h = tt
+
+-- and std's
+pub finite_is : (x : Float) → float_is_finite x ≡ is_finite x
+unfolding is_finite lt float_is_finite
+finite_is nan = refl
+finite_is (inf true) = refl
+finite_is (inf false) = refl
+finite_is (fin s m e) = refl
 
 -- a finite value is a number
 pub value_number : (x : Float) → is_finite x ≡ true → T (not (is_nan x))

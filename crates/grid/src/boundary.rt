@@ -45,9 +45,6 @@ impl FrameGrid {
         if len == 0 {
             return n == 0;
         }
-        if n == 0 {
-            return false;
-        }
-        self.start(n - 1) < len && len < self.start(n + 1)
+        0 < n && self.start(n - 1) < len && len < self.start(n + 1)
     }
 }

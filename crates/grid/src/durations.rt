@@ -25,6 +25,7 @@ fn product(nanos: u64, frame_rate: u32) -> u64
 }
 
 // A duration in whole frames, rounded half up.
+// Three functions, as the C interface has three names: each is one expression, and one over a rounding is no plainer.
 pub fn frames_in(frame_rate: u32, hop: u32, nanos: u64) -> u64
     requires { InFrames frame_rate hop nanos }
     ensures { result ≡ frames_in frame_rate hop nanos }
@@ -38,8 +39,7 @@ pub fn frames_ceil(frame_rate: u32, hop: u32, nanos: u64) -> u64
     requires { InFrames frame_rate hop nanos }
     ensures { result ≡ frames_ceil frame_rate hop nanos }
 {
-    let den = (hop as u64) * NANOS_PER_SEC;
-    (product(nanos, frame_rate) + (den - 1)) / den
+    product(nanos, frame_rate).div_ceil((hop as u64) * NANOS_PER_SEC)
 }
 
 // A duration in whole frames, rounded down.

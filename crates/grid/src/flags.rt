@@ -1,10 +1,11 @@
 // Tests of a recording's flags, eight bytes at a time: words are laid over each other, and what lies there is tested
 // once. The bytes that fill no word are tested singly. No loop has an early exit: almost every list that is lent passes.
-ghost use Rattle.std.specs.Prelude.{◌≡◌, length};
+ghost use Rattle.std.specs.Prelude.{◌≡◌};
 ghost use Rattle.base_terms.specs.Lists.{all_of};
-ghost use Rattle.base_terms.specs.Bytes.{bytes_of};
 ghost use Rattle.grid.specs.Values.{is_flag, is_unflagged};
 ghost use Rattle.grid.specs.Words.{is_clear};
+
+use crate::values;
 
 // The bits that neither 0 nor 1 has.
 const ABOVE_ONE: u8 = 0xfe;
@@ -14,21 +15,6 @@ const ABOVE_ZERO: u8 = 0xff;
 
 // A 1 at each byte: a byte times this stands at each of them.
 const AT_EACH: u64 = 0x0101_0101_0101_0101;
-
-// The word of eight bytes. A sum of products, all of one depth, is what the compiler makes a single read of.
-fn word_of(eight: &[u8]) -> u64
-    requires { length eight.now ≡ 8 }
-    ensures { bytes_of 8 result ≡ eight.now }
-{
-    eight[0] as u64
-        + eight[1] as u64 * 0x100
-        + eight[2] as u64 * 0x1_0000
-        + eight[3] as u64 * 0x100_0000
-        + eight[4] as u64 * 0x1_0000_0000
-        + eight[5] as u64 * 0x100_0000_0000
-        + eight[6] as u64 * 0x1_0000_0000_0000
-        + eight[7] as u64 * 0x100_0000_0000_0000
-}
 
 // Whether a word, or a byte, has no bit of the mask.
 fn is_clear(word: u64, mask: u64) -> bool
@@ -41,16 +27,12 @@ fn is_clear(word: u64, mask: u64) -> bool
 fn are_clear(bytes: &[u8], mask: u8) -> bool
     ensures { result ≡ all_of (is_clear mask) bytes.now }
 {
-    let words = bytes.len() / 8;
-    let mut seen: u64 = 0;
-    for i in 0..words {
-        seen = seen | word_of(&bytes[8 * i..8 * i + 8]);
-    }
-    let mut ok = is_clear(seen, mask as u64 * AT_EACH);
-    for i in 8 * words..bytes.len() {
-        ok = ok & is_clear(bytes[i] as u64, mask as u64);
-    }
-    ok
+    let (words, rest) = bytes.as_chunks::<8>();
+    let seen = words
+        .iter()
+        .fold(0, |seen, word| seen | u64::from_le_bytes(*word));
+    is_clear(seen, mask as u64 * AT_EACH)
+        & values::every(rest, |b: u8| is_clear(b as u64, mask as u64))
 }
 
 // Whether each flag byte is 0 or 1.

@@ -5,7 +5,9 @@
 pub mod boundary;
 pub mod durations;
 pub mod flags;
+pub mod readings;
 pub mod validate;
 pub mod values;
 
 pub use boundary::FrameGrid;
+pub use readings::Readings;

@@ -2,9 +2,10 @@
 ghost use Rattle.std.specs.Prelude.{◌≡◌};
 ghost use Rattle.grid.specs.Boundary.{Bounded};
 ghost use Rattle.grid.specs.Validate.{is_up_to, rate_ok, channels_ok, frame_step_ok, frames_ok, level_count};
-ghost use Rattle.grid.specs.Validate.{lists_ok, values_ok, length_ok, grid_of, validity_of, is_valid, refusal_of};
+ghost use Rattle.grid.specs.Validate.{lists_ok, values_ok, length_ok, grid_of, validity_of, number_of};
 
 use crate::boundary::FrameGrid;
+use crate::readings::Readings;
 use crate::{flags, values};
 
 pub const MAX_RATE: u32 = 768_000;
@@ -26,7 +27,7 @@ pub enum Domain {
     Scores,
 }
 
-// The numbers of a recording. Its values, flags and levels are lent beside it.
+// The numbers of a recording. Its readings are lent beside it.
 #[derive(Clone, Copy)]
 pub struct Recording {
     pub sample_rate: u32,
@@ -37,10 +38,9 @@ pub struct Recording {
     pub domain: Domain,
 }
 
-// Whether a recording is accepted, or the first test that it fails.
-#[derive(Clone, Copy)]
-pub enum Validity {
-    Valid,
+// The first test that a recording fails.
+#[derive(Clone, Copy, Debug, PartialEq, Eq)]
+pub enum Refusal {
     BadSampleRate,
     NoChannels,
     BadFrames,
@@ -50,32 +50,18 @@ pub enum Validity {
 }
 
 // Document 01's number for each case.
-pub fn refusal(v: Validity) -> u32
-    ensures { result ≡ refusal_of v }
-{
-    match v {
-        Validity::Valid => 0,
-        Validity::BadSampleRate => 1,
-        Validity::NoChannels => 2,
-        Validity::BadFrames => 3,
-        Validity::BadLists => 4,
-        Validity::BadValue => 5,
-        Validity::NotCovered => 6,
-    }
-}
+impl From<Refusal> for u32 {
+    ghost from_gives = { λ r n. n ≡ number_of r };
 
-// Whether a recording is accepted.
-pub fn is_valid(v: Validity) -> bool
-    ensures { result ≡ is_valid v }
-{
-    match v {
-        Validity::Valid => true,
-        Validity::BadSampleRate => false,
-        Validity::NoChannels => false,
-        Validity::BadFrames => false,
-        Validity::BadLists => false,
-        Validity::BadValue => false,
-        Validity::NotCovered => false,
+    fn from(r: Refusal) -> u32 {
+        match r {
+            Refusal::BadSampleRate => 1,
+            Refusal::NoChannels => 2,
+            Refusal::BadFrames => 3,
+            Refusal::BadLists => 4,
+            Refusal::BadValue => 5,
+            Refusal::NotCovered => 6,
+        }
     }
 }
 
@@ -104,20 +90,14 @@ pub fn channels_ok(channels: u16) -> bool
 pub fn frame_step_ok(frame_rate: u32, hop: u32) -> bool
     ensures { result ≡ frame_step_ok frame_rate hop }
 {
-    if !is_up_to(frame_rate, MAX_FRAME_RATE) {
-        return false;
-    }
-    is_up_to(hop, MAX_HOP)
+    is_up_to(frame_rate, MAX_FRAME_RATE) && is_up_to(hop, MAX_HOP)
 }
 
 // Test 3.
 pub fn frames_ok(sample_rate: u32, frame_rate: u32, hop: u32) -> bool
     ensures { result ≡ frames_ok sample_rate frame_rate hop }
 {
-    if !frame_step_ok(frame_rate, hop) {
-        return false;
-    }
-    frame_rate as u64 <= (hop as u64) * (sample_rate as u64)
+    frame_step_ok(frame_rate, hop) && frame_rate as u64 <= (hop as u64) * (sample_rate as u64)
 }
 
 // How many levels go with so many frames.
@@ -134,35 +114,28 @@ pub fn level_count(domain: Domain, frames: usize) -> usize
 pub fn lists_ok(domain: Domain, frames: usize, flags: usize, levels: usize) -> bool
     ensures { result ≡ lists_ok domain frames flags levels }
 {
-    if MAX_FRAMES < frames {
-        return false;
-    }
-    if flags != frames {
-        return false;
-    }
-    levels == level_count(domain, frames)
+    frames <= MAX_FRAMES && flags == frames && levels == level_count(domain, frames)
 }
 
 // Test 5 for decibels.
-fn decibels_ok(values: &[f32], flags: &[u8], levels: &[f64]) -> bool
-    ensures { result ≡ values_ok Domain.Decibels values.now flags.now levels.now }
+fn decibels_ok(readings: &Readings) -> bool
+    ensures { result
+        ≡ values_ok Domain.Decibels readings.now.values.now readings.now.flags.now readings.now.levels.now }
 {
-    if !values::are_finite_f32(values) {
-        return false;
-    }
-    if !flags::are_flags(flags) {
-        return false;
-    }
-    values::are_finite_f64(levels)
+    values::every(readings.values, f32::is_finite)
+        && flags::are_flags(readings.flags)
+        && values::every(readings.levels, f64::is_finite)
 }
 
 // Test 5.
-pub fn values_ok(domain: Domain, values: &[f32], flags: &[u8], levels: &[f64]) -> bool
-    ensures { result ≡ values_ok domain values.now flags.now levels.now }
+pub fn values_ok(domain: Domain, readings: &Readings) -> bool
+    ensures { result ≡ values_ok domain readings.now.values.now readings.now.flags.now readings.now.levels.now }
 {
     match domain {
-        Domain::Decibels => decibels_ok(values, flags, levels),
-        Domain::Scores => values::are_scores(values) && flags::are_unflagged(flags),
+        Domain::Decibels => decibels_ok(readings),
+        Domain::Scores => {
+            values::every(readings.values, values::is_score) && flags::are_unflagged(readings.flags)
+        }
     }
 }
 
@@ -189,28 +162,34 @@ impl Recording {
     }
 
     // The tests 1 to 6 in order.
-    pub fn validate(self, values: &[f32], flags: &[u8], levels: &[f64]) -> Validity
-        ensures { result ≡ validity_of self values.now flags.now levels.now }
+    // A line for each test: `(test).then_some(()).ok_or(Refusal::..)?` in its place says the same in more words.
+    pub fn validate(self, readings: &Readings) -> Result<(), Refusal>
+        ensures { result ≡ validity_of self readings.now.values.now readings.now.flags.now readings.now.levels.now }
     {
-        let domain = self.domain;
+        let frames = readings.values.len();
         if !rate_ok(self.sample_rate) {
-            return Validity::BadSampleRate;
+            return Err(Refusal::BadSampleRate);
         }
         if !channels_ok(self.channels) {
-            return Validity::NoChannels;
+            return Err(Refusal::NoChannels);
         }
         if !frames_ok(self.sample_rate, self.frame_rate, self.hop) {
-            return Validity::BadFrames;
+            return Err(Refusal::BadFrames);
         }
-        if !lists_ok(domain, values.len(), flags.len(), levels.len()) {
-            return Validity::BadLists;
+        if !lists_ok(
+            self.domain,
+            frames,
+            readings.flags.len(),
+            readings.levels.len(),
+        ) {
+            return Err(Refusal::BadLists);
         }
-        if !values_ok(domain, values, flags, levels) {
-            return Validity::BadValue;
+        if !values_ok(self.domain, readings) {
+            return Err(Refusal::BadValue);
         }
-        if !length_ok(self.grid(values.len())) {
-            return Validity::NotCovered;
+        if !length_ok(self.grid(frames)) {
+            return Err(Refusal::NotCovered);
         }
-        Validity::Valid
+        Ok(())
     }
 }

@@ -1,7 +1,7 @@
 -- A job that was written is read back, one field after another. `drop at s` is what stands ahead of a place, as in numbers_in.
 use Rattle.std.proofs.Math.Path.{◌≡◌, refl}
-use Rattle.std.proofs.Common.{ap, subst, ◌∙◌, arith}
-use Rattle.std.specs.Prelude.{Bool, false, List, ◌∷◌, ◌++◌, ℕ, ◌+◌, ◌≤◌, Float, drop}
+use Rattle.std.proofs.Common.{ap, subst, arith}
+use Rattle.std.specs.Prelude.{Bool, false, List, ◌∷◌, ◌++◌, ℕ, ◌+◌, ◌≤◌, Float, drop, Result, Ok}
 use Rattle.std.proofs.Math.Bool.{true}
 use borrow.Author.Tests.{le-leb}
 use Rattle.std.proofs.Math.Dec.{eqb, ltb}
@@ -24,17 +24,15 @@ use Rattle.plan_settings.specs.declared.config.Placement.{Placement}
 use Rattle.plan_settings.specs.declared.config.Placement.TheVariants.{Quietest, Center, Ratio}
 use Rattle.plan_settings.specs.declared.config.PlanConfig.{PlanConfig}
 use Rattle.job.specs.Limits.{most_frames}
-use Rattle.job.specs.Fields.{stands, u64_field, f32_field, kind_field, first_unknown}
-use Rattle.kinds.specs.Flagged.{domain_of, gap_of}
-use Rattle.kinds.specs.Numbered.{threshold_of, placement_of}
+use Rattle.job.specs.Fields.{Field, field, stands, u64_field, f32_field, kind_field}
+use Rattle.kinds.specs.Flagged.{domain_of}
 use Rattle.kinds.specs.NumberedLaws.{threshold_auto, threshold_absolute, threshold_below, placement_quietest, placement_center, placement_ratio}
-use Rattle.job.specs.Settings.{lengths_at, mode_at, placement_at, shape_at, weights_in, weights_at, settings_at}
-use Rattle.job.specs.Segment.{threshold_at, durations_at, segment_at}
+use Rattle.job.specs.Settings.{mode_at, gap_at, placement_at, weights_in, weights_at, settings_at}
+use Rattle.job.specs.Segment.{threshold_at, segment_at}
 use Rattle.job.specs.Recorded.{recorded_at}
 use Rattle.job.specs.Encode.{map_of, lengths_then, count_then, gap_byte, placement_then, weights_then, threshold_then, durations_then, domain_byte, recorded_then}
 use Rattle.job.specs.Encode.{IsF32, CountFits, PlacementFits, ThresholdFits, SettingsFit, WeightsFit, SegmentFits, RecordingFits}
-use Rattle.job.specs.declared.fields.Kinds.{Kinds}
-use Rattle.job.specs.declared.fields.Kinds.TheVariants.{Known}
+use Rattle.job.specs.declared.answer.Refusal.{Refusal}
 
 -- the bits that stand in every map that is written
 pub record Bits (map : ℕ) : Type 0 where
@@ -56,6 +54,12 @@ bits_of ByLength =
     record { bit0 = refl; bit1 = refl; bit2 = refl; bit4 = refl; bit5 = refl; bit6 = refl; bit7 = refl; bit8 = refl; bit9 = refl; bit10 = refl; bit11 = refl }
 bits_of (ByCount count) =
     record { bit0 = refl; bit1 = refl; bit2 = refl; bit4 = refl; bit5 = refl; bit6 = refl; bit7 = refl; bit8 = refl; bit9 = refl; bit10 = refl; bit11 = refl }
+
+-- a part with a kind in it was read as this, and behind it stands the rest
+pub record ReadBack {A : Type 0} (s : List ℕ) (part : Result (Field A) Refusal) (value : A) (rest : List ℕ) : Type 0 where
+  pub next : ℕ
+  pub part_is : part ≡ Ok (field value next)
+  pub behind : drop next s ≡ rest
 
 module _ (s : List ℕ) where
   -- the same place by another sum
@@ -79,59 +83,47 @@ module _ (s : List ℕ) where
   f32_absent at present rest p e = rw p e
 
   kind_field_lem : (kind at most : ℕ) (present : Bool) (rest : List ℕ) → present ≡ true → kind ≤ most → drop at s ≡ kind ∷ rest
-      → ((kind_field s at present most).number ≡ kind) × ((kind_field s at present most).kinds ≡ Known) × (drop (kind_field s at present most).next s ≡ rest)
+      → ReadBack s (kind_field s at present most) kind rest
   unfolding kind_field
   kind_field_lem kind at most present rest p h e =
       let b = byte_ahead s kind at rest e in
-      rw p (b.0, rw (b.0, le-leb kind most h), b.1)
+      record { next = at + 1; part_is = rw (p, b.0, le-leb kind most h); behind = b.1 }
 
   -- ---- bits 0 to 6
 
   module _ (map : ℕ) (bits : Bits map) where
-    lengths : (p : PlanConfig) (at : ℕ) (rest : List ℕ) → SettingsFit p → drop at s ≡ lengths_then p rest
-        → ((lengths_at s map at).min ≡ p.min) × ((lengths_at s map at).target ≡ p.target) × ((lengths_at s map at).max ≡ p.max)
-        × (drop (lengths_at s map at).next s ≡ rest)
-    unfolding lengths_at
-    lengths p at rest f e =
-        let a = u64_field_lem p.min at 5000000000 (stands map 0) _ bits.bit0 f.min_fits e in
-        let b = u64_field_lem p.target _ 15000000000 (stands map 1) _ bits.bit1 f.target_fits a.1 in
-        let c = u64_field_lem p.max _ 30000000000 (stands map 2) rest bits.bit2 f.max_fits b.1 in
-        (a.0, b.0, c.0, c.1)
-
     placement : (place : Placement) (at : ℕ) (rest : List ℕ) → PlacementFits place → drop at s ≡ placement_then place rest
-        → ((placement_at s map at).placement ≡ place) × ((placement_at s map at).kinds ≡ Known) × (drop (placement_at s map at).next s ≡ rest)
+        → ReadBack s (placement_at s map at) place rest
     unfolding placement_at
     placement Quietest at rest f e =
         let k = kind_field_lem 0 at 2 (stands map 5) rest bits.bit5 (omega arith) e in
-        (rw k.0 (placement_quietest _), k.1, f32_absent _ _ rest (rw k.0) k.2)
+        record { next = _; part_is = rw (k.part_is, placement_quietest _); behind = f32_absent k.next (eqb 0 2) rest refl k.behind }
     placement Center at rest f e =
         let k = kind_field_lem 1 at 2 (stands map 5) rest bits.bit5 (omega arith) e in
-        (rw k.0 (placement_center _), k.1, f32_absent _ _ rest (rw k.0) k.2)
+        record { next = _; part_is = rw (k.part_is, placement_center _); behind = f32_absent k.next (eqb 1 2) rest refl k.behind }
     placement (Ratio ratio) at rest f e =
         let k = kind_field_lem 2 at 2 (stands map 5) (f32_bytes ratio ++ rest) bits.bit5 (omega arith) e in
-        let x = f32_field_lem ratio _ _ rest (ap (λ (n : ℕ). eqb n 2) k.0) f k.2 in
-        (ratio_is _ _ ratio k.0 x.0, k.1, x.1)
-      where
-        ratio_is : (n : ℕ) (x r : Float) → n ≡ 2 → x ≡ r → placement_of n x ≡ Ratio r
-        ratio_is n x r a b = rw (a, b) (placement_ratio r)
+        let x = f32_field_lem ratio k.next (eqb 2 2) rest refl f k.behind in
+        record { next = _; part_is = rw (k.part_is, placement_ratio _, x.0); behind = x.1 }
 
     -- the count stands where the mode has one
     mode : (asked : Mode) (at : ℕ) (rest : List ℕ) → map ≡ map_of asked → CountFits asked → drop at s ≡ count_then asked rest
-        → ((mode_at s map at).mode ≡ asked) × (drop (mode_at s map at).next s ≡ rest)
+        → ((mode_at s map at).value ≡ asked) × (drop (mode_at s map at).next s ≡ rest)
     unfolding mode_at
     mode ByLength at rest m f e = rw m (refl, e)
     mode (ByCount count) at rest m f e = let n = u32_ahead s count at rest f e in rw m (ap ByCount n.0, n.1)
 
-    gap_is : (gap : Gap) → gap_of (ltb 0 (gap_byte gap)) ≡ gap
-    gap_is Keep = refl
-    gap_is Drop = refl
-
-    gap_known : (gap : Gap) → gap_byte gap ≤ 1
-    gap_known Keep = omega arith
-    gap_known Drop = omega arith
+    gap : (asked : Gap) (at : ℕ) (rest : List ℕ) → drop at s ≡ gap_byte asked ∷ rest → ReadBack s (gap_at s map at) asked rest
+    unfolding gap_at
+    gap Keep at rest e =
+        let k = kind_field_lem 0 at 1 (stands map 4) rest bits.bit4 (omega arith) e in
+        record { next = k.next; part_is = rw k.part_is; behind = k.behind }
+    gap Drop at rest e =
+        let k = kind_field_lem 1 at 1 (stands map 4) rest bits.bit4 (omega arith) e in
+        record { next = k.next; part_is = rw k.part_is; behind = k.behind }
 
     weights : (w : Weights) (at : ℕ) (rest : List ℕ) → WeightsFit w → drop at s ≡ weights_then w rest
-        → ((weights_at s map at).weights ≡ w) × (drop (weights_at s map at).next s ≡ rest)
+        → ((weights_at s map at).value ≡ w) × (drop (weights_at s map at).next s ≡ rest)
     unfolding weights_at weights_in
     weights w at rest f e =
         let a = f64_ahead s w.cut at _ f.cut_fits e in
@@ -144,62 +136,45 @@ module _ (s : List ℕ) where
 
     pub settings : (p : PlanConfig) (at : ℕ) (rest : List ℕ) → map ≡ map_of p.mode → SettingsFit p → WeightsFit p.weights
         → drop at s ≡ lengths_then p (count_then p.mode (gap_byte p.gap ∷ placement_then p.placement (weights_then p.weights rest)))
-        → ((settings_at s map at).settings ≡ p) × ((settings_at s map at).kinds ≡ Known) × (drop (settings_at s map at).next s ≡ rest)
-    unfolding settings_at shape_at first_unknown
+        → ReadBack s (settings_at s map at) p rest
+    unfolding settings_at
     settings p at rest m f g e =
-        let l = lengths p at _ f e in
-        let a = mode p.mode _ _ m f.count_fits l.3 in
-        let k = kind_field_lem (gap_byte p.gap) _ 1 (stands map 4) _ bits.bit4 (gap_known p.gap) a.1 in
-        let b = placement p.placement _ _ f.placement_fits k.2 in
-        let w = weights p.weights _ rest g b.2 in
-        (same p l.0 l.1 l.2 a.0 (ap (λ (n : ℕ). gap_of (ltb 0 n)) k.0 ∙ gap_is p.gap) b.0 w.0, both_known _ _ k.1 b.1, w.1)
-      where
-        same : (p : PlanConfig) {least target most : ℕ} {asked : Mode} {gap : Gap} {place : Placement} {costs : Weights}
-            → least ≡ p.min → target ≡ p.target → most ≡ p.max → asked ≡ p.mode → gap ≡ p.gap → place ≡ p.placement → costs ≡ p.weights
-            → ◌≡◌ {A = PlanConfig} (record { min = least; target = target; max = most; mode = asked; gap = gap; placement = place; weights = costs }) p
-        same p a b c d e f g = rw (a, b, c, d, e, f, g)
-
-        both_known : (a b : Kinds) → a ≡ Known → b ≡ Known → first_unknown a b ≡ Known
-        both_known a b x y = rw (x, y)
+        let a = u64_field_lem p.min at 5000000000 (stands map 0) _ bits.bit0 f.min_fits e in
+        let b = u64_field_lem p.target _ 15000000000 (stands map 1) _ bits.bit1 f.target_fits a.1 in
+        let c = u64_field_lem p.max _ 30000000000 (stands map 2) _ bits.bit2 f.max_fits b.1 in
+        let d = mode p.mode _ _ m f.count_fits c.1 in
+        let k = gap p.gap _ _ d.1 in
+        let l = placement p.placement _ _ f.placement_fits k.behind in
+        let w = weights p.weights _ rest g l.behind in
+        record { next = _; part_is = rw (k.part_is, l.part_is, a.0, b.0, c.0, d.0, w.0); behind = w.1 }
 
     -- ---- bits 7 to 11
 
     threshold : (t : Threshold) (at : ℕ) (rest : List ℕ) → ThresholdFits t → drop at s ≡ threshold_then t rest
-        → ((threshold_at s map at).threshold ≡ t) × ((threshold_at s map at).kinds ≡ Known) × (drop (threshold_at s map at).next s ≡ rest)
+        → ReadBack s (threshold_at s map at) t rest
     unfolding threshold_at
     threshold Auto at rest f e =
         let k = kind_field_lem 0 at 2 (stands map 7) rest bits.bit7 (omega arith) e in
-        (rw k.0 (threshold_auto _), k.1, f32_absent _ _ rest (rw k.0) k.2)
+        record { next = _; part_is = rw (k.part_is, threshold_auto _); behind = f32_absent k.next (ltb 0 0) rest refl k.behind }
     threshold (Abs level) at rest f e =
         let k = kind_field_lem 1 at 2 (stands map 7) (f32_bytes level ++ rest) bits.bit7 (omega arith) e in
-        let x = f32_field_lem level _ _ rest (ap (λ (n : ℕ). ltb 0 n) k.0) f k.2 in
-        (abs_is _ _ level k.0 x.0, k.1, x.1)
-      where
-        abs_is : (n : ℕ) (x v : Float) → n ≡ 1 → x ≡ v → threshold_of n x ≡ Abs v
-        abs_is n x v a b = rw (a, b) (threshold_absolute v)
+        let x = f32_field_lem level k.next (ltb 0 1) rest refl f k.behind in
+        record { next = _; part_is = rw (k.part_is, threshold_absolute _, x.0); behind = x.1 }
     threshold (BelowRef level) at rest f e =
         let k = kind_field_lem 2 at 2 (stands map 7) (f32_bytes level ++ rest) bits.bit7 (omega arith) e in
-        let x = f32_field_lem level _ _ rest (ap (λ (n : ℕ). ltb 0 n) k.0) f k.2 in
-        (below_is _ _ level k.0 x.0, k.1, x.1)
-      where
-        below_is : (n : ℕ) (x v : Float) → n ≡ 2 → x ≡ v → threshold_of n x ≡ BelowRef v
-        below_is n x v a b = rw (a, b) (threshold_below v)
+        let x = f32_field_lem level k.next (ltb 0 2) rest refl f k.behind in
+        record { next = _; part_is = rw (k.part_is, threshold_below _, x.0); behind = x.1 }
 
     pub segment : (g : SegmentConfig) (at : ℕ) (rest : List ℕ) → SegmentFits g → drop at s ≡ threshold_then g.threshold (durations_then g rest)
-        → ((segment_at s map at).segment ≡ g) × ((segment_at s map at).kinds ≡ Known) × (drop (segment_at s map at).next s ≡ rest)
-    unfolding segment_at durations_at
+        → ReadBack s (segment_at s map at) g rest
+    unfolding segment_at
     segment g at rest f e =
         let t = threshold g.threshold at _ f.threshold_fits e in
-        let a = u64_field_lem g.min_silence _ 250000000 (stands map 8) _ bits.bit8 f.silence_fits t.2 in
+        let a = u64_field_lem g.min_silence _ 250000000 (stands map 8) _ bits.bit8 f.silence_fits t.behind in
         let b = u64_field_lem g.min_sound _ 100000000 (stands map 9) _ bits.bit9 f.sound_fits a.1 in
         let c = u64_field_lem g.pre _ 100000000 (stands map 10) _ bits.bit10 f.pre_fits b.1 in
         let d = u64_field_lem g.tail _ 200000000 (stands map 11) rest bits.bit11 f.tail_fits c.1 in
-        (same g t.0 a.0 b.0 c.0 d.0, t.1, d.1)
-      where
-        same : (g : SegmentConfig) {limit : Threshold} {silence sound before after : ℕ}
-            → limit ≡ g.threshold → silence ≡ g.min_silence → sound ≡ g.min_sound → before ≡ g.pre → after ≡ g.tail
-            → ◌≡◌ {A = SegmentConfig} (record { threshold = limit; min_silence = silence; min_sound = sound; pre = before; tail = after }) g
-        same g a b c d e = rw (a, b, c, d, e)
+        record { next = _; part_is = rw (t.part_is, a.0, b.0, c.0, d.0); behind = d.1 }
 
   -- ---- the recording
 
@@ -212,8 +187,8 @@ module _ (s : List ℕ) where
   domain_known Decibels = omega arith
 
   pub recorded : (r : Recording) (frames at : ℕ) (rest : List ℕ) → RecordingFits r → frames ≤ most_frames → drop at s ≡ recorded_then r frames rest
-      → ((recorded_at s at).recording ≡ r) × ((recorded_at s at).kinds ≡ Known) × ((recorded_at s at).frames ≡ frames)
-      × (drop (at + 23) s ≡ bytes_of 4 frames ++ rest) × (drop (recorded_at s at).next s ≡ rest)
+      → (recorded_at s at ≡ Ok (field (record { recording = r; frames = frames }) (at + 27)))
+      × (drop (at + 23) s ≡ bytes_of 4 frames ++ rest) × (drop (at + 27) s ≡ rest)
   unfolding recorded_at
   recorded r frames at rest f few e =
       let a = u32_ahead s r.sample_rate at _ f.rate_fits e in
@@ -225,9 +200,7 @@ module _ (s : List ℕ) where
       let n = byte_ahead s (domain_byte r.domain) (at + 22) _ (on (at + 14 + 8) (at + 22) (omega arith) l.1) in
       let behind = on (at + 22 + 1) (at + 23) (omega arith) n.1 in
       let g = u32_ahead s frames (at + 23) rest (omega arith) behind in (
-        rw (a.0, b.0, c.0, d.0, l.0) (rw (ap (λ (n : ℕ). domain_of (ltb 0 n)) k.0 ∙ domain_is r.domain)),
-        k.1,
-        g.0,
+        rw (k.part_is, a.0, b.0, c.0, d.0, l.0, g.0, domain_is r.domain),
         behind,
         on (at + 23 + 4) (at + 27) (omega arith) g.1,
       )

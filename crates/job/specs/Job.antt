@@ -1,5 +1,5 @@
 -- The reader of a job: document 01, "The job and the listing", with the tests of refusal 19 in the order of reading.
-use Rattle.std.specs.Prelude.{ℕ, ◌+◌, ◌-◌, ◌*◌, ◌≤◌, ◌≡◌, cond, List, [], ltb, leb, Float, length, replicate}
+use Rattle.std.specs.Prelude.{ℕ, ◌+◌, ◌-◌, ◌*◌, ◌≤◌, ◌≡◌, cond, List, [], ltb, leb, Float, length, replicate, Result, Ok}
 use Rattle.base_terms.specs.Lists.{tabulate}
 use Rattle.numbers_in.specs.Numbers.{byte_at, u16_at, f32_at, f64_at}
 use Rattle.grid.specs.declared.validate.Domain.{Domain}
@@ -8,37 +8,29 @@ use Rattle.grid.specs.declared.validate.Recording.{Recording}
 use Rattle.silence_list.specs.declared.config.SegmentConfig.{SegmentConfig}
 use Rattle.plan_settings.specs.declared.config.PlanConfig.{PlanConfig}
 use Rattle.job.specs.Limits.{most_bytes, most_frames}
-use Rattle.job.specs.Fields.{first_unknown}
+use Rattle.job.specs.Fields.{refused, ◌>>=◌}
 use Rattle.job.specs.Settings.{settings_at}
 use Rattle.job.specs.Segment.{segment_at}
 use Rattle.job.specs.Recorded.{recorded_at}
 use Rattle.job.specs.declared.answer.Head.{Head}
-use Rattle.job.specs.declared.answer.Fault.{Fault}
-use Rattle.job.specs.declared.answer.Fault.TheVariants.{TooLong, UnknownBit, UnknownKind, CutShort, TooManyFrames, BytesAfter}
-use Rattle.job.specs.declared.answer.Reading.{Reading}
-use Rattle.job.specs.declared.answer.Reading.TheVariants.{Job, Refused}
-use Rattle.job.specs.declared.fields.Kinds.{Kinds}
-use Rattle.job.specs.declared.fields.Kinds.TheVariants.{Known, Unknown}
-use Rattle.job.specs.declared.read.Numbers.{Numbers}
+use Rattle.job.specs.declared.answer.Fault.TheVariants.{TooLong, UnknownBit, CutShort, TooManyFrames, BytesAfter}
+use Rattle.job.specs.declared.answer.Refusal.{Refusal}
 
 -- ---- the numbers
 
--- behind the 16-bit map: the fields whose bit stands, then the recording
-unfoldable pub numbers_of : (job : List ℕ) (map : ℕ) → Numbers
-numbers_of job map =
-    let asked = settings_at job map 2 in
-    let heard = segment_at job map asked.next in
-    let recorded = recorded_at job heard.next in
-    record {
-      head = record {
-        recording = recorded.recording;
-        segment = heard.segment;
-        settings = asked.settings;
-        frames = recorded.frames;
-        lists = recorded.next;
-      };
-      kinds = first_unknown asked.kinds (first_unknown heard.kinds recorded.kinds);
-    }
+-- behind the 16-bit map: the fields whose bit stands, then the recording; or the first kind that there is not
+unfoldable pub numbers_of : (job : List ℕ) (map : ℕ) → Result Head Refusal
+numbers_of job map = do
+  asked ← settings_at job map 2
+  heard ← segment_at job map asked.next
+  recorded ← recorded_at job heard.next
+  Ok (record {
+    recording = recorded.value.recording;
+    segment = heard.value;
+    settings = asked.value;
+    frames = recorded.value.frames;
+    lists = recorded.next;
+  })
 
 -- ---- the tests
 
@@ -52,25 +44,20 @@ abbrev pub end_of : Head → ℕ
 end_of h = h.lists + lists_size h.recording.domain h.frames
 
 -- cut short in the numbers, over 511 frames, cut short in the lists, followed by bytes: of this many bytes, and the numbers read from them
-unfoldable pub fitted : ℕ → Head → Reading
+unfoldable pub fitted : ℕ → Head → Result Head Refusal
 fitted len h =
-    cond (ltb len h.lists) (Refused CutShort len)
-    (cond (ltb most_frames h.frames) (Refused TooManyFrames (h.lists - 4))
-    (cond (ltb len (end_of h)) (Refused CutShort len)
-    (cond (ltb (end_of h) len) (Refused BytesAfter (end_of h))
-    (Job h))))
-
--- an unknown kind, at its place, or else the rest of the tests
-unfoldable pub known : Kinds → Reading → Reading
-known (Unknown at) rest = Refused UnknownKind at
-known Known rest = rest
+    cond (ltb len h.lists) (refused CutShort len)
+    (cond (ltb most_frames h.frames) (refused TooManyFrames (h.lists - 4))
+    (cond (ltb len (end_of h)) (refused CutShort len)
+    (cond (ltb (end_of h) len) (refused BytesAfter (end_of h))
+    (Ok h))))
 
 -- over 8,192 bytes, an unknown bit (12 to 15), an unknown kind, then the job's length
-unfoldable pub read_of : List ℕ → Reading
+unfoldable pub read_of : List ℕ → Result Head Refusal
 read_of job =
-    cond (ltb most_bytes (length job)) (Refused TooLong most_bytes)
-    (cond (leb 4096 (u16_at job 0)) (Refused UnknownBit 0)
-    (known (numbers_of job (u16_at job 0)).kinds (fitted (length job) (numbers_of job (u16_at job 0)).head)))
+    cond (ltb most_bytes (length job)) (refused TooLong most_bytes)
+    (cond (leb 4096 (u16_at job 0)) (refused UnknownBit 0)
+    (numbers_of job (u16_at job 0) >>= fitted (length job)))
 
 -- ---- the lists
 
@@ -113,24 +100,20 @@ pub record Asked : Type 0 where
   pub flags : List ℕ
   pub levels : List Float
 
--- the job, or why there is none and where that shows
-pub data JobOrFault : Type 0 where
-  asks : Asked → JobOrFault
-  fails : Fault → ℕ → JobOrFault
-
 -- what was read, with its lists
-unfoldable pub with_lists : List ℕ → Reading → JobOrFault
-with_lists job (Job h) =
-    asks (record {
+unfoldable pub with_lists : List ℕ → Head → Asked
+with_lists job h =
+    record {
       recording = h.recording;
       segment = h.segment;
       settings = h.settings;
       values = values_in job h;
       flags = flags_in job h;
       levels = levels_in job h;
-    })
-with_lists job (Refused fault at) = fails fault at
+    }
 
--- what bytes say as a job
-unfoldable pub job_of : List ℕ → JobOrFault
-job_of job = with_lists job (read_of job)
+-- what bytes say as a job, or why they say none and where that shows
+unfoldable pub job_of : List ℕ → Result Asked Refusal
+job_of job = do
+  head ← read_of job
+  Ok (with_lists job head)

@@ -1,52 +1,34 @@
 -- Bits 0 to 6 of the map: the settings of a plan.
-use Rattle.std.specs.Prelude.{ℕ, ◌+◌, false, cond, List, ltb, eqb}
+use Rattle.std.specs.Prelude.{ℕ, ◌+◌, false, cond, List, ltb, eqb, Result, Ok}
 use Rattle.std.specs.Float.{binary64}
 use Rattle.std.specs.Float.Ieee.{round}
 use Rattle.numbers_in.specs.Numbers.{u32_at, u64_at, f64_at}
+use Rattle.path_pieces.specs.declared.mode.Mode.{Mode}
 use Rattle.path_pieces.specs.declared.weights.Weights.{Weights}
+use Rattle.plan_settings.specs.declared.config.Gap.{Gap}
+use Rattle.plan_settings.specs.declared.config.Placement.{Placement}
+use Rattle.plan_settings.specs.declared.config.PlanConfig.{PlanConfig}
 use Rattle.kinds.specs.Flagged.{gap_of, mode_of}
 use Rattle.kinds.specs.Numbered.{placement_of}
-use Rattle.job.specs.Fields.{stands, u64_field, f32_field, kind_field, first_unknown}
-use Rattle.job.specs.declared.settings.LengthFields.{LengthFields}
-use Rattle.job.specs.declared.settings.ModeField.{ModeField}
-use Rattle.job.specs.declared.settings.PlacementField.{PlacementField}
-use Rattle.job.specs.declared.settings.Shape.{Shape}
-use Rattle.job.specs.declared.settings.WeightsField.{WeightsField}
-use Rattle.job.specs.declared.settings.Settings.{Settings}
-
--- 0 min, 1 target, 2 max: u64, else 5, 15, 30 s
-unfoldable pub lengths_at : (job : List ℕ) (map at : ℕ) → LengthFields
-lengths_at job map at =
-    let least = u64_field job at (stands map 0) 5000000000 in
-    let target = u64_field job least.next (stands map 1) 15000000000 in
-    let most = u64_field job target.next (stands map 2) 30000000000 in
-    record { min = least.value; target = target.value; max = most.value; next = most.next }
+use Rattle.job.specs.Fields.{Field, field, ◌>>=◌, stands, u64_field, f32_field, kind_field}
+use Rattle.job.specs.declared.answer.Refusal.{Refusal}
 
 -- 3 count: u32, else by length
-unfoldable pub mode_at : (job : List ℕ) (map at : ℕ) → ModeField
-mode_at job map at =
-    record { mode = mode_of (stands map 3) (u32_at job at); next = cond (stands map 3) (at + 4) at }
+unfoldable pub mode_at : (job : List ℕ) (map at : ℕ) → Field Mode
+mode_at job map at = field (mode_of (stands map 3) (u32_at job at)) (cond (stands map 3) (at + 4) at)
+
+-- 4 gap: 0 keep, 1 drop
+unfoldable pub gap_at : (job : List ℕ) (map at : ℕ) → Result (Field Gap) Refusal
+gap_at job map at = do
+  kind ← kind_field job at (stands map 4) 1
+  Ok (field (gap_of (ltb 0 kind.value)) kind.next)
 
 -- 5 placement: 0 quietest, 1 center, 2 ratio with an f32
-unfoldable pub placement_at : (job : List ℕ) (map at : ℕ) → PlacementField
-placement_at job map at =
-    let kind = kind_field job at (stands map 5) 2 in
-    let ratio = f32_field job kind.next (eqb kind.number 2) in
-    record { placement = placement_of kind.number ratio.value; kinds = kind.kinds; next = ratio.next }
-
--- 3 to 5, with 4 gap: 0 keep, 1 drop
-unfoldable pub shape_at : (job : List ℕ) (map at : ℕ) → Shape
-shape_at job map at =
-    let asked = mode_at job map at in
-    let gap = kind_field job asked.next (stands map 4) 1 in
-    let placed = placement_at job map gap.next in
-    record {
-      mode = asked.mode;
-      gap = gap_of (ltb 0 gap.number);
-      placement = placed.placement;
-      kinds = first_unknown gap.kinds placed.kinds;
-      next = placed.next;
-    }
+unfoldable pub placement_at : (job : List ℕ) (map at : ℕ) → Result (Field Placement) Refusal
+placement_at job map at = do
+  kind ← kind_field job at (stands map 5) 2
+  let ratio = f32_field job kind.next (eqb kind.value 2)
+  Ok (field (placement_of kind.value ratio.value) ratio.next)
 
 -- cut, level, pause f64, pause reference u64, target, short f64
 unfoldable pub weights_in : (job : List ℕ) (at : ℕ) → Weights
@@ -73,25 +55,25 @@ default_weights =
     }
 
 -- 6 weights
-unfoldable pub weights_at : (job : List ℕ) (map at : ℕ) → WeightsField
-weights_at job map at = record { weights = cond (stands map 6) (weights_in job at) default_weights; next = cond (stands map 6) (at + 48) at }
+unfoldable pub weights_at : (job : List ℕ) (map at : ℕ) → Field Weights
+weights_at job map at = field (cond (stands map 6) (weights_in job at) default_weights) (cond (stands map 6) (at + 48) at)
 
--- 0 to 6
-unfoldable pub settings_at : (job : List ℕ) (map at : ℕ) → Settings
-settings_at job map at =
-    let lengths = lengths_at job map at in
-    let shape = shape_at job map lengths.next in
-    let costs = weights_at job map shape.next in
-    record {
-      settings = record {
-        min = lengths.min;
-        target = lengths.target;
-        max = lengths.max;
-        mode = shape.mode;
-        gap = shape.gap;
-        placement = shape.placement;
-        weights = costs.weights;
-      };
-      kinds = shape.kinds;
-      next = costs.next;
-    }
+-- 0 min, 1 target, 2 max: u64, else 5, 15, 30 s; then 3 to 6
+unfoldable pub settings_at : (job : List ℕ) (map at : ℕ) → Result (Field PlanConfig) Refusal
+settings_at job map at = do
+  let least = u64_field job at (stands map 0) 5000000000
+  let target = u64_field job least.next (stands map 1) 15000000000
+  let most = u64_field job target.next (stands map 2) 30000000000
+  let mode = mode_at job map most.next
+  gap ← gap_at job map mode.next
+  placement ← placement_at job map gap.next
+  let weights = weights_at job map placement.next
+  Ok (field (record {
+    min = least.value;
+    target = target.value;
+    max = most.value;
+    mode = mode.value;
+    gap = gap.value;
+    placement = placement.value;
+    weights = weights.value;
+  }) weights.next)

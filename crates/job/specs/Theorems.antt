@@ -1,5 +1,5 @@
 -- What holds of every job, beyond document 01: a job that was written is read back, and every refusal of the reader is 19.
-use Rattle.std.specs.Prelude.{◌≡◌, refl, true, List, [], ◌++◌, ℕ, ◌+◌, ◌-◌, ◌*◌, ◌%◌, ◌<◌, T, Float, length, drop}
+use Rattle.std.specs.Prelude.{◌≡◌, refl, true, List, [], ◌++◌, ℕ, ◌+◌, ◌-◌, ◌*◌, ◌%◌, ◌<◌, T, Float, length, drop, Ok}
 use Rattle.std.proofs.Common.{sym, ap, subst, ◌∙◌, append-nil, arith, length-append, length-drop}
 use Rattle.std.proofs.Math.Dec.{ltb→lt}
 use Rattle.std.specs.Float.{binary32, binary64}
@@ -17,20 +17,17 @@ use Rattle.plan_settings.specs.declared.config.PlanConfig.{PlanConfig}
 use Rattle.path_pieces.specs.declared.mode.Mode.{Mode}
 use Rattle.path_pieces.specs.declared.mode.Mode.TheVariants.{ByLength, ByCount}
 use Rattle.job.specs.Answer.{fault_number}
-use Rattle.job.specs.Fields.{u64_field, f32_field, kind_field, first_unknown}
-use Rattle.job.specs.Settings.{lengths_at, mode_at, placement_at, shape_at, weights_at, settings_at}
-use Rattle.job.specs.Segment.{threshold_at, durations_at, segment_at}
+use Rattle.job.specs.Fields.{refused, u64_field, f32_field, kind_field}
+use Rattle.job.specs.Settings.{mode_at, gap_at, placement_at, weights_at, settings_at}
+use Rattle.job.specs.Segment.{threshold_at, segment_at}
 use Rattle.job.specs.Recorded.{recorded_at}
-use Rattle.job.specs.Job.{numbers_of, lists_size, end_of, fitted, known, read_of, values_in, flags_for, flags_in, levels_for, levels_in, Asked, asks, with_lists, job_of}
+use Rattle.job.specs.Job.{numbers_of, lists_size, end_of, fitted, read_of, values_in, flags_for, flags_in, levels_for, levels_in, Asked, with_lists, job_of}
 use Rattle.job.specs.JobLaws.{known_kinds, all_read}
 use Rattle.job.specs.Encode.{map_of, is_byte, flags_and_levels, lists_bytes, ListsFit, fields_bytes, encode, Encodable}
 use Rattle.job.specs.EncodeLaws.{bits_of, settings, segment, recorded}
 use Rattle.job.specs.declared.answer.Head.{Head}
 use Rattle.job.specs.declared.answer.Fault.{Fault}
 use Rattle.job.specs.declared.answer.Fault.TheVariants.{TooLong, UnknownBit, UnknownKind, CutShort, TooManyFrames, BytesAfter}
-use Rattle.job.specs.declared.answer.Reading.TheVariants.{Job, Refused}
-use Rattle.job.specs.declared.fields.Kinds.{Kinds}
-use Rattle.job.specs.declared.fields.Kinds.TheVariants.{Known}
 
 -- ---- refusals
 
@@ -102,16 +99,16 @@ lists_size_lem Decibels values flags levels f =
 
 -- the head of a job that was written, with the lists behind it
 with_lists_lem : (j : Asked) → Encodable j → (s : List ℕ) (h : Head) → h.recording ≡ j.recording → h.segment ≡ j.segment → h.settings ≡ j.settings
-    → h.frames ≡ length j.values → drop h.lists s ≡ lists_bytes j → with_lists s (Job h) ≡ asks j
+    → h.frames ≡ length j.values → drop h.lists s ≡ lists_bytes j → with_lists s h ≡ j
 unfolding with_lists values_in flags_in levels_in
 with_lists_lem j ok s h r g p n e =
     let l = lists_back s h.lists j.values ok.values_fit j.recording.domain j.flags j.levels ok.lists_fit e in
-    ap asks (same j r g p
+    same j r g p
     (subst (λ (k : ℕ). tabulate (λ (i : ℕ). f32_at s (h.lists + 4 * i)) k ≡ j.values) (sym n) l.0)
     (subst (λ (d : Domain). flags_for s d h.lists h.frames ≡ j.flags) (ap domain_in (sym r))
     (subst (λ (k : ℕ). flags_for s j.recording.domain h.lists k ≡ j.flags) (sym n) l.1))
     (subst (λ (d : Domain). levels_for s d h.lists h.frames ≡ j.levels) (ap domain_in (sym r))
-    (subst (λ (k : ℕ). levels_for s j.recording.domain h.lists k ≡ j.levels) (sym n) l.2)))
+    (subst (λ (k : ℕ). levels_for s j.recording.domain h.lists k ≡ j.levels) (sym n) l.2))
   where
     domain_in : Recording → Domain
     domain_in x = x.domain
@@ -121,11 +118,9 @@ with_lists_lem j ok s h r g p n e =
         → ◌≡◌ {A = Asked} (record { recording = r; segment = g; settings = p; values = values; flags = flags; levels = levels }) j
     same j a b c d e f = rw (a, b, c, d, e, f)
 
--- where its lists end
-end_is : (j : Asked) (h : Head) → h.recording ≡ j.recording → h.frames ≡ length j.values
-    → end_of h ≡ h.lists + lists_size j.recording.domain (length j.values)
-end_is j h r n =
-    ap (λ (x : Recording). h.lists + lists_size x.domain h.frames) r ∙ ap (λ (k : ℕ). h.lists + lists_size j.recording.domain k) n
+-- the head of a job that was written, whose lists begin at this place
+abbrev head_of : Asked → ℕ → Head
+head_of j at = record { recording = j.recording; segment = j.segment; settings = j.settings; frames = length j.values; lists = at }
 
 -- four bytes stand behind a place, and so many more: all the bytes are known
 all_bytes_lem : (len at four more : ℕ) → len - (at + 23) ≡ four + more → four ≡ 4 → at + 27 + more ≡ len
@@ -135,41 +130,34 @@ map_small : (mode : Mode) → map_of mode < 4096
 map_small ByLength = omega arith
 map_small (ByCount count) = omega arith
 
-all_known : {a b c : Kinds} → a ≡ Known → b ≡ Known → c ≡ Known → first_unknown a (first_unknown b c) ≡ Known
-unfolding first_unknown
-all_known x y z = rw (x, y, z)
-
 behind-map : (j : Asked) → drop 0 (encode j) ≡ bytes_of 2 (map_of j.settings.mode) ++ fields_bytes j
 unfolding encode
 behind-map j = refl
 
 -- A job within the limits that is written as bytes and read again is the same job.
-pub read_encoded : (j : Asked) → Encodable j → job_of (encode j) ≡ asks j
-unfolding job_of numbers_of recorded_at
+pub read_encoded : (j : Asked) → Encodable j → job_of (encode j) ≡ Ok j
+unfolding job_of numbers_of
 read_encoded j ok =
     let s = encode j in
     let map = map_of j.settings.mode in
     let bits = bits_of j.settings.mode in
     let m = u16_ahead s map 0 (fields_bytes j) (omega (arith, map_small j.settings.mode)) (behind-map j) in
     let a = settings s map bits j.settings 2 _ refl ok.settings_fit ok.weights_fit m.1 in
-    let b = segment s map bits j.segment (settings_at s map 2).next _ ok.segment_fits a.2 in
-    let at = (segment_at s map (settings_at s map 2).next).next in
-    let c = recorded s j.recording (length j.values) at (lists_bytes j) ok.recording_fits ok.few_frames b.2 in
-    let behind = sym (length-drop (at + 23) s) ∙ ap length c.3 ∙ length-append (bytes_of 4 (length j.values)) (lists_bytes j) in
+    let b = segment s map bits j.segment a.next _ ok.segment_fits a.behind in
+    let c = recorded s j.recording (length j.values) b.next (lists_bytes j) ok.recording_fits ok.few_frames b.behind in
+    let behind = sym (length-drop (b.next + 23) s) ∙ ap length c.1 ∙ length-append (bytes_of 4 (length j.values)) (lists_bytes j) in
     let size = lists_size_lem j.recording.domain j.values j.flags j.levels ok.lists_fit in
-    let h = (numbers_of s map).head in
-    let len = all_bytes_lem (length s) at _ _ behind (bytes_length 4 (length j.values)) in
-    let end = end_is j h c.0 c.2 ∙ ap (λ (k : ℕ). h.lists + k) (sym size) ∙ len in
-    let whole = all_read (length s) h (omega (arith, len)) (omega (arith, c.2, ok.few_frames)) (end_of h) refl (omega (arith, end)) (omega (arith, end)) in
-    let read =
-    known_kinds s ok.few_bytes map (sym m.0) (map_small j.settings.mode) (numbers_of s map) refl
-    (all_known a.1 b.1 c.1) (Job h) whole
-    in
-    ap (with_lists s) (sym read) ∙ with_lists_lem j ok s h c.0 b.0 a.0 c.2 c.4
+    let len = all_bytes_lem (length s) b.next _ _ behind (bytes_length 4 (length j.values)) in
+    let h = head_of j (b.next + 27) in
+    let numbers : numbers_of s map ≡ Ok h = rw (a.part_is, b.part_is, c.0) in
+    let end = ap (λ (k : ℕ). h.lists + k) (sym size) ∙ len in
+    let whole = all_read (length s) h (omega (arith, len)) (omega (arith, ok.few_frames)) (end_of h) refl (omega (arith, end)) (omega (arith, end)) in
+    let read = known_kinds s ok.few_bytes map (sym m.0) (map_small j.settings.mode) h numbers in
+    rw (← read, ← whole) (ap Ok (with_lists_lem j ok s h refl refl refl refl c.2))
 
 -- ---- an empty job
 
 -- it is cut short at its end, which is its beginning
-pub empty_job : read_of [] ≡ Refused CutShort 0
-unfolding read_of known numbers_of fitted settings_at lengths_at shape_at mode_at placement_at weights_at segment_at threshold_at durations_at recorded_at u64_field f32_field kind_field first_unknown number_of
+pub empty_job : read_of [] ≡ refused CutShort 0
+unfolding read_of numbers_of fitted settings_at mode_at gap_at placement_at weights_at segment_at threshold_at recorded_at u64_field f32_field kind_field number_of
 empty_job = refl

@@ -27,23 +27,25 @@ pub enum Fault {
     BytesAfter,
 }
 
-// The job, or why there is none and the place where that shows.
+// Why bytes are no job, and the place where that shows.
 #[derive(Clone, Copy)]
-pub enum Reading {
-    Job(Head),
-    Refused(Fault, usize),
+pub struct Refusal {
+    pub fault: Fault,
+    pub at: usize,
 }
 
 // Document 01's number for each case.
-pub fn number(fault: Fault) -> u32
-    ensures { result ≡ fault_number fault }
-{
-    match fault {
-        Fault::TooLong => 19,
-        Fault::UnknownBit => 19,
-        Fault::UnknownKind => 19,
-        Fault::CutShort => 19,
-        Fault::TooManyFrames => 19,
-        Fault::BytesAfter => 19,
+impl From<Fault> for u32 {
+    ghost from_gives = { λ fault n. n ≡ fault_number fault };
+
+    fn from(fault: Fault) -> u32 {
+        match fault {
+            Fault::TooLong => 19,
+            Fault::UnknownBit => 19,
+            Fault::UnknownKind => 19,
+            Fault::CutShort => 19,
+            Fault::TooManyFrames => 19,
+            Fault::BytesAfter => 19,
+        }
     }
 }

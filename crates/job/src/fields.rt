@@ -1,117 +1,88 @@
-// The fields of a job, a function for each sort of field. A field that is not present takes no bytes.
+// The fields of a job, read one behind another. A field that is not present takes no bytes.
 // A place is far below what a `usize` holds, so that the place behind a field is too.
-ghost use Rattle.std.specs.Prelude.{◌≡◌, ◌+◌, ◌/◌, ◌%◌, ◌<◌, ◌≤◌, eqb};
-ghost use Rattle.job.specs.Fields.{u64_field, f32_field, kind_field, first_unknown};
+ghost use Rattle.std.specs.Prelude.{◌≡◌, ◌+◌, ◌<◌, ◌≤◌, cond, IfOk};
+ghost use Rattle.job.specs.Fields.{stands, u64_field, f32_field, kind_field};
+ghost use Rattle.job.specs.Reads.{SameJob, HasRead, HasTried};
 
+use crate::answer::{Fault, Refusal};
 use numbers_in::number;
+use numbers_in::number::Number;
 
-// A number, and the place behind it.
-#[derive(Clone, Copy)]
-pub struct NumberField {
-    pub value: u64,
-    pub next: usize,
+// Where a job is read: its bytes, the map of the fields that are present, and the place of the next one.
+#[derive(Drop)]
+pub struct Fields<'a> {
+    pub job: &'a [u8],
+    pub map: u16,
+    pub at: usize,
 }
 
-// A float, and the place behind it.
-#[derive(Clone, Copy)]
-pub struct FloatField {
-    pub value: f32,
-    pub next: usize,
-}
-
-// Whether every kind is one that there is, or the place of the first that is not.
-#[derive(Clone, Copy)]
-pub enum Kinds {
-    Known,
-    Unknown(usize),
-}
-
-// The number of a kind, whether there is one of this number, and the place behind it.
-#[derive(Clone, Copy)]
-pub struct KindField {
-    pub number: u8,
-    pub kinds: Kinds,
-    pub next: usize,
-}
-
-// Whether the bit of this weight stands in the map.
-pub fn stands(map: u16, weight: u16) -> bool
-    requires { 0 < weight }
-    ensures { result ≡ eqb (map / weight % 2) 1 }
-{
-    map / weight % 2 == 1
-}
-
-// A number, or what it is where it is absent.
-pub fn u64_field(job: &[u8], at: usize, present: bool, absent: u64) -> NumberField
-    requires { at ≤ 1000 }
-    ensures next_bound { result.next ≤ at + 8 }
-    ensures value { result ≡ u64_field job.now at present absent }
-{
-    if present {
-        return NumberField {
-            value: number::u64_at(job, at),
-            next: at + 8,
-        };
+impl<'a> Fields<'a> {
+    // Whether the field of this bit is present.
+    pub fn has(&self, bit: u16) -> bool
+        requires { bit < 16 }
+        ensures { result ≡ stands self.now.map bit }
+    {
+        self.map >> bit & 1 == 1
     }
-    NumberField {
-        value: absent,
-        next: at,
-    }
-}
 
-// The number of a kind that has one.
-pub fn f32_field(job: &[u8], at: usize, present: bool) -> FloatField
-    requires { at ≤ 1000 }
-    ensures next_bound { result.next ≤ at + 4 }
-    ensures value { result ≡ f32_field job.now at present }
-{
-    if present {
-        return FloatField {
-            value: number::f32_at(job, at),
-            next: at + 4,
-        };
+    // A number that every job has.
+    pub fn next<T: Number>(&mut self) -> T
+        requires low { self.old.at ≤ 1000 }
+        requires size { T.SIZE ≤ 8 }
+        ensures value { result ≡ T.read self.old.job.now self.old.at }
+        ensures next { self.new.at ≡ self.old.at + T.SIZE }
+        ensures same { SameJob self.old self.new }
+    {
+        let value = T::at(self.job, self.at);
+        self.at += T::SIZE;
+        value
     }
-    FloatField {
-        value: 0.0,
-        next: at,
-    }
-}
 
-// The kinds are numbered from 0 to `most`.
-pub fn kind_field(job: &[u8], at: usize, present: bool, most: u8) -> KindField
-    requires { at ≤ 1000 }
-    ensures next_bound { result.next ≤ at + 1 }
-    ensures value { result ≡ kind_field job.now at present most }
-{
-    if !present {
-        return KindField {
-            number: 0,
-            kinds: Kinds::Known,
-            next: at,
-        };
+    // The number of this bit, or what it is where it is absent.
+    pub fn u64_or(&mut self, bit: u16, absent: u64) -> u64
+        requires bit_in_map { bit < 16 }
+        requires low { self.old.at ≤ 1000 }
+        ensures next_bound { self.new.at ≤ self.old.at + 8 }
+        ensures read { HasRead self.old
+            (u64_field self.old.job.now self.old.at (stands self.old.map bit) absent) result self.new }
+    {
+        if !self.has(bit) {
+            return absent;
+        }
+        self.next()
     }
-    let number = number::byte_at(job, at);
-    if number <= most {
-        return KindField {
-            number,
-            kinds: Kinds::Known,
-            next: at + 1,
-        };
-    }
-    KindField {
-        number,
-        kinds: Kinds::Unknown(at),
-        next: at + 1,
-    }
-}
 
-// The first of some kinds that there is not, and then of others.
-pub fn first_unknown(earlier: Kinds, later: Kinds) -> Kinds
-    ensures { result ≡ first_unknown earlier later }
-{
-    match earlier {
-        Kinds::Known => later,
-        Kinds::Unknown(at) => Kinds::Unknown(at),
+    // The number of a kind that has one.
+    pub fn f32_if(&mut self, present: bool) -> f32
+        requires low { self.old.at ≤ 1000 }
+        ensures next_bound { self.new.at ≤ self.old.at + 4 }
+        ensures read { HasRead self.old (f32_field self.old.job.now self.old.at present) result self.new }
+    {
+        if !present {
+            return 0.0;
+        }
+        self.next()
+    }
+
+    // A kind, of those that are numbered from 0 to `most`; absent it is 0.
+    pub fn kind(&mut self, present: bool, most: u8) -> Result<u8, Refusal>
+        requires low { self.old.at ≤ 1000 }
+        ensures next_bound { self.new.at ≤ self.old.at + 1 }
+        ensures next_value { IfOk result (λ _. self.new.at ≡ cond present (self.old.at + 1) self.old.at) }
+        ensures read { HasTried self.old
+            (kind_field self.old.job.now self.old.at present most) result self.new }
+    {
+        if !present {
+            return Ok(0);
+        }
+        let number = number::byte_at(self.job, self.at);
+        if most < number {
+            return Err(Refusal {
+                fault: Fault::UnknownKind,
+                at: self.at,
+            });
+        }
+        self.at += 1;
+        Ok(number)
     }
 }

@@ -13,7 +13,7 @@ pub fn put_values(job: &[u8], head: Head, values: &mut [f32])
     requires frames_in_bounds { head.frames ≤ length values.old }
     ensures { values.new ≡ onto (values_in job.now head) values.old }
 {
-    lists::copy_f32(job, head.lists, head.frames, values);
+    lists::copy(job, head.lists, head.frames, values);
 }
 
 // No frame of scores has a flag.
@@ -22,9 +22,7 @@ pub fn put_flags(job: &[u8], head: Head, flags: &mut [u8])
     requires frames_in_bounds { head.frames ≤ length flags.old }
     ensures { flags.new ≡ onto (flags_in job.now head) flags.old }
 {
-    let recording = head.recording;
-    let domain = recording.domain;
-    match domain {
+    match head.recording.domain {
         Domain::Decibels => lists::copy_bytes(
             job,
             head.lists + 4 * head.frames,
@@ -41,10 +39,8 @@ pub fn put_levels(job: &[u8], head: Head, levels: &mut [f64])
     requires frames_in_bounds { head.frames ≤ length levels.old }
     ensures { levels.new ≡ onto (levels_in job.now head) levels.old }
 {
-    let recording = head.recording;
-    let domain = recording.domain;
-    match domain {
-        Domain::Decibels => lists::copy_f64(job, head.lists + 5 * head.frames, head.frames, levels),
+    match head.recording.domain {
+        Domain::Decibels => lists::copy(job, head.lists + 5 * head.frames, head.frames, levels),
         Domain::Scores => {}
     }
 }

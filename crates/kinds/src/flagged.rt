@@ -1,4 +1,4 @@
-// Kinds by a flag.
+// Kinds by a flag. The C interface and a job hand the flags over, so each kind is made of one, and named after what it says.
 ghost use Rattle.std.specs.Prelude.{◌≡◌};
 ghost use Rattle.kinds.specs.Flagged.{domain_of, gap_of, mode_of};
 
@@ -21,10 +21,7 @@ pub fn domain_of(decibels: bool) -> Domain
 pub fn gap_of(drop_gaps: bool) -> Gap
     ensures { result ≡ gap_of drop_gaps }
 {
-    if drop_gaps {
-        return Gap::Drop;
-    }
-    Gap::Keep
+    if drop_gaps { Gap::Drop } else { Gap::Keep }
 }
 
 // By length, or by this count.
@@ -32,7 +29,8 @@ pub fn mode_of(by_count: bool, count: u32) -> Mode
     ensures { result ≡ mode_of by_count count }
 {
     if by_count {
-        return Mode::ByCount(count);
+        Mode::ByCount(count)
+    } else {
+        Mode::ByLength
     }
-    Mode::ByLength
 }

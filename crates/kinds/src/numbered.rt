@@ -1,4 +1,4 @@
-// Kinds by their number, with the number that belongs to some of them.
+// Kinds by their number, with the number that belongs to some of them, as the C interface and a job hand them over.
 // A number that is no kind becomes one with a NaN beside it, which the tests refuse;
 // a job that has such a number is refused for it before that.
 ghost use Rattle.std.specs.Prelude.{◌≡◌};
@@ -11,30 +11,22 @@ use silence_levels::threshold::Threshold;
 pub fn threshold_of(kind: u8, level: f32) -> Threshold
     ensures { result ≡ threshold_of kind level }
 {
-    if kind == 0 {
-        return Threshold::Auto;
+    match kind {
+        0 => Threshold::Auto,
+        1 => Threshold::Abs(level),
+        2 => Threshold::BelowRef(level),
+        _ => Threshold::Abs(f32::NAN),
     }
-    if kind == 1 {
-        return Threshold::Abs(level);
-    }
-    if kind == 2 {
-        return Threshold::BelowRef(level);
-    }
-    Threshold::Abs(0.0 / 0.0)
 }
 
 // The placement of a kind and a ratio.
 pub fn placement_of(kind: u8, ratio: f32) -> Placement
     ensures { result ≡ placement_of kind ratio }
 {
-    if kind == 0 {
-        return Placement::Quietest;
+    match kind {
+        0 => Placement::Quietest,
+        1 => Placement::Center,
+        2 => Placement::Ratio(ratio),
+        _ => Placement::Ratio(f32::NAN),
     }
-    if kind == 1 {
-        return Placement::Center;
-    }
-    if kind == 2 {
-        return Placement::Ratio(ratio);
-    }
-    Placement::Ratio(0.0 / 0.0)
 }

@@ -1,6 +1,6 @@
 -- Texts written one behind another, and the bytes of one text.
-use Rattle.std.specs.Prelude.{ℕ, suc, ◌+◌, ◌≤◌, ◌<◌, ◌≡◌, refl, List, [], ◌∷◌, ◌++◌, length, get_or, set, take, drop}
-use Rattle.std.proofs.Common.{sym, ap, ◌∙◌, add-one, arith, length-append, length-set, length-take-le, take_all, take-suc}
+use Rattle.std.specs.Prelude.{ℕ, suc, ◌+◌, ◌≤◌, ◌≡◌, refl, List, [], ◌∷◌, ◌++◌, length, set, drop}
+use Rattle.std.proofs.Common.{sym, ap, ◌∙◌, arith, length-append, length-take-le}
 use Rattle.std.proofs.lemmas.List.Edits.{sets, sets-eq}
 use Rattle.std.proofs.Math.Seq.{length-sets}
 use Rattle.base_terms.specs.Lists.{onto}
@@ -71,36 +71,3 @@ written_counts {text} {before} {after} {next} r w =
     let same : length after ≡ length before = ap length w.bytes ∙ length-sets before 0 text in
     let within : next ≤ length after = omega (arith, r.enough, w.behind) in
     (within, sym (length-take-le next after within))
-
--- ---- a loop that ends at `end` and writes one byte after another; i are written
-
--- the first i bytes stand there, and there is room for all
-pub record BytesWritten (text before : List ℕ) (at end : ℕ) (now : List ℕ) (i : ℕ) : Type 0 where
-  pub within : i ≤ length text
-  pub ends : end ≡ length text
-  pub room : at + length text ≤ length before
-  pub same : length now ≡ length before
-  pub bytes : now ≡ sets before at (take i text)
-
--- none is written yet
-pub bytes_start : {text before : List ℕ} {at : ℕ} → Room (length text) before at → BytesWritten text before at (length text) before 0
-bytes_start r = record { within = omega arith; ends = refl; room = r.enough; same = refl; bytes = refl }
-
-module _ {text before : List ℕ} {at end : ℕ} {now : List ℕ} {i : ℕ} (w : BytesWritten text before at end now i) where
-  -- one more is written
-  pub bytes_next : i < end → BytesWritten text before at end (set now (at + i) (get_or text i 0)) (i + 1)
-  bytes_next l =
-      let below : i < length text = omega (arith, w.ends) in
-      let put : set now (at + i) (get_or text i 0) ≡ sets before at (take (suc i) text) =
-      rw (w.bytes, take-suc text i 0 below, sets_append (take i text) (get_or text i 0 ∷ []) before at, length-take-le i text w.within) in
-      record {
-        within = omega (arith, below);
-        ends = w.ends;
-        room = w.room;
-        same = length-set now (at + i) (get_or text i 0) ∙ w.same;
-        bytes = rw add-one put;
-      }
-
-  -- all are written
-  pub bytes_done : end ≤ i → Written text before at now (at + length text)
-  bytes_done l = record { bytes = w.bytes ∙ ap (sets before at) (take_all i text (omega (arith, w.ends))); behind = refl }

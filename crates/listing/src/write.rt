@@ -3,47 +3,23 @@ ghost use Rattle.std.specs.Prelude.{◌-◌, ◌*◌, ◌≤◌, ◌≡◌, leng
 ghost use Rattle.base_terms.specs.Lists.{onto};
 ghost use Rattle.io.specs.Counts.{IsPrefixLen};
 ghost use Rattle.listing.specs.Rows.{rows_of};
-ghost use Rattle.listing.specs.Listing.{piece_line, cut_line, lines_of, listing_of, refusal_line};
+ghost use Rattle.listing.specs.Listing.{lines_of, listing_of, refusal_line};
 ghost use Rattle.listing.specs.Listing.{room_for, refusal_room};
 ghost use Rattle.listing.specs.Written.{Room, Written};
 
 use crate::line;
-use base_code::sizes;
+use crate::line::{Cut, Piece, Row};
 
-// A line for each of n pieces: start, end and flags of piece i at pieces[3 i ..].
-fn put_pieces(n: usize, pieces: &[u64], at: usize, out: &mut [u8]) -> usize
-    requires n_in_bounds { 3 * n ≤ length pieces.now }
-    requires room { Room (length (lines_of piece_line (rows_of n pieces.now))) out.old at }
-    ensures { Written (lines_of piece_line (rows_of n pieces.now)) out.old at out.new result }
+// A line for each of n rows, of which row i stands at rows[3 i ..].
+fn put_rows<R: Row>(n: usize, rows: &[u64], at: usize, out: &mut [u8]) -> usize
+    requires n_in_bounds { 3 * n ≤ length rows.now }
+    requires room { Room (length (lines_of R.line (rows_of n rows.now))) out.old at }
+    ensures { Written (lines_of R.line (rows_of n rows.now)) out.old at out.new result }
 {
     let mut next = at;
+    // By the number of a row, as the definition `row_at` has it: chunks of three would need a law of their own.
     for i in 0..n {
-        next = line::put_piece(
-            pieces[3 * i],
-            pieces[3 * i + 1],
-            pieces[3 * i + 2],
-            next,
-            &mut *out,
-        );
-    }
-    next
-}
-
-// A line for each of n cuts: previous end, next start and reason of cut i at cuts[3 i ..].
-fn put_cuts(n: usize, cuts: &[u64], at: usize, out: &mut [u8]) -> usize
-    requires n_in_bounds { 3 * n ≤ length cuts.now }
-    requires room { Room (length (lines_of cut_line (rows_of n cuts.now))) out.old at }
-    ensures { Written (lines_of cut_line (rows_of n cuts.now)) out.old at out.new result }
-{
-    let mut next = at;
-    for i in 0..n {
-        next = line::put_cut(
-            cuts[3 * i],
-            cuts[3 * i + 1],
-            cuts[3 * i + 2],
-            next,
-            &mut *out,
-        );
+        next = R::put(rows[3 * i], rows[3 * i + 1], rows[3 * i + 2], next, out);
     }
     next
 }
@@ -59,10 +35,10 @@ pub fn write_plan(n: usize, pieces: &[u64], cuts: &[u64], out: &mut [u8]) -> usi
         ≡ onto (listing_of n pieces.now cuts.now) out.old }
     ensures prefix_len { IsPrefixLen result out.new }
 {
-    let m = sizes::less(n, 1);
-    let at = line::put_plan(n as u64, m as u64, 0, &mut *out);
-    let at = put_pieces(n, pieces, at, &mut *out);
-    put_cuts(m, cuts, at, &mut *out)
+    let m = n.saturating_sub(1);
+    let at = line::put_plan(n as u64, m as u64, 0, out);
+    let at = put_rows::<Piece>(n, pieces, at, out);
+    put_rows::<Cut>(m, cuts, at, out)
 }
 
 // Writes the line of a refusal to the front of `out`, and answers how many bytes it has.

@@ -2,64 +2,36 @@
 // from a place of the bytes on.
 ghost use Rattle.std.specs.Prelude.{◌≡◌, ◌+◌, ◌*◌, ◌≤◌, length, replicate};
 ghost use Rattle.base_terms.specs.Lists.{onto, tabulate};
-ghost use Rattle.numbers_in.specs.Numbers.{byte_at, u64_at, f32_at, f64_at};
+ghost use Rattle.numbers_in.specs.Numbers.{byte_at};
 
-use crate::number;
+use crate::number::Number;
 
 // So many zeros, where the bytes have none to copy.
 pub fn put_zeros(n: usize, list: &mut [u8])
     requires { n ≤ length list.old }
     ensures { list.new ≡ onto (replicate n 0) list.old }
 {
-    for i in 0..n {
-        list[i] = 0;
-    }
+    list[..n].fill(0);
 }
 
-// Bytes, each in one place.
+// Bytes, each in one place: the slice's own copy, where `copy` below would read each byte as a number.
 pub fn copy_bytes(s: &[u8], at: usize, n: usize, list: &mut [u8])
     requires s_in_bounds { at + n ≤ length s.now }
     requires list_in_bounds { n ≤ length list.old }
     ensures { list.new
         ≡ onto (tabulate (λ i. byte_at s.now (at + i)) n) list.old }
 {
-    for i in 0..n {
-        list[i] = number::byte_at(s, at + i);
-    }
+    list[..n].copy_from_slice(&s[at..at + n]);
 }
 
-// Numbers of 64 bits, each in eight bytes.
-pub fn copy_u64(s: &[u8], at: usize, n: usize, list: &mut [u64])
-    requires s_in_bounds { at + 8 * n ≤ length s.now }
+// Numbers, each in as many bytes as one takes.
+pub fn copy<T: Number>(s: &[u8], at: usize, n: usize, list: &mut [T])
+    requires s_in_bounds { at + T.SIZE * n ≤ length s.now }
     requires list_in_bounds { n ≤ length list.old }
     ensures { list.new
-        ≡ onto (tabulate (λ i. u64_at s.now (at + 8 * i)) n) list.old }
+        ≡ onto (tabulate (λ i. T.read s.now (at + T.SIZE * i)) n) list.old }
 {
-    for i in 0..n {
-        list[i] = number::u64_at(s, at + 8 * i);
-    }
-}
-
-// Floats of 32 bits, each in four bytes.
-pub fn copy_f32(s: &[u8], at: usize, n: usize, list: &mut [f32])
-    requires s_in_bounds { at + 4 * n ≤ length s.now }
-    requires list_in_bounds { n ≤ length list.old }
-    ensures { list.new
-        ≡ onto (tabulate (λ i. f32_at s.now (at + 4 * i)) n) list.old }
-{
-    for i in 0..n {
-        list[i] = number::f32_at(s, at + 4 * i);
-    }
-}
-
-// Floats of 64 bits, each in eight bytes.
-pub fn copy_f64(s: &[u8], at: usize, n: usize, list: &mut [f64])
-    requires s_in_bounds { at + 8 * n ≤ length s.now }
-    requires list_in_bounds { n ≤ length list.old }
-    ensures { list.new
-        ≡ onto (tabulate (λ i. f64_at s.now (at + 8 * i)) n) list.old }
-{
-    for i in 0..n {
-        list[i] = number::f64_at(s, at + 8 * i);
+    for (i, x) in list[..n].iter_mut().enumerate() {
+        *x = T::at(s, at + T::SIZE * i);
     }
 }

@@ -1,113 +1,112 @@
-// One number at a place.
-ghost use Rattle.std.specs.Prelude.{◌≡◌, ◌≤◌};
-ghost use Rattle.numbers_in.specs.Numbers.{number_of, number_at, byte_at, u16_at, u32_at, u64_at, low, f32_at, f64_at};
+// One number at a place, the lowest byte first. Bytes beyond the end are not there and count as 0, so that reading asks
+// nothing of the place.
+ghost use Rattle.std.specs.Prelude.{◌≡◌, ℕ, List};
+ghost use Rattle.numbers_in.specs.Numbers.{number_of, number_at, byte_at, u16_at, u32_at, u64_at, f32_at, f64_at};
+
+use std::num;
 
 // 2^56: below it a number has room for one more byte.
 const SEVEN_BYTES: u64 = 72_057_594_037_927_936;
 
-// The pattern of the positive infinity. But for its sign, a pattern above it is a NaN's.
-const INFINITY_F32: u32 = 2_139_095_040;
+// A number that is read from bytes.
+pub trait Number: Copy {
+    // How many bytes it takes.
+    const SIZE: usize;
 
-// 2^31: the bit of the sign.
-const SIGN_F32: u32 = 2_147_483_648;
+    ghost SIZE: { ℕ };
 
-// The same for 64 bits.
-const INFINITY_F64: u64 = 9_218_868_437_227_405_312;
+    // The number at a place of some bytes.
+    ghost read: { List ℕ → ℕ → Self };
 
-// 2^63: the bit of the sign.
-const SIGN_F64: u64 = 9_223_372_036_854_775_808;
-
-// A byte as a number of 64 bits, where it is 255 at most.
-fn wide(b: u8) -> u64
-    ensures upper_bound { result ≤ 255 }
-    ensures value { result ≡ b }
-{
-    b as u64
+    fn at(s: &[u8], at: usize) -> Self
+        ensures { result ≡ read s.now at };
 }
 
-// The number of all bytes, the lowest first.
+impl Number for u16 {
+    const SIZE: usize = 2;
+
+    ghost SIZE = { 2 };
+
+    ghost read = { u16_at };
+
+    fn at(s: &[u8], at: usize) -> u16 {
+        (number_at(s, at, 2) % 65_536) as u16
+    }
+}
+
+impl Number for u32 {
+    const SIZE: usize = 4;
+
+    ghost SIZE = { 4 };
+
+    ghost read = { u32_at };
+
+    fn at(s: &[u8], at: usize) -> u32 {
+        (number_at(s, at, 4) % 4_294_967_296) as u32
+    }
+}
+
+impl Number for u64 {
+    const SIZE: usize = 8;
+
+    ghost SIZE = { 8 };
+
+    ghost read = { u64_at };
+
+    fn at(s: &[u8], at: usize) -> u64 {
+        number_at(s, at, 8)
+    }
+}
+
+// A NaN's pattern, whichever, is read as the NaN.
+impl Number for f32 {
+    const SIZE: usize = 4;
+
+    ghost SIZE = { 4 };
+
+    ghost read = { f32_at };
+
+    fn at(s: &[u8], at: usize) -> f32 {
+        num::f32_from_bits_with_nan(u32::at(s, at))
+    }
+}
+
+// A NaN's pattern, whichever, is read as the NaN.
+impl Number for f64 {
+    const SIZE: usize = 8;
+
+    ghost SIZE = { 8 };
+
+    ghost read = { f64_at };
+
+    fn at(s: &[u8], at: usize) -> f64 {
+        num::f64_from_bits_with_nan(u64::at(s, at))
+    }
+}
+
+// The number of all bytes.
 fn number_of(s: &[u8]) -> u64
     ensures { result ≡ number_of s.now }
 {
-    let mut w: u64 = 0;
-    let mut left = s.len();
-    while 0 < left {
-        left -= 1;
-        w = w % SEVEN_BYTES * 256 + wide(s[left]);
-    }
-    w
+    s.iter()
+        .rev()
+        .fold(0, |w, b| w % SEVEN_BYTES * 256 + u64::from(*b))
 }
 
 // The number of so many bytes at a place.
 fn number_at(s: &[u8], at: usize, size: usize) -> u64
     ensures { result ≡ number_at s.now at size }
 {
-    if s.len() <= at {
-        return 0;
+    let rest = s.get(at..).unwrap_or(&[]);
+    match rest.get(..size) {
+        Some(part) => number_of(part),
+        None => number_of(rest),
     }
-    if s.len() - at <= size {
-        return number_of(&s[at..]);
-    }
-    let end = at + size;
-    number_of(&s[at..end])
 }
 
 // The byte at a place.
 pub fn byte_at(s: &[u8], at: usize) -> u8
     ensures { result ≡ byte_at s.now at }
 {
-    if at < s.len() {
-        return s[at];
-    }
-    0
-}
-
-// The number of the two bytes at a place.
-pub fn u16_at(s: &[u8], at: usize) -> u16
-    ensures { result ≡ u16_at s.now at }
-{
-    (number_at(s, at, 2) % 65_536) as u16
-}
-
-// The number of the four bytes at a place.
-pub fn u32_at(s: &[u8], at: usize) -> u32
-    ensures { result ≡ u32_at s.now at }
-{
-    narrow(number_at(s, at, 4))
-}
-
-// The number of the eight bytes at a place.
-pub fn u64_at(s: &[u8], at: usize) -> u64
-    ensures { result ≡ u64_at s.now at }
-{
-    number_at(s, at, 8)
-}
-
-// The low 32 bits.
-pub fn narrow(w: u64) -> u32
-    ensures { result ≡ low w }
-{
-    (w % 4_294_967_296) as u32
-}
-
-// The float of the four bytes at a place. A NaN's pattern, whichever, is read as the NaN.
-pub fn f32_at(s: &[u8], at: usize) -> f32
-    ensures { result ≡ f32_at s.now at }
-{
-    let w = u32_at(s, at);
-    if INFINITY_F32 < w % SIGN_F32 {
-        return 0.0 / 0.0;
-    }
-    f32::from_bits(w)
-}
-
-// The float of the eight bytes at a place. A NaN's pattern, whichever, is read as the NaN.
-pub fn f64_at(s: &[u8], at: usize) -> f64
-    ensures { result ≡ f64_at s.now at }
-{
-    let w = u64_at(s, at);
-    if INFINITY_F64 < w % SIGN_F64 {
-        return 0.0 / 0.0;
-    }
-    f64::from_bits(w)
+    s.get(at).copied().unwrap_or(0)
 }

@@ -19,7 +19,7 @@ use Rattle.path_by_count_tree.specs.Tree.{Leaves}
 use Rattle.path_by_count_rows.specs.First.{FirstStarts}
 use Rattle.path_by_count_rows.specs.Rows.{Laid, leaf_score}
 use Rattle.path_by_count.specs.Filled.{RowsFilled}
-use Rattle.path_by_count.specs.FilledLaws.{put_part}
+use Rattle.path_by_count_tree.specs.PartLaws.{put_part}
 use Rattle.path_by_count.specs.Walk.{way_in}
 use Rattle.path_by_count.specs.WalkLaws.{way_length, rows_back, rows_way}
 use Rattle.path_by_count.specs.Counted.{TreeRoom, FoundCounted, SolutionByCount}

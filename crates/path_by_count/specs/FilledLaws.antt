@@ -1,7 +1,7 @@
 -- Laws of the table by count: one row more.
-use Rattle.std.specs.Prelude.{◌≡◌, Float, length, get_or, take, drop}
+use Rattle.std.specs.Prelude.{◌≡◌, Float, length, get_or, take, drop, Option}
 use Rattle.std.proofs.Math.Path.{sym, ap}
-use Rattle.std.proofs.Common.{subst, ◌∙◌, inl, inr, mul-le-mul_right, suc-mul, zero-mul, add-one, get_or-take, length-take-le, get_or-append-add}
+use Rattle.std.proofs.Common.{subst, ◌∙◌, inl, inr, mul-le-mul_right, suc-mul, zero-mul, add-one}
 use mathlib.Core.List.{List, ◌++◌}
 use Prim.Native.Nat.{ℕ, zero, suc, ◌+◌, ◌-◌, ◌*◌, ◌≤◌, ◌<◌}
 use native.Mathlib.Omega.{arith}
@@ -11,9 +11,10 @@ use Rattle.base_laws.specs.Tests.{lt_or_le}
 use Rattle.path_pieces.specs.Pieces.{with_cut_at}
 use Rattle.path_pieces.specs.Least.{found_score, found_index, predecessor_of}
 use Rattle.path_pieces.specs.PredecessorLaws.{predecessor_same}
-use Rattle.path_pieces.specs.declared.best.Found.{Found}
+use Rattle.path_pieces.specs.declared.best.Best.{Best}
 use Rattle.path_pieces.specs.declared.lengths.Lengths.{Lengths}
 use Rattle.path_by_count.specs.Table.{best_with, parent_with}
+use Rattle.path_by_count_tree.specs.PartLaws.{put_before, put_part}
 use Rattle.path_by_count_rows.specs.Rows.{leaf_score, behind, first_score, FirstRow, NextRow}
 use Rattle.path_by_count_rows.specs.RowsLaws.{first_one}
 use Rattle.path_by_count.specs.Filled.{parent_in, RowsFilled}
@@ -25,19 +26,6 @@ row_within k n w h = rw suc-mul at (mul-le-mul_right w h)
 -- a row ends where the next one starts
 pub next_start : (k w : ℕ) → k * w + w ≡ (k + 1) * w
 next_start k w = rw (add-one, suc-mul)
-
--- ---- a part of a list in its middle
-
-module _ {A : Type 0} (l r : List A) (a w : ℕ) (z : A) (e : length r ≡ w) (h : a + w ≤ length l) where
-  -- what stands before it
-  pub put_before : (m : ℕ) → m < a → get_or (put_mid a w l r) m z ≡ get_or l m z
-  put_before m g = get_or-append (take a l) (r ++ drop w (drop a l)) z m (rw (length-take-le a l (omega arith)) g) ∙ get_or-take a l m z g
-
-  -- the part itself
-  pub put_part : (j : ℕ) → j < w → get_or (put_mid a w l r) (a + j) z ≡ get_or r j z
-  put_part j g =
-      ap (λ (n : ℕ). get_or (take a l ++ (r ++ drop w (drop a l))) (n + j) z) (sym (length-take-le a l (omega arith)))
-      ∙ get_or-append-add (take a l) (r ++ drop w (drop a l)) j z ∙ get_or-append r (drop w (drop a l)) z j (omega arith)
 
 -- ---- the rows that are written are those of the table
 
@@ -67,7 +55,7 @@ module _ {l : Lengths} {left right : List ℕ} {leaves : ℕ} {over₀ over : Li
       ap (λ (from : ℕ). predecessor_of l left right own from j) d
       ∙ predecessor_same l left right own (best_with l left right cut (suc k)) (suc k) j (λ i a m. f i a (omega arith)) in (
         x.score j h g ∙ ap (λ (c : List Float). with_cut_at c j (found_score (predecessor_of l left right own (suc (suc k) - 1) j))) x.cuts
-            ∙ ap (λ (z : Found). with_cut_at cut j (found_score z)) e,
+            ∙ ap (λ (z : Option Best). with_cut_at cut j (found_score z)) e,
         x.parent j h g ∙ ap found_index e,
       )
 

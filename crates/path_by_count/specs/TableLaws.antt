@@ -1,6 +1,6 @@
 -- The table by count is the best: with each number of pieces the way back is a path of its score and follows the tie rule, and no allowed path of as many pieces scores less.
 -- The argument is that of the table by length, one row after another: candidates from k on are those that k pieces reach.
-use Rattle.std.specs.Prelude.{◌≡◌, T, Float, length}
+use Rattle.std.specs.Prelude.{◌≡◌, T, Float, length, Option, Some, None}
 use Rattle.std.proofs.Math.Path.{refl, sym, ap}
 use Rattle.std.proofs.Common.{◌∙◌}
 use Rattle.std.proofs.Math.Logic.{inl, inr}
@@ -15,8 +15,7 @@ use Rattle.path_pieces.specs.Domain.{Searchable}
 use Rattle.path_pieces.specs.DomainLaws.{at_most_refl, at_most_trans, piece_bounded, piece_nonneg, piece_keeps, cut_at-nonneg, cut_at-keeps}
 use Rattle.path_pieces.specs.declared.lengths.Lengths.{Lengths}
 use Rattle.path_pieces.specs.declared.score.Score.{Score}
-use Rattle.path_pieces.specs.declared.best.Found.{Found}
-use Rattle.path_pieces.specs.declared.best.Found.TheVariants.{At, Nothing}
+use Rattle.path_pieces.specs.declared.best.Best.{Best}
 use Rattle.path_pieces.specs.Least.{found_score, LowestLeast, Answers, predecessor_of}
 use Rattle.path_pieces.specs.LeastLaws.{least_answers}
 use Rattle.path_rules.specs.Paths.{AllowedByCount, PathWith, Onward, Path, step, score_from, path_score}
@@ -49,11 +48,11 @@ module _ {l : Lengths} {left right : List ℕ} {cut : List Float} (ok : Searchab
       least_answers (may_start l.limit left right j) (arrival l left right (own k) j) j
       (λ i m t. piece_nonneg ok.preferred (own k i) (piece_length left right i j) (piece_bounded ok.candidates i j g) (p i (omega arith))) k h
 
-  found-nonneg : (k j : ℕ) → j < length left → ((i : ℕ) → i < length left → T (nonneg (own k i).cost)) → (f : Found)
+  found-nonneg : (k j : ℕ) → j < length left → ((i : ℕ) → i < length left → T (nonneg (own k i).cost)) → (f : Option Best)
       → Answers (may_start l.limit left right j) (arrival l left right (own k) j) k j f → T (nonneg (found_score f).cost)
-  found-nonneg k j g p Nothing a = nought-nonneg
-  found-nonneg k j g p (At s i) (e, a) =
-      rw e (piece_nonneg ok.preferred (own k i) (piece_length left right i j) (piece_bounded ok.candidates i j g) (p i (omega (arith, a.high))))
+  found-nonneg k j g p None a = nought-nonneg
+  found-nonneg k j g p (Some b) (e, a) =
+      rw e (piece_nonneg ok.preferred (own k b.at) (piece_length left right b.at j) (piece_bounded ok.candidates b.at j g) (p b.at (omega (arith, a.high))))
 
   -- the best scores by count are no NaN
   pub with-nonneg : (k j : ℕ) → j < length left → T (nonneg (own k j).cost)

@@ -4,7 +4,6 @@ use Rattle.std.proofs.Math.Path.{refl, sym, ap}
 use Rattle.std.proofs.Common.{◌∙◌, le_refl, arith, length-append, take-append-drop, take-suc, length-take-le}
 use mathlib.Core.List.{List, [], ◌∷◌, ◌++◌, append_assoc, append-nil}
 use Prim.Native.Nat.{ℕ, zero, suc, ◌+◌, ◌-◌, ◌*◌, ◌≤◌, ◌<◌}
-use Rattle.std.proofs.Math.Nat.{suc-mul}
 use Rattle.std.proofs.Math.ListN.{drop, set}
 use Rattle.std.proofs.Math.Seq.{set_at}
 use Rattle.base_terms.specs.Lists.{onto}
@@ -25,69 +24,59 @@ way_length parent n (suc k) j = simp length-append (omega (arith, way_length par
 -- ---- the loop: after the steps that are left, k of them, the path goes on with what is written
 
 -- k steps are left from candidate j, and the list holds the candidates passed
-pub record Walking (parent : List ℕ) (n pieces : ℕ) (path₀ path : List ℕ) (start k j : ℕ) : Type 0 where
+pub record Walking (parent : List ℕ) (n pieces : ℕ) (path₀ path : List ℕ) (k j : ℕ) : Type 0 where
   pub rest : List ℕ
   pub way : way_in parent n k j ++ rest ≡ way_in parent n pieces (n - 1)
   pub written : path ≡ take (suc k) path₀ ++ (rest ++ drop (suc pieces) path₀)
-  pub place : start ≡ k * n
   pub left_over : k ≤ pieces
   pub reached : k ≤ j
   pub inside : j < n
 
 module _ {parent : List ℕ} {n pieces : ℕ} {path₀ : List ℕ} (back : Back parent n pieces) where
   -- before the first step
-  pub walking_start : pieces + 1 ≤ length path₀ → Walking parent n pieces path₀ path₀ (pieces * n) pieces (n - 1)
+  pub walking_start : pieces + 1 ≤ length path₀ → Walking parent n pieces path₀ path₀ pieces (n - 1)
   walking_start h = record {
     rest = [];
     way = append-nil (way_in parent n pieces (n - 1));
     written = sym (take-append-drop (suc pieces) path₀);
-    place = refl;
     left_over = le_refl pieces;
     reached = omega (arith, back.fewer);
     inside = omega (arith, back.fewer);
   }
 
-  module _ {path : List ℕ} {start k j : ℕ} (room : pieces + 1 ≤ length path₀) (w : Walking parent n pieces path₀ path start (suc k) j) where
+  module _ {path : List ℕ} {k j : ℕ} (room : pieces + 1 ≤ length path₀) (w : Walking parent n pieces path₀ path (suc k) j) where
     -- one step back
-    pub walking_next : Walking parent n pieces path₀ (set path (suc k) j) (start - n) k (parent_in parent n k j)
+    pub walking_next : Walking parent n pieces path₀ (set path (suc k) j) k (parent_in parent n k j)
     unfolding way_in
     walking_next =
         let f = back.falling k j (omega (arith, w.left_over)) w.reached w.inside in
-        let e : suc k * n ≡ k * n + n = suc-mul k n in
         record {
           rest = j ∷ w.rest;
           way = sym (append_assoc (way_in parent n k (parent_in parent n k j)) (j ∷ []) w.rest) ∙ w.way;
           written = ap (λ (xs : List ℕ). set xs (suc k) j) (w.written ∙ ap (λ (xs : List ℕ). xs ++ (w.rest ++ drop (suc pieces) path₀)) (take-suc path₀ (suc k) 0 (omega (arith, w.left_over)))
               ∙ append_assoc (take (suc k) path₀) (get_or path₀ (suc k) 0 ∷ []) (w.rest ++ drop (suc pieces) path₀))
               ∙ set_at (take (suc k) path₀) (get_or path₀ (suc k) 0) (w.rest ++ drop (suc pieces) path₀) j (suc k) (length-take-le (suc k) path₀ (omega (arith, w.left_over)));
-          place = omega (arith, w.place);
           left_over = omega (arith, w.left_over);
           reached = f.0;
           inside = omega (arith, f.1, w.inside);
         }
 
   -- as the loop counts
-  pub walking_more : {path : List ℕ} {start k j : ℕ} (i v : ℕ) → pieces + 1 ≤ length path₀ → k ≡ suc i → Walking parent n pieces path₀ path start k j
-      → v ≡ get_or parent (start - n + j) 0 → Walking parent n pieces path₀ (set path k j) (start - n) i v
-  walking_more {path} {start} {k} {j} i v room e w ev =
-      let u : Walking parent n pieces path₀ path start (suc i) j = rw e at w in
-      let next = walking_next room u in
-      let d : start - n + j ≡ i * n + j = omega (arith, next.place) in
-      rw (e, ev, d) next
+  pub walking_more : {path : List ℕ} {k j : ℕ} (i m : ℕ) → pieces + 1 ≤ length path₀ → k ≡ suc i → m ≡ suc i → Walking parent n pieces path₀ path k j
+      → Walking parent n pieces path₀ (set path m j) i (get_or parent (i * n + j) 0)
+  walking_more {path} {k} {j} i m room e d w =
+      let u : Walking parent n pieces path₀ path (suc i) j = rw e at w in
+      rw d (walking_next room u)
 
   -- the parent that is read lies in the list
-  pub walking_inside : {path : List ℕ} {start j : ℕ} (k : ℕ) → 0 < k → Walking parent n pieces path₀ path start k j → (n ≤ start) × (start - n + j < length parent)
-  walking_inside zero h w = absurd (omega arith)
-  walking_inside {path} {start} {j} (suc k) h w =
-      let e : suc k * n ≡ k * n + n = suc-mul k n in
-      let r : k * n + n ≤ pieces * n = row_within k pieces n (omega (arith, w.left_over)) in
-      (omega (arith, w.place), omega (arith, w.place, w.inside, back.room))
+  pub walking_inside : {path : List ℕ} {k j : ℕ} (i : ℕ) → i < k → Walking parent n pieces path₀ path k j → i * n + j < length parent
+  walking_inside i h w = omega (arith, row_within i pieces n (omega (arith, w.left_over)), w.inside, back.room)
 
   -- at the first candidate
-  pub walking_done : {path : List ℕ} {start j : ℕ} → pieces + 1 ≤ length path₀ → Walking parent n pieces path₀ path start 0 j
+  pub walking_done : {path : List ℕ} {j : ℕ} → pieces + 1 ≤ length path₀ → Walking parent n pieces path₀ path 0 j
       → set path 0 j ≡ onto (way_in parent n pieces (n - 1)) path₀
   unfolding way_in onto
-  walking_done {path} {start} {j} room w =
+  walking_done {path} {j} room w =
       ap (λ (xs : List ℕ). set xs 0 j) (w.written ∙ ap (λ (xs : List ℕ). xs ++ (w.rest ++ drop (suc pieces) path₀)) (take-suc path₀ 0 0 (omega arith)))
       ∙ ap (λ (xs : List ℕ). xs ++ drop (suc pieces) path₀) w.way
       ∙ ap (λ (m : ℕ). way_in parent n pieces (n - 1) ++ drop m path₀) (sym (way_length parent n pieces (n - 1)))

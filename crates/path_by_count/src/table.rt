@@ -4,12 +4,12 @@ ghost use Rattle.path_by_count_rows.specs.Rows.{Laid, behind};
 ghost use Rattle.path_by_count.specs.Filled.{RowsFilled};
 
 use path_by_count_rows::row;
+use path_pieces::ends::Ends;
 use path_pieces::lengths::Lengths;
 
 // From the first row to row `pieces`.
 fn later_rows(
-    left: &[u64],
-    right: &[u64],
+    ends: &Ends,
     leaves: usize,
     lengths: Lengths,
     pieces: usize,
@@ -17,38 +17,33 @@ fn later_rows(
     cost: &mut [f64],
     parent: &mut [u32],
 )
-    requires rows_filled { RowsFilled lengths left.now right.now (behind (length left.now) cost.old) leaves over.old
-        cost.old parent.old 1 }
-    requires pieces_nonzero { (0 < pieces) × (pieces < length left.now) }
-    requires left_in_bounds { pieces * length left.now ≤ length parent.old }
-    ensures { RowsFilled lengths left.now right.now
-        (behind (length left.now) cost.old) leaves
+    requires rows_filled { RowsFilled lengths ends.now.left.now ends.now.right.now
+        (behind (length ends.now.left.now) cost.old) leaves
+        over.old cost.old parent.old 1 }
+    requires pieces_nonzero { (0 < pieces) × (pieces < length ends.now.left.now) }
+    requires left_in_bounds { pieces * length ends.now.left.now ≤ length parent.old }
+    ensures { RowsFilled lengths ends.now.left.now ends.now.right.now
+        (behind (length ends.now.left.now) cost.old) leaves
         over.new cost.new parent.new pieces }
 {
-    let n = left.len();
-    let mut k: usize = 1;
-    let mut start = n;
-    while k < pieces {
-        let end = start + n;
-        k += 1;
+    let n = ends.left.len();
+    for k in 1..pieces {
+        let start = k * n;
         row::next_row(
-            left,
-            right,
+            ends,
             leaves,
             lengths,
-            k,
-            &mut *over,
-            &mut *cost,
-            &mut parent[start..end],
+            k + 1,
+            over,
+            cost,
+            &mut parent[start..start + n],
         );
-        start = end;
     }
 }
 
 // Fills the rows 1 to `pieces`.
 pub fn fill_rows(
-    left: &[u64],
-    right: &[u64],
+    ends: &Ends,
     leaves: usize,
     lengths: Lengths,
     pieces: usize,
@@ -56,30 +51,20 @@ pub fn fill_rows(
     cost: &mut [f64],
     parent: &mut [u32],
 )
-    requires laid { Laid lengths left.now right.now leaves over.old cost.old }
-    requires pieces_nonzero { (0 < pieces) × (pieces < length left.now) }
-    requires left_in_bounds { pieces * length left.now ≤ length parent.old }
-    ensures { RowsFilled lengths left.now right.now
-        (behind (length left.now) cost.old) leaves
+    requires laid { Laid lengths ends.now.left.now ends.now.right.now leaves over.old cost.old }
+    requires pieces_nonzero { (0 < pieces) × (pieces < length ends.now.left.now) }
+    requires left_in_bounds { pieces * length ends.now.left.now ≤ length parent.old }
+    ensures { RowsFilled lengths ends.now.left.now ends.now.right.now
+        (behind (length ends.now.left.now) cost.old) leaves
         over.new cost.new parent.new pieces }
 {
     row::first_row(
-        left,
-        right,
+        ends,
         leaves,
         lengths,
-        &mut *over,
-        &mut *cost,
-        &mut parent[..left.len()],
+        over,
+        cost,
+        &mut parent[..ends.left.len()],
     );
-    later_rows(
-        left,
-        right,
-        leaves,
-        lengths,
-        pieces,
-        &mut *over,
-        &mut *cost,
-        &mut *parent,
-    );
+    later_rows(ends, leaves, lengths, pieces, over, cost, parent);
 }

@@ -10,13 +10,9 @@ pub fn walk(parent: &[u32], n: usize, pieces: usize, path: &mut [u32])
     ensures { path.new ≡ onto (way_in parent.now n pieces (n - 1)) path.old }
 {
     let mut j = n - 1;
-    let mut k = pieces;
-    let mut start = pieces * n;
-    while 0 < k {
-        path[k] = j as u32;
-        start -= n;
-        j = parent[start + j] as usize;
-        k -= 1;
+    for k in (0..pieces).rev() {
+        path[k + 1] = j as u32;
+        j = parent[k * n + j] as usize;
     }
     path[0] = j as u32;
 }

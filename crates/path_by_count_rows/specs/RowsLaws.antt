@@ -1,5 +1,5 @@
 -- Laws of the rows: what the search for a predecessor reads of a row's tree, that each row is again one, and that a row looks at the one before it alone.
-use Rattle.std.specs.Prelude.{◌≡◌, List, T, Float, length, get_or, take, drop, set}
+use Rattle.std.specs.Prelude.{◌≡◌, List, T, Float, length, get_or, take, drop, set, Option, Some}
 use Rattle.std.proofs.Math.Path.{refl, sym}
 use Rattle.std.proofs.Common.{ap, subst, ◌∙◌, inl, inr, le_refl, le_trans, arith, length-drop, length-set, get_or-set_same, get_or-set_other, get_or-take, get_or-drop, length-take-le, ext_get_or}
 use Rattle.std.proofs.Math.Bool.{true}
@@ -14,10 +14,9 @@ use Rattle.path_pieces.specs.Pieces.{piece_length, may_start, no_score, with_pie
 use Rattle.path_pieces.specs.PiecesLaws.{over-one, cut_at-over}
 use Rattle.path_pieces.specs.Domain.{Candidates, Searchable}
 use Rattle.path_pieces.specs.DomainLaws.{rights_rise, ends_rise, left_bounded, piece_bounded, piece_nonneg, cut_at-nonneg}
-use Rattle.path_pieces.specs.Least.{held_of, found_score, found_index, predecessor_of}
+use Rattle.path_pieces.specs.Least.{found_score, found_index, predecessor_of}
 use Rattle.path_pieces.specs.LeastLaws.{least_same, least_skip}
 use Rattle.path_pieces.specs.PredecessorLaws.{predecessor_same, predecessor_chosen}
-use Rattle.path_pieces.specs.declared.best.Found.{Found}
 use Rattle.path_pieces.specs.declared.lengths.Lengths.{Lengths}
 use Rattle.path_pieces.specs.declared.score.Score.{Score}
 use Rattle.path_pieces.specs.declared.best.Best.{Best}
@@ -38,8 +37,8 @@ module _ (l : Lengths) (left right : List ℕ) where
 
   -- the least of the scores through the leaves of a row's tree is the best predecessor: the piece rule leaves the candidates from the first start on
   pub predecessor_by : (leaves : ℕ) (over : List ℕ) (cost : List Float) (k j from : ℕ) (b : Best) → Candidates left right → 0 < k → k ≤ j → j < length left
-      → from ≡ earliest_start l.limit left right k j → held_of b ≡ least_in (arrival_at l right over cost leaves (get_or left j 0)) from j
-      → held_of b ≡ predecessor_of l left right (leaf_score leaves over cost) (k - 1) j
+      → from ≡ earliest_start l.limit left right k j → Some b ≡ least_in (arrival_at l right over cost leaves (get_or left j 0)) from j
+      → Some b ≡ predecessor_of l left right (leaf_score leaves over cost) (k - 1) j
   unfolding predecessor_of piece_length
   predecessor_by leaves over cost k j from b ok some reached inside e h =
       let test = may_start l.limit left right j in
@@ -119,7 +118,7 @@ module _ {l : Lengths} {left right : List ℕ} {leaves : ℕ} {over : List ℕ} 
 
 -- the best predecessor comes before the candidate
 pub predecessor_high : {l : Lengths} {left right : List ℕ} {leaves : ℕ} {over : List ℕ} {cost : List Float} {k j : ℕ} (b : Best) → RowReady l left right leaves over cost k j
-    → held_of b ≡ predecessor_of l left right (leaf_score leaves over cost) (k - 1) j → b.at < j
+    → Some b ≡ predecessor_of l left right (leaf_score leaves over cost) (k - 1) j → b.at < j
 predecessor_high {l} {left} {right} {leaves} {over} {cost} {k} {j} b x e =
     let ok = x.laid.domain in
     let c = predecessor_chosen ok.candidates ok.preferred (leaf_score leaves over cost) (k - 1) j (omega (arith, x.some, x.reached)) x.inside x.fine in
@@ -312,16 +311,16 @@ module _ {l : Lengths} {left right : List ℕ} {leaves : ℕ} {over₀ : List �
 
     -- one more
     pub next_more : (j : ℕ) (b : Best) (s : Score) → suc j ≡ n → k ≤ j → j < length left → leaves + j < length over → leaves + j < length cost → j < length row
-        → held_of b ≡ predecessor_of l left right (leaf_score leaves over cost) (k - 1) j → s ≡ with_cut_at (behind (length left) cost₀) j b.score
+        → Some b ≡ predecessor_of l left right (leaf_score leaves over cost) (k - 1) j → s ≡ with_cut_at (behind (length left) cost₀) j b.score
         → NextWritten l left right leaves over₀ cost₀ (set over (leaves + j) s.over) (set cost (leaves + j) s.cost) (set row j b.at) k j
     next_more j b s e r inside h g m eb es =
         let same = predecessor_same l left right (leaf_score leaves over cost) (leaf_score leaves over₀ cost₀) (k - 1) j (λ i a u. same_own i (omega arith)) in
-        let d : held_of b ≡ predecessor_of l left right (leaf_score leaves over₀ cost₀) (k - 1) j = eb ∙ same in
+        let d : Some b ≡ predecessor_of l left right (leaf_score leaves over₀ cost₀) (k - 1) j = eb ∙ same in
         record {
           score = λ i a z. elim (lt_or_le j i) [
             | inl x ↦ kept over cost (leaves + j) s (leaves + i) (λ (q : leaves + i ≡ leaves + j). omega arith) ∙ w.score i (omega arith) z
             | inr x ↦ let q : j ≡ i = omega arith in
-                rw (← q) (written over cost (leaves + j) s h g ∙ es ∙ ap (λ (c : Found). with_cut_at (behind (length left) cost₀) j (found_score c)) d)
+                rw (← q) (written over cost (leaves + j) s h g ∙ es ∙ ap (λ (c : Option Best). with_cut_at (behind (length left) cost₀) j (found_score c)) d)
           ];
           parent = λ i a z. elim (lt_or_le j i) [
             | inl x ↦ get_or-set_other row j i b.at 0 (λ (q : i ≡ j). omega arith) ∙ w.parent i (omega arith) z
@@ -349,7 +348,7 @@ next_done {l} {left} {right} {leaves} {k} {over₀} {over₁} {over} {cost₀} {
     let same : (j : ℕ) → predecessor_of l left right own₁ (k - 1) j ≡ predecessor_of l left right own₀ (k - 1) j =
     λ j. predecessor_same l left right own₁ own₀ (k - 1) j (λ i a b. n.after (leaves + i) (omega arith)) in
     record {
-      score = λ j a h. rw cuts (w.score j a h ∙ ap (λ (c : Found). with_cut_at (behind (length left) cost₁) j (found_score c)) (same j));
+      score = λ j a h. rw cuts (w.score j a h ∙ ap (λ (c : Option Best). with_cut_at (behind (length left) cost₁) j (found_score c)) (same j));
       parent = λ j a h. w.parent j a h ∙ ap found_index (same j);
       laid = laid_kept t.laid (omega (arith, t.laid.tree.enough)) w.rest;
       is_row = record {

@@ -13,7 +13,8 @@ use Rattle.path_pieces.specs.Pieces.{at_most, score_at, less_than}
 use Rattle.path_pieces.specs.declared.score.Score.{Score}
 use Rattle.path_pieces.specs.declared.best.Best.{Best}
 use Rattle.path_by_count_search.specs.declared.visit.Query.{Query}
-use Rattle.path_by_count_tree.specs.Least.{entry, ahead_of, ahead_best, Before}
+use Rattle.path_by_count_tree.specs.Least.{ahead_best, Before}
+use Rattle.path_pieces.specs.Least.{entry, ahead_of}
 use Rattle.path_by_count_tree.specs.LeastLaws.{before_refl, before_trans, ahead_before, not_ahead-before}
 use Rattle.path_by_count_search.specs.Starts.{Starts}
 use Rattle.path_by_count_tree.specs.Tree.{no_leaf, Bound, Covers}

@@ -1,12 +1,7 @@
 -- The place at which the search over the tree starts: a node whose range holds all candidates of the query, halved as long as one half does.
-use Rattle.std.specs.Prelude.{Bool, true, false, List, ℕ, ◌+◌, ◌-◌, ◌*◌, ◌/◌, ◌≤◌, ltb, Float}
+use Rattle.std.specs.Prelude.{cond, List, ℕ, ◌+◌, ◌-◌, ◌*◌, ◌/◌, ◌≤◌, ltb, Float}
 use Rattle.path_by_count_search.specs.declared.narrow.Place.{Place}
 use Rattle.path_by_count_tree.specs.Tree.{Covers}
-
--- one of two, by a test
-abbrev pub pick_place : Bool → Place → Place → Place
-pick_place true a b = a
-pick_place false a b = b
 
 -- where a place's range is halved
 abbrev pub middle_of : Place → ℕ
@@ -22,7 +17,7 @@ upper_of p = record { node = p.node * 2 + 1; lo = middle_of p; hi = p.hi }
 
 -- the half that holds from .. to, or the place itself where neither does
 unfoldable pub narrower_of : Place → ℕ → ℕ → Place
-narrower_of p from to = pick_place (ltb (middle_of p) to) (pick_place (ltb from (middle_of p)) p (upper_of p)) (lower_of p)
+narrower_of p from to = cond (ltb (middle_of p) to) (cond (ltb from (middle_of p)) p (upper_of p)) (lower_of p)
 
 -- the place's node bounds its range, and the range holds from .. to
 pub record Encloses (leaves : ℕ) (over : List ℕ) (cost : List Float) (from to : ℕ) (p : Place) : Type 0 where

@@ -1,15 +1,15 @@
 -- What the starts of a piece give: each can be read, and the score through each is not negative.
-use Rattle.std.specs.Prelude.{◌≡◌, ℕ, ◌+◌, ◌-◌, ◌<◌, List, T, Float, get_or}
+use Rattle.std.specs.Prelude.{◌≡◌, cond, ℕ, ◌+◌, ◌-◌, ◌<◌, List, T, Float, get_or, Some}
 use Rattle.std.proofs.Common.{sym, ap, subst, ◌∙◌, arith}
 use Rattle.base_terms.specs.Floats.{nonneg}
 use Rattle.path_pieces.specs.Pieces.{less_than, score_at}
 use Rattle.path_pieces.specs.DomainLaws.{piece_nonneg}
-use Rattle.path_pieces.specs.Least.{held_of}
+use Rattle.path_pieces.specs.Least.{entry}
 use Rattle.path_pieces.specs.LeastLaws.{least_only}
 use Rattle.path_pieces.specs.declared.lengths.Lengths.{Lengths}
 use Rattle.path_pieces.specs.declared.score.Score.{Score}
 use Rattle.path_pieces.specs.declared.best.Best.{Best}
-use Rattle.path_by_count_tree.specs.Least.{every, entry, pick_best, least_in, IsLeast}
+use Rattle.path_by_count_tree.specs.Least.{every, least_in, IsLeast}
 use Rattle.path_by_count_tree.specs.LeastLaws.{least_one, least_more}
 use Rattle.path_by_count_search.specs.Starts.{arrival_at, lengths_held, Starts, Start}
 
@@ -38,15 +38,15 @@ module _ {l : Lengths} {right over : List ℕ} {cost : List Float} {base to end 
 
   -- one more
   pub scan_next : (from i : ℕ) (s₁ : Score) (b r : Best) → i < to → s₁ ≡ arrival_at l right over cost base end i
-      → r ≡ pick_best (less_than s₁ b.score) (record { score = s₁; at = i }) b
+      → r ≡ cond (less_than s₁ b.score) (record { score = s₁; at = i }) b
       → IsLeast (arrival_at l right over cost base end) from i b → IsLeast (arrival_at l right over cost base end) from (i + 1) r
   scan_next from i s₁ b r h e f x =
       let score = arrival_at l right over cost base end in
-      let g : r ≡ pick_best (less_than (score i) b.score) (entry score i) b =
-      f ∙ ap (λ (y : Score). pick_best (less_than y b.score) (record { score = y; at = i }) b) e in
+      let g : r ≡ cond (less_than (score i) b.score) (entry score i) b =
+      f ∙ ap (λ (y : Score). cond (less_than y b.score) (record { score = y; at = i }) b) e in
       subst (λ (y : Best). IsLeast score from (i + 1) y) (sym g) (least_more score from i b (λ k m. arrival-nonneg k (omega arith)) x)
 
   -- all
   pub scan_done : (from i : ℕ) (b : Best) → from < to → i ≡ to → IsLeast (arrival_at l right over cost base end) from i b
-      → held_of b ≡ least_in (arrival_at l right over cost base end) from to
+      → Some b ≡ least_in (arrival_at l right over cost base end) from to
   scan_done from i b h e x = least_only every (arrival_at l right over cost base end) from to b (λ k m t. arrival-nonneg k m) (rw e at x)

@@ -1,6 +1,6 @@
 -- What the search over the tree finds in a range of candidates, and when it looks there.
 -- The halves of a node's range, in the order in which the search visits them.
-use Rattle.std.specs.Prelude.{◌≡◌, ◌⊎◌, Bool, true, false, List, ℕ, suc, ◌-◌, ◌≤◌, ◌<◌, max, min, ◌+◌, ◌*◌, ◌/◌, ltb, Float, length, get_or}
+use Rattle.std.specs.Prelude.{◌≡◌, ◌⊎◌, Bool, true, false, cond, List, ℕ, suc, ◌-◌, ◌≤◌, ◌<◌, max, min, ◌+◌, ◌*◌, ◌/◌, ltb, Float, length, get_or}
 use Rattle.base_terms.specs.Limits.{max_len}
 use Rattle.path_pieces.specs.Limits.{max_index}
 use Rattle.path_pieces.specs.Pieces.{length_weights, less_than}
@@ -8,7 +8,8 @@ use Rattle.path_pieces.specs.declared.lengths.Lengths.{Lengths}
 use Rattle.path_pieces.specs.declared.score.Score.{Score}
 use Rattle.path_pieces.specs.declared.best.Best.{Best}
 use Rattle.path_by_count_search.specs.declared.visit.Query.{Query}
-use Rattle.path_by_count_tree.specs.Least.{entry, pick_best, Before}
+use Rattle.path_by_count_tree.specs.Least.{Before}
+use Rattle.path_pieces.specs.Least.{entry}
 use Rattle.path_by_count_search.specs.Starts.{arrival_at}
 use Rattle.path_by_count_tree.specs.Tree.{no_leaf, Covers}
 use Rattle.path_by_count_search.specs.Bound.{bound_of}
@@ -63,7 +64,7 @@ active_bound q right over cost node lo hi = bound_of (query_lengths q) right ove
 -- the best that one of them can be: that bound, at the first of them; where there is none, more pieces over the limit than a path can have
 unfoldable pub outlook_of : Query → List ℕ → List ℕ → List Float → ℕ → ℕ → ℕ → Best
 outlook_of q right over cost node lo hi =
-    pick_best (meets q lo hi) (record { score = active_bound q right over cost node lo hi; at = max lo q.from }) (record { score = no_leaf; at = hi })
+    cond (meets q lo hi) (record { score = active_bound q right over cost node lo hi; at = max lo q.from }) (record { score = no_leaf; at = hi })
 
 -- two halves in order: the upper one first where the test passes
 abbrev pub pick_order : Bool → Half → Half → Ordered

@@ -6,7 +6,6 @@ ghost use Rattle.path_by_count_search.specs.Bound.{length_bound_of, with_bound, 
 ghost use Rattle.path_by_count_search.specs.Visit.{Ranged};
 
 use base_code::floats;
-use path_pieces::lengths;
 use path_pieces::lengths::Lengths;
 use path_pieces::score::Score;
 
@@ -22,8 +21,7 @@ fn length_bound(lengths: Lengths, shortest: u64, longest: u64) -> f64
 {
     let min = shortest as f64;
     let max = longest as f64;
-    let target = lengths.target;
-    let closest = floats::clamp_f64(target, min, max);
+    let closest = floats::clamp(lengths.target, min, max);
     let off = (closest - lengths.target) / lengths.target;
     let cost = lengths.weights.target * off * off;
     if max < lengths.min {
@@ -40,9 +38,8 @@ fn bound_score(prior: Score, lengths: Lengths, shortest: u64, longest: u64) -> S
     requires longest_le_max_len { longest ≤ max_len }
     ensures { result ≡ with_bound lengths prior shortest longest }
 {
-    let limit = lengths.limit;
     Score {
-        over: prior.over + lengths::is_over(shortest, limit),
+        over: prior.over + lengths.over(shortest),
         cost: prior.cost + length_bound(lengths, shortest, longest),
     }
 }

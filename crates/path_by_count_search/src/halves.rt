@@ -3,12 +3,10 @@
 ghost use Rattle.std.specs.Prelude.{◌≡◌};
 ghost use Rattle.path_by_count_search.specs.Visit.{Looks, outlook_of, in_order, halves_of, Halved};
 
+use crate::bound;
 use crate::visit::Query;
-use crate::{bound, range, visit};
-use base_code::sizes;
 use path_by_count_tree::tree;
 use path_pieces::best::Best;
-use path_pieces::score;
 use path_pieces::score::Score;
 
 // A half: its node, its range, and its outlook.
@@ -41,8 +39,8 @@ fn outlook(
     requires { Looks right.now over.now cost.now query node lo hi }
     ensures { result ≡ outlook_of query right.now over.now cost.now node lo hi }
 {
-    let start = sizes::larger(lo, query.from);
-    let stop = sizes::lesser(hi, query.to);
+    let start = lo.max(query.from);
+    let stop = hi.min(query.to);
     if stop <= start {
         let score = Score {
             over: tree::NO_CANDIDATE,
@@ -50,24 +48,34 @@ fn outlook(
         };
         return Best { score, at: hi };
     }
-    let lengths = visit::query_lengths(query);
-    let score = bound::bound(right, over, cost, lengths, query.end, node, start, stop);
+    let score = bound::bound(
+        right,
+        over,
+        cost,
+        query.lengths(),
+        query.end,
+        node,
+        start,
+        stop,
+    );
     Best { score, at: start }
 }
 
 // The lower half first, unless the upper one has a better bound.
+#[tactic(auto, using(path_pieces::specs::OrderLaws::score_less), unfolding(crate::specs::Visit::in_order))]
 fn in_order(lower: Half, upper: Half) -> Ordered
     ensures { result ≡ in_order lower upper }
 {
-    if score::score_less(upper.outlook.score, lower.outlook.score) {
-        return Ordered {
+    if upper.outlook.score < lower.outlook.score {
+        Ordered {
             first: upper,
             second: lower,
-        };
-    }
-    Ordered {
-        first: lower,
-        second: upper,
+        }
+    } else {
+        Ordered {
+            first: lower,
+            second: upper,
+        }
     }
 }
 
@@ -84,7 +92,7 @@ pub fn halves(
     requires { Halved right.now over.now cost.now query node lo hi }
     ensures { result ≡ halves_of query right.now over.now cost.now node lo hi }
 {
-    let mid = range::middle(lo, hi);
+    let mid = lo.midpoint(hi);
     let below = node * 2;
     let above = below + 1;
     let lower = Half {

@@ -1,13 +1,11 @@
 // The best predecessor of a range of candidates, by the quicker of two searches.
-ghost use Rattle.std.specs.Prelude.{◌≡◌, ◌≤◌, ◌<◌};
-ghost use Rattle.path_pieces.specs.Least.{held_of};
+ghost use Rattle.std.specs.Prelude.{◌≡◌, ◌≤◌, ◌<◌, Some};
 ghost use Rattle.path_by_count_tree.specs.Least.{least_in};
 ghost use Rattle.path_by_count_search.specs.Starts.{arrival_at, Starts};
 ghost use Rattle.path_by_count_tree.specs.Tree.{Covers};
 
 use crate::visit::Query;
 use crate::{narrow, scan};
-use base_code::sizes;
 use path_pieces::best::Best;
 use path_pieces::lengths::Lengths;
 
@@ -29,13 +27,13 @@ pub fn least_predecessor(
     requires covers { Covers leaves to over.now cost.now 1 0 leaves }
     requires from_lt_to { from < to }
     requires to_le_leaves { to ≤ leaves }
-    ensures { held_of result ≡ least_in
+    ensures { Some result ≡ least_in
         (arrival_at lengths right.now over.now cost.now leaves end) from to }
 {
     if to - from <= 16 {
         return scan::scan_least(right, over, cost, leaves, lengths, end, from, to);
     }
-    let at = sizes::lesser(sizes::larger(near, from), to - 1);
+    let at = near.max(from).min(to - 1);
     let score = scan::score_from(right, over, cost, lengths, end, leaves + at, at);
     let query = Query {
         min: lengths.min,

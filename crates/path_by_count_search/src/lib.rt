@@ -8,6 +8,5 @@ pub mod bound;
 pub mod halves;
 pub mod least;
 pub mod narrow;
-pub mod range;
 pub mod scan;
 pub mod visit;

@@ -6,8 +6,8 @@ ghost use Rattle.path_by_count_tree.specs.Tree.{Covers};
 ghost use Rattle.path_by_count_search.specs.Visit.{query_lengths, FirstIn, through};
 ghost use Rattle.path_by_count_search.specs.Narrow.{narrower_of};
 
+use crate::visit;
 use crate::visit::Query;
-use crate::{range, visit};
 use path_pieces::best::Best;
 
 // A node with its range.
@@ -24,22 +24,22 @@ fn narrower(place: Place, from: usize, to: usize) -> Place
     requires node_bound { place.node * 2 + 1 < 18446744073709551616 }
     ensures { result ≡ narrower_of place from to }
 {
-    let mid = range::middle(place.lo, place.hi);
+    let mid = place.lo.midpoint(place.hi);
     if to <= mid {
-        return Place {
+        Place {
             node: place.node * 2,
-            lo: place.lo,
             hi: mid,
-        };
-    }
-    if mid <= from {
-        return Place {
+            ..place
+        }
+    } else if mid <= from {
+        Place {
             node: place.node * 2 + 1,
             lo: mid,
-            hi: place.hi,
-        };
+            ..place
+        }
+    } else {
+        place
     }
-    place
 }
 
 // The first of the best so far and the candidates in the query. No bound is needed on the way down to the place that
@@ -58,12 +58,11 @@ pub fn search(right: &[u64], over: &[u32], cost: &[f64], query: Query, best: Bes
         lo: 0,
         hi: query.leaves,
     };
+    // A `while`: the way down a tree, which no range has.
     while visit::FEW < place.hi - place.lo {
         let next = narrower(place, query.from, query.to);
         if next.node == place.node {
-            return visit::visit(
-                right, over, cost, query, place.node, place.lo, place.hi, best,
-            );
+            break;
         }
         place = next;
     }

@@ -1,13 +1,11 @@
 // The plain search for the best predecessor: every candidate of a range, one after the other.
-ghost use Rattle.std.specs.Prelude.{◌≡◌, ◌-◌, ◌<◌, get_or};
+ghost use Rattle.std.specs.Prelude.{◌≡◌, ◌-◌, ◌<◌, cond, get_or, Some};
 ghost use Rattle.path_pieces.specs.Pieces.{with_piece, less_than, score_at};
-ghost use Rattle.path_pieces.specs.Least.{held_of};
-ghost use Rattle.path_by_count_tree.specs.Least.{pick_best, least_in};
+ghost use Rattle.path_by_count_tree.specs.Least.{least_in};
 ghost use Rattle.path_by_count_search.specs.Starts.{arrival_at, Starts, Start};
 
 use path_pieces::best::Best;
 use path_pieces::lengths::Lengths;
-use path_pieces::score;
 use path_pieces::score::Score;
 
 // The score through candidate i of a path whose last piece ends at the place `end`; the candidate's own score stands at
@@ -29,17 +27,19 @@ pub fn score_from(
         over: over[node],
         cost: cost[node],
     };
-    score::piece_score(prior, lengths, end - right[i])
+    prior.with_piece(lengths, end - right[i])
 }
 
 // The later candidate i where its score is better.
+#[tactic(auto, using(path_pieces::specs::OrderLaws::score_less))]
 fn or_later(best: Best, score: Score, i: usize) -> Best
-    ensures { result ≡ pick_best (less_than score best.score) (record { score = score; at = i }) best }
+    ensures { result ≡ cond (less_than score best.score) (record { score = score; at = i }) best }
 {
-    if score::score_less(score, best.score) {
-        return Best { score, at: i };
+    if score < best.score {
+        Best { score, at: i }
+    } else {
+        best
     }
-    best
 }
 
 // The best predecessor among the candidates from..to; candidate i's own score stands at index base + i.
@@ -55,22 +55,20 @@ pub fn scan_least(
 ) -> Best
     requires starts { Starts lengths right.now over.now cost.now base to end }
     requires from_lt_to { from < to }
-    ensures { held_of result ≡ least_in (arrival_at lengths right.now over.now cost.now base end)
+    ensures { Some result ≡ least_in (arrival_at lengths right.now over.now cost.now base end)
         from to }
 {
     let mut best = Best {
         score: score_from(right, over, cost, lengths, end, base + from, from),
         at: from,
     };
-    let mut i = from + 1;
     // Walking on, `<` keeps the earliest predecessor on ties: longer pieces, fewer cuts.
-    while i < to {
+    for i in from + 1..to {
         best = or_later(
             best,
             score_from(right, over, cost, lengths, end, base + i, i),
             i,
         );
-        i += 1;
     }
     best
 }

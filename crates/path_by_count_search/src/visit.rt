@@ -3,13 +3,13 @@
 // Floating-point rounding can break Monge argmin ordering, even with convex real-valued costs, so only bounds prune.
 ghost use Rattle.std.specs.Prelude.{◌≡◌, ◌+◌, T};
 ghost use Rattle.base_terms.specs.Floats.{nonneg};
-ghost use Rattle.path_by_count_tree.specs.Least.{entry, ahead_best};
+ghost use Rattle.path_pieces.specs.Least.{entry};
+ghost use Rattle.path_by_count_tree.specs.Least.{ahead_best};
 ghost use Rattle.path_by_count_search.specs.Starts.{Starts, Start};
 ghost use Rattle.path_by_count_tree.specs.Tree.{Covers};
 ghost use Rattle.path_by_count_search.specs.Visit.{query_lengths, FirstIn, through};
 
 use crate::{halves, scan};
-use base_code::sizes;
 use path_by_count_tree::best;
 use path_pieces::best::Best;
 use path_pieces::lengths::Lengths;
@@ -37,15 +37,17 @@ pub struct Query {
     pub leaves: usize,
 }
 
-// The preferences of a query, by value.
-pub fn query_lengths(query: Query) -> Lengths
-    ensures { result ≡ query_lengths query }
-{
-    Lengths {
-        min: query.min,
-        target: query.target,
-        limit: query.limit,
-        weights: weights::length_weights(query.target_weight, query.short_weight),
+impl Query {
+    // The preferences, by value.
+    pub fn lengths(self) -> Lengths
+        ensures { result ≡ query_lengths self }
+    {
+        Lengths {
+            min: self.min,
+            target: self.target,
+            limit: self.limit,
+            weights: weights::length_weights(self.target_weight, self.short_weight),
+        }
     }
 }
 
@@ -54,8 +56,8 @@ fn at_leaf(right: &[u64], over: &[u32], cost: &[f64], query: Query, i: usize, be
     requires { Start right.now over.now cost.now (query.leaves + i) i query.end }
     ensures { result ≡ ahead_best (entry (through query right.now over.now cost.now) i) best }
 {
-    let lengths = query_lengths(query);
-    let score = scan::score_from(right, over, cost, lengths, query.end, query.leaves + i, i);
+    let node = query.leaves + i;
+    let score = scan::score_from(right, over, cost, query.lengths(), query.end, node, i);
     best::first_of(Best { score, at: i }, best)
 }
 
@@ -75,13 +77,9 @@ fn at_leaves(
     ensures { FirstIn (through query right.now over.now cost.now) lo hi query.from
         query.to best result }
 {
-    let start = sizes::larger(lo, query.from);
-    let stop = sizes::lesser(hi, query.to);
     let mut first = best;
-    let mut i = start;
-    while i < stop {
+    for i in lo.max(query.from)..hi.min(query.to) {
         first = at_leaf(right, over, cost, query, i, first);
-        i += 1;
     }
     first
 }
@@ -108,17 +106,15 @@ pub fn visit(
         return at_leaves(right, over, cost, query, lo, hi, best);
     }
     let parts = halves::halves(right, over, cost, query, node, lo, hi);
-    let a = parts.first;
-    let b = parts.second;
-    if best::ahead(a.outlook, best) {
-        let found = visit(right, over, cost, query, a.node, a.lo, a.hi, best);
-        if best::ahead(b.outlook, found) {
-            return visit(right, over, cost, query, b.node, b.lo, b.hi, found);
-        }
-        return found;
+    let (a, b) = (parts.first, parts.second);
+    let found = if best::ahead(a.outlook, best) {
+        visit(right, over, cost, query, a.node, a.lo, a.hi, best)
+    } else {
+        best
+    };
+    if best::ahead(b.outlook, found) {
+        visit(right, over, cost, query, b.node, b.lo, b.hi, found)
+    } else {
+        found
     }
-    if best::ahead(b.outlook, best) {
-        return visit(right, over, cost, query, b.node, b.lo, b.hi, best);
-    }
-    best
 }

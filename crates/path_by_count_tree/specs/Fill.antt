@@ -28,23 +28,6 @@ pub record Padded (over₀ : List ℕ) (cost₀ : List Float) (from : ℕ) (over
   pub before : (k : ℕ) → k < from → score_at over cost k ≡ score_at over₀ cost₀ k
   pub after : (k : ℕ) → i ≤ k → score_at over cost k ≡ score_at over₀ cost₀ k
 
-module _ {over₀ : List ℕ} {cost₀ : List Float} {from : ℕ} where
-  -- before the first one
-  pub padded-none : Padded over₀ cost₀ from over₀ cost₀ from
-  padded-none = record { beyond = λ k g h. absurd (omega arith); before = λ k h. refl; after = λ k h. refl }
-
-  -- one leaf more
-  pub padded_next : {over : List ℕ} {cost : List Float} {i : ℕ} → from ≤ i → i < length over → i < length cost → Padded over₀ cost₀ from over cost i
-      → Padded over₀ cost₀ from (set over i (suc max_index)) (set cost i (of_bits binary64 0)) (i + 1)
-  padded_next {over} {cost} {i} f h g c = record {
-    beyond = λ k a b. elim (lt_or_le k i) [
-      | inl m ↦ kept over cost i no_leaf k (λ (e : k ≡ i). omega arith) ∙ c.beyond k a m
-      | inr m ↦ let e : i ≡ k = omega arith in rw (← e) (written over cost i no_leaf h g)
-    ];
-    before = λ k a. kept over cost i no_leaf k (λ (e : k ≡ i). omega arith) ∙ c.before k a;
-    after = λ k a. kept over cost i no_leaf k (λ (e : k ≡ i). omega arith) ∙ c.after k (omega arith);
-  }
-
 -- ---- the nodes linked, from `leaves` down to node i
 
 -- each node from i on, below the leaves, has the lesser score of its two children; the leaves are as they were

@@ -1,5 +1,5 @@
 -- Laws of the lowest least where every candidate may be chosen: how it goes from a range to a longer one, and the order of candidates behind it.
-use Rattle.std.specs.Prelude.{◌≡◌, refl, not, ◌&&◌, ◌||◌, ℕ, ◌+◌, ◌≤◌, ◌<◌, T, ltb}
+use Rattle.std.specs.Prelude.{◌≡◌, refl, cond, not, ◌&&◌, ◌||◌, ℕ, ◌+◌, ◌≤◌, ◌<◌, T, ltb}
 use Rattle.std.proofs.Common.{sym, subst, inl, inr, le_refl, le_trans, le_of_lt, lt_trans, arith, T_not, ltb→lt, nltb→le}
 use Rattle.std.specs.Float.Ieee.Bits.{is_true, is_false}
 use Rattle.std.proofs.Math.Dec.{not_T}
@@ -11,7 +11,8 @@ use Rattle.path_pieces.specs.Pieces.{at_most, less_than, equal_to}
 use Rattle.path_pieces.specs.DomainLaws.{at_most_refl, at_most_trans, less_than_is, less_at_most}
 use Rattle.path_pieces.specs.declared.score.Score.{Score}
 use Rattle.path_pieces.specs.declared.best.Best.{Best}
-use Rattle.path_by_count_tree.specs.Least.{entry, pick_best, IsLeast, ahead_of, Before}
+use Rattle.path_by_count_tree.specs.Least.{IsLeast, Before}
+use Rattle.path_pieces.specs.Least.{entry, ahead_of}
 
 -- ---- scores that are not negative
 
@@ -81,7 +82,7 @@ module _ (score : ℕ → Score) where
 
   -- the choice between the two
   pub least_more : (from to : ℕ) (b : Best) → ((k : ℕ) → k < to + 1 → T (nonneg (score k).cost)) → IsLeast score from to b
-      → IsLeast score from (to + 1) (pick_best (less_than (score to) b.score) (entry score to) b)
+      → IsLeast score from (to + 1) (cond (less_than (score to) b.score) (entry score to) b)
   least_more from to b fine a =
       let p : T (nonneg (score to).cost) = fine to (omega arith) in
       let q : T (nonneg b.score.cost) =

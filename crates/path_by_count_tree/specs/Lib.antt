@@ -3,4 +3,6 @@ pub mod Least
 pub mod LeastLaws
 pub mod Tree
 pub mod TreeLaws
+pub mod PartLaws
 pub mod Fill
+pub mod FillLaws

@@ -1,6 +1,6 @@
 -- The tree of least scores over a row of the table: the node n has the children 2n and 2n + 1, the leaf of candidate i stands at leaves + i, and each node's
 -- score is the lesser of its children's.
-use Rattle.std.specs.Prelude.{◌≡◌, Bool, true, false, List, ℕ, suc, ◌+◌, ◌-◌, ◌*◌, ◌/◌, ◌≤◌, ◌<◌, T, Float, length, get_or}
+use Rattle.std.specs.Prelude.{◌≡◌, cond, List, ℕ, suc, ◌+◌, ◌-◌, ◌*◌, ◌/◌, ◌≤◌, ◌<◌, T, Float, length, get_or}
 use Rattle.std.specs.Float.{nan, binary64}
 use Rattle.std.specs.Float.Ieee.{of_bits}
 use Rattle.base_terms.specs.Floats.{nonneg}
@@ -23,14 +23,9 @@ pub record Leaves (n leaves : ℕ) : Type 0 where
 
 -- ---- its scores
 
--- one of two, by a test
-abbrev pub pick_score : Bool → Score → Score → Score
-pick_score true a b = a
-pick_score false a b = b
-
 -- the lesser of two, the first where they are equally good
 unfoldable pub lesser_score : Score → Score → Score
-lesser_score a b = pick_score (at_most a b) a b
+lesser_score a b = cond (at_most a b) a b
 
 -- the score of a leaf without a candidate: more pieces over the limit than a path can have
 abbrev pub no_leaf : Score

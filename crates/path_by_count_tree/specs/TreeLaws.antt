@@ -1,6 +1,7 @@
 -- Laws of the tree: a filled tree of a row covers all its leaves from node 1, and what covering gives of a node and of its halves.
-use Rattle.std.specs.Prelude.{◌≡◌, refl, ◌⊎◌, Bool, true, false, not, List, ℕ, zero, suc, ◌+◌, ◌-◌, ◌*◌, ◌/◌, ◌≤◌, ◌<◌, T, Float, length, get_or}
+use Rattle.std.specs.Prelude.{◌≡◌, refl, ◌⊎◌, Bool, true, false, cond, not, List, ℕ, zero, suc, ◌+◌, ◌-◌, ◌*◌, ◌/◌, ◌^◌, ◌≤◌, ◌<◌, T, Float, length, get_or}
 use Rattle.std.proofs.Common.{sym, ap, subst, ◌∙◌, inl, inr, mul-le-mul_left, mul_assoc, mul_comm, add-mul, zero-mul, one-mul, mul-one, zero-add, arith}
+use Rattle.std.proofs.Math.Nat.{pow-suc}
 use Rattle.std.specs.Float.{nan}
 use Rattle.base_terms.specs.Floats.{nonneg}
 use Rattle.base_laws.specs.Tests.{passes, lt_or_le, tested}
@@ -8,7 +9,7 @@ use Rattle.path_pieces.specs.Limits.{max_index}
 use Rattle.path_pieces.specs.Pieces.{at_most, score_at}
 use Rattle.path_pieces.specs.DomainLaws.{at_most_refl, at_most-total, at_most_trans}
 use Rattle.path_pieces.specs.declared.score.Score.{Score}
-use Rattle.path_by_count_tree.specs.Tree.{Power, one, twice, pick_score, lesser_score, Bound, Covers}
+use Rattle.path_by_count_tree.specs.Tree.{Power, one, twice, lesser_score, Bound, Covers}
 
 -- ---- powers of two
 
@@ -16,6 +17,11 @@ use Rattle.path_by_count_tree.specs.Tree.{Power, one, twice, pick_score, lesser_
 pub power_positive : {n : ℕ} → Power n → 0 < n
 power_positive one = omega arith
 power_positive (twice p e) = omega (arith, power_positive p)
+
+-- 2 to the k is one
+pub power_of : (k : ℕ) {n : ℕ} → n ≡ 2 ^ k → Power n
+power_of zero e = rw e Power.one
+power_of (suc k) e = twice (power_of k refl) (e ∙ pow-suc 2 k)
 
 -- ---- the lesser of two scores
 
@@ -29,7 +35,7 @@ pub lesser_below : (a b : Score) → T (nonneg a.cost) → T (nonneg b.cost) →
 unfolding lesser_score
 lesser_below a b p q = go (at_most a b) (passes (at_most a b)) refl
   where
-    go : (t : Bool) → T (at_most a b) ⊎ T (not (at_most a b)) → t ≡ at_most a b → T (at_most (pick_score t a b) a) × T (at_most (pick_score t a b) b)
+    go : (t : Bool) → T (at_most a b) ⊎ T (not (at_most a b)) → t ≡ at_most a b → T (at_most (cond t a b) a) × T (at_most (cond t a b) b)
     go true s e = (at_most_refl a p, subst T e tt)
     go false s e = ((elim (at_most-total a b p q) [ inl l ↦ absurd (subst T (sym e) l) | inr g ↦ g ]), at_most_refl b q)
 

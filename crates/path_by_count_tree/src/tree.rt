@@ -4,7 +4,6 @@ ghost use Rattle.path_pieces.specs.Limits.{max_candidates};
 ghost use Rattle.path_by_count_tree.specs.Tree.{Leaves, lesser_score};
 ghost use Rattle.path_by_count_tree.specs.Fill.{Padded, Linked};
 
-use path_pieces::score;
 use path_pieces::score::Score;
 
 // More pieces over the limit than a path can have: 2^20 + 1.
@@ -16,18 +15,15 @@ pub fn leaves_for(n: usize) -> usize
     requires n_le_max_candidates { n ≤ max_candidates }
     ensures { Leaves n result }
 {
-    let mut leaves: usize = 1;
-    while leaves < n {
-        leaves = leaves * 2;
-    }
-    leaves
+    n.next_power_of_two()
 }
 
 // The lesser of two scores, the first where they are equally good.
+#[tactic(auto, using(path_pieces::specs::OrderLaws::score_at_most), unfolding(crate::specs::Tree::lesser_score))]
 fn lesser_score(a: Score, b: Score) -> Score
     ensures { result ≡ lesser_score a b }
 {
-    if score::score_le(a, b) { a } else { b }
+    if a <= b { a } else { b }
 }
 
 // No candidate stands at the nodes from..to: more pieces over the limit than a path can have.
@@ -38,10 +34,8 @@ pub fn pad_leaves(tree_over: &mut [u32], tree_cost: &mut [f64], from: usize, to:
     ensures { Padded tree_over.old tree_cost.old from tree_over.new
         tree_cost.new to }
 {
-    for i in from..to {
-        tree_over[i] = NO_CANDIDATE;
-        tree_cost[i] = 0.0;
-    }
+    tree_over[from..to].fill(NO_CANDIDATE);
+    tree_cost[from..to].fill(0.0);
 }
 
 // Each node's score is the lesser of its children's, from the leaves up.
@@ -51,9 +45,7 @@ pub fn link_nodes(tree_over: &mut [u32], tree_cost: &mut [f64], leaves: usize)
     ensures { Linked tree_over.old tree_cost.old leaves tree_over.new
         tree_cost.new 1 }
 {
-    let mut node = leaves;
-    while 1 < node {
-        node -= 1;
+    for node in (1..leaves).rev() {
         let a = Score {
             over: tree_over[node * 2],
             cost: tree_cost[node * 2],

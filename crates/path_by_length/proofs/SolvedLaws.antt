@@ -1,5 +1,5 @@
 -- How the table is filled: what the search for a predecessor reads there, that it always finds one, and that the table grows by one candidate at a time.
-use Rattle.std.specs.Prelude.{◌≡◌, refl, List, ℕ, suc, ◌+◌, ◌-◌, ◌≤◌, ◌<◌, Float, length, set, take, drop}
+use Rattle.std.specs.Prelude.{◌≡◌, refl, List, ℕ, suc, ◌+◌, ◌-◌, ◌≤◌, ◌<◌, Float, length, set, take, drop, Option, Some, None, IsSome}
 use Rattle.std.proofs.Common.{sym, ◌∙◌, inl, inr, arith, length-set, length-drop, get_or-set_same, get_or-set_other, get_or-take, get_or-drop, drop-set-lt, length-take-le}
 use Rattle.std.proofs.Math.Path.{ap}
 use Rattle.std.proofs.Math.Dec.{T_not}
@@ -9,8 +9,7 @@ use Rattle.base_laws.specs.Tests.{lt_or_le}
 use Rattle.path_pieces.specs.Pieces.{no_score, arrival, score_at, with_cut_at, may_start}
 use Rattle.path_pieces.specs.declared.lengths.Lengths.{Lengths}
 use Rattle.path_pieces.specs.declared.score.Score.{Score}
-use Rattle.path_pieces.specs.declared.best.Found.{Found}
-use Rattle.path_pieces.specs.declared.best.Found.TheVariants.{At, Nothing}
+use Rattle.path_pieces.specs.declared.best.Best.{Best}
 use Rattle.path_pieces.specs.Least.{found_score, found_index, lowest_least, predecessor_of}
 use Rattle.path_pieces.specs.LeastLaws.{least_nothing}
 use Rattle.path_rules.specs.Paths.{last_candidate}
@@ -54,25 +53,30 @@ module _ {l : Lengths} {left right over : List ℕ} {cost : List Float} {j : ℕ
   search_same = predecessor_same l left right (score_at over cost) (best_score l left right cut) 0 j (λ k a h. ok.scores k h)
 
   -- it finds a candidate
-  pub ready_found : Nothing ≡ predecessor_of l left right (score_at over cost) 0 j → ⊥
+  pub ready_found : None ≡ predecessor_of l left right (score_at over cost) 0 j → ⊥
   unfolding predecessor_of
   ready_found e =
       T_not (may_start l.limit left right j (j - 1))
       (least_nothing (may_start l.limit left right j) (arrival l left right (score_at over cost) j) 0 j (sym e) (j - 1) (omega arith) (omega (arith, ok.later)))
       (start_next l.limit left right j (j - 1) (omega (arith, ok.later)))
 
+  -- so what it answers is one
+  pub ready_some : (f : Option Best) → f ≡ predecessor_of l left right (score_at over cost) 0 j → IsSome f
+  ready_some None e = absurd (ready_found e)
+  ready_some (Some b) e = refl
+
   -- whose score with the cut is the best
-  pub ready_score : (s : Score) (i : ℕ) → At s i ≡ predecessor_of l left right (score_at over cost) 0 j → with_cut_at cut j s ≡ best_score l left right cut j
-  ready_score s i e = ap (λ (f : Found). with_cut_at cut j (found_score f)) (e ∙ search_same) ∙ sym (best_next l left right cut j ok.later)
+  pub ready_score : (b : Best) → Some b ≡ predecessor_of l left right (score_at over cost) 0 j → with_cut_at cut j b.score ≡ best_score l left right cut j
+  ready_score b e = ap (λ (f : Option Best). with_cut_at cut j (found_score f)) (e ∙ search_same) ∙ sym (best_next l left right cut j ok.later)
 
   -- and which is the parent
-  pub ready_parent : (s : Score) (i : ℕ) → At s i ≡ predecessor_of l left right (score_at over cost) 0 j → i ≡ parent_of l left right cut j
+  pub ready_parent : (b : Best) → Some b ≡ predecessor_of l left right (score_at over cost) 0 j → b.at ≡ parent_of l left right cut j
   unfolding parent_of
-  ready_parent s i e = ap found_index (e ∙ search_same)
+  ready_parent b e = ap found_index (e ∙ search_same)
 
   -- so it is an earlier candidate
-  pub ready_below : (s : Score) (i : ℕ) → At s i ≡ predecessor_of l left right (score_at over cost) 0 j → i < j
-  ready_below s i e = rw (ready_parent s i e) (parent_below ok.room.domain j ok.later ok.inside)
+  pub ready_below : (b : Best) → Some b ≡ predecessor_of l left right (score_at over cost) 0 j → b.at < j
+  ready_below b e = rw (ready_parent b e) (parent_below ok.room.domain j ok.later ok.inside)
 
 -- ---- from one candidate to the next
 

@@ -1,5 +1,5 @@
 -- Laws of the table: each best score by those before it; in the domain it is no NaN, it comes from the lowest candidate whose score is least, and no allowed piece gives a better one.
-use Rattle.std.specs.Prelude.{◌≡◌, T, length, Float}
+use Rattle.std.specs.Prelude.{◌≡◌, T, length, Float, Option}
 use Rattle.std.proofs.Math.Path.{refl, ap}
 use Rattle.std.proofs.Common.{◌∙◌}
 use Rattle.std.proofs.Math.Logic.{inl, inr}
@@ -17,7 +17,7 @@ use Rattle.path_pieces.specs.PiecesLaws.{over-one, cut_at-over}
 use Rattle.base_laws.specs.Tests.{lt_or_le}
 use Rattle.path_pieces.specs.declared.lengths.Lengths.{Lengths}
 use Rattle.path_pieces.specs.declared.score.Score.{Score}
-use Rattle.path_pieces.specs.declared.best.Found.{Found}
+use Rattle.path_pieces.specs.declared.best.Best.{Best}
 use Rattle.path_pieces.specs.Least.{found_score, predecessor_of}
 use Rattle.path_rules.specs.Paths.{step, Allowed}
 use Rattle.path_rules.specs.Ties.{Chosen}
@@ -50,7 +50,7 @@ module _ (l : Lengths) (left right : List ℕ) (cut : List Float) where
   best_next (suc j) h =
       let t = table_of l left right cut (suc j) in
       get_or_at t (next_score l left right cut (λ i. get_or t i no_score) (suc j)) [] no_score (suc j) (table_length (suc j))
-      ∙ ap (λ (f : Found). with_cut_at cut (suc j) (found_score f))
+      ∙ ap (λ (f : Option Best). with_cut_at cut (suc j) (found_score f))
       (predecessor_same l left right (λ i. get_or t i no_score) (best_score l left right cut) 0 (suc j) (λ k a g. table_at (suc j) k g))
 
 -- ---- in the domain

@@ -8,7 +8,7 @@ use Rattle.std.proofs.lemmas.List.{get_or_at}
 use Rattle.base_terms.specs.Lists.{onto}
 use Rattle.base_code.specs.FrontLaws.{onto-length, onto-at, back_next}
 use Rattle.path_by_length.specs.Table.{way_to, Falling}
-use Rattle.path_by_length.specs.WayLaws.{way_first, way_step, way_length, way_some}
+use Rattle.path_by_length.specs.WayLaws.{way_first, way_step, way_length, way_some, way_later, way_only}
 
 module _ (parent : ℕ → ℕ) (last : ℕ) where
   -- `len` candidates are counted, and those before j are left
@@ -90,6 +90,10 @@ module _ {parent : ℕ → ℕ} {last : ℕ} (falls : Falling parent last) where
         let q = ap length w.2 in
         (omega (arith, w.1), omega (arith, w.1, w.3))
 
+    -- more than one is left where candidate j is not the first
+    pub writing_back_later : (path : List ℕ) (n j : ℕ) → 1 < n → WritingBack parent last path₀ path n j → 0 < j
+    writing_back_later path n j h w = way_later parent j (falls_to j w.0) (omega (arith, w.1))
+
     -- one more candidate is written
     pub writing_back_next : (path : List ℕ) (n j : ℕ) → 0 < j → WritingBack parent last path₀ path n j → WritingBack parent last path₀ (set path (n - 1) j) (n - 1) (parent j)
     writing_back_next path n j h w =
@@ -107,8 +111,9 @@ module _ {parent : ℕ → ℕ} {last : ℕ} (falls : Falling parent last) where
         )
 
     -- with the first candidate the whole way is written
-    pub writing_back_done : (path : List ℕ) (n j : ℕ) → j ≤ 0 → WritingBack parent last path₀ path n j → set path 0 0 ≡ onto (way_to parent last) path₀
-    writing_back_done path n j h w =
+    pub writing_back_done : (path : List ℕ) (n j : ℕ) → n ≤ 1 → WritingBack parent last path₀ path n j → set path 0 0 ≡ onto (way_to parent last) path₀
+    writing_back_done path n j m w =
+        let h = way_only parent j (falls_to j w.0) (omega (arith, w.1)) in
         let e : j ≡ 0 = omega arith in
         let s : way_to parent j ≡ [] ++ (j ∷ []) = rw e (way_first parent) in
         let z : 1 ≡ n = sym (w.1 ∙ ap length s) in

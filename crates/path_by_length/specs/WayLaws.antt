@@ -42,6 +42,16 @@ module _ (parent : ℕ → ℕ) where
   way_some zero f = rw way_first (omega arith)
   way_some (suc j) f = rw (way_length (suc j) (omega arith) f) (omega arith)
 
+  -- and more than one where its candidate is not the first
+  pub way_later : (j : ℕ) → Falling parent j → 1 < length (way_to parent j) → 0 < j
+  way_later zero f h = let e = ap length way_first in omega (arith, e)
+  way_later (suc j) f h = omega arith
+
+  -- else it is the first
+  pub way_only : (j : ℕ) → Falling parent j → length (way_to parent j) ≤ 1 → j ≤ 0
+  way_only zero f h = omega arith
+  way_only (suc j) f h = let e = way_length (suc j) (omega arith) f in absurd (omega (arith, e, way_some (parent (suc j)) (λ k u v. f k u (omega (arith, f (suc j) (omega arith) (le_refl (suc j)))))))
+
 -- ---- it looks at the parents on the way alone
 
 -- parents that agree up to j give the same way to j

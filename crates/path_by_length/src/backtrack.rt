@@ -9,8 +9,9 @@ pub fn path_len(parent: &[u32], last: usize) -> usize
     requires { Parents parent.now last }
     ensures { result ≡ length (way_to (parent_at parent.now) last) }
 {
-    let mut len: usize = 1;
+    let mut len = 1;
     let mut j = last;
+    // A step goes to a parent, so no range has the candidates on the way.
     while 0 < j {
         j = parent[j] as usize;
         len += 1;
@@ -25,10 +26,8 @@ pub fn backtrack(parent: &[u32], last: usize, len: usize, path: &mut [u32])
     requires len_in_bounds { len ≤ length path.old }
     ensures { path.new ≡ onto (way_to (parent_at parent.now) last) path.old }
 {
-    let mut n = len;
     let mut j = last;
-    while 0 < j {
-        n -= 1;
+    for n in (1..len).rev() {
         path[n] = j as u32;
         j = parent[j] as usize;
     }

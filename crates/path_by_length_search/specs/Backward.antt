@@ -1,5 +1,5 @@
 -- What the walk back from a candidate over its predecessors needs and leaves: the best of those passed, and that the rest are not below the minimum.
-use Rattle.std.specs.Prelude.{◌≡◌, Bool, false, ◌&&◌, List, ℕ, ◌≤◌, ◌<◌, T, Float, length, get_or}
+use Rattle.std.specs.Prelude.{◌≡◌, Bool, false, ◌&&◌, List, ℕ, ◌≤◌, ◌<◌, T, Float, length, get_or, Some}
 use Rattle.std.specs.Float.{nan}
 use Rattle.base_terms.specs.Floats.{nonneg}
 use Rattle.path_pieces.specs.Pieces.{no_score, piece_length, is_within, IsShort, passes_target, with_piece, arrival, score_at, less_than}
@@ -7,7 +7,7 @@ use Rattle.path_pieces.specs.Domain.{Candidates, Preferred}
 use Rattle.path_pieces.specs.declared.lengths.Lengths.{Lengths}
 use Rattle.path_pieces.specs.declared.score.Score.{Score}
 use Rattle.path_pieces.specs.declared.best.Best.{Best}
-use Rattle.path_pieces.specs.Least.{held_of, BestSoFar}
+use Rattle.path_pieces.specs.Least.{BestSoFar}
 
 -- what the search for a predecessor of candidate j reads: candidates in order, and a score for each before j, of no more pieces over the limit than there are pieces
 pub record Scored (left right over : List ℕ) (cost : List Float) (j : ℕ) : Type 0 where
@@ -25,7 +25,7 @@ pub record Costed (l : Lengths) (cost : List Float) (j : ℕ) : Type 0 where
 module _ (l : Lengths) (left right : List ℕ) where
   -- `best` is the best predecessor of candidate j among the candidates from i on whose piece is within the limit
   pub record Walked (over : List ℕ) (cost : List Float) (from j : ℕ) (best : Best) (i : ℕ) : Type 0 where
-    pub so_far : BestSoFar (is_within l.limit left right j) (arrival l left right (score_at over cost) j) from j (held_of best) i
+    pub so_far : BestSoFar (is_within l.limit left right j) (arrival l left right (score_at over cost) j) from j (Some best) i
     pub number : T (nonneg best.score.cost)
 
   -- of the candidates from..i, none has a piece to j within the limit that is below the minimum

@@ -1,6 +1,6 @@
 -- Laws of the walk back over the predecessors of a candidate: how it starts, goes on and ends. Pieces get no shorter on the way, so one that is not below
 -- the minimum is followed by no other that is.
-use Rattle.std.specs.Prelude.{◌≡◌, Bool, true, false, not, List, ℕ, ◌-◌, ◌≤◌, ◌<◌, T, Float}
+use Rattle.std.specs.Prelude.{◌≡◌, Bool, true, false, not, List, ℕ, ◌-◌, ◌≤◌, ◌<◌, T, Float, Some}
 use Rattle.std.proofs.Common.{subst, arith, T_not}
 use Rattle.std.specs.Float.Ieee.{lt, le}
 use Rattle.base_laws.specs.Tests.{same_test, holds, both}
@@ -13,7 +13,7 @@ use Rattle.path_pieces.specs.DomainLaws.{piece_bounded, piece_longer, piece_long
 use Rattle.path_pieces.specs.declared.lengths.Lengths.{Lengths}
 use Rattle.path_pieces.specs.declared.score.Score.{Score}
 use Rattle.path_pieces.specs.declared.best.Best.{Best}
-use Rattle.path_pieces.specs.Least.{or_better, held_of}
+use Rattle.path_pieces.specs.Least.{or_better, entry}
 use Rattle.path_pieces.specs.LeastLaws.{least_worse, so_far_start, so_far_next, so_far_stop, so_far_done}
 use Rattle.path_pieces.specs.PredecessorLaws.{within_yes, within_none}
 use Rattle.path_by_length_search.specs.Backward.{Scored, Costed, Walked, Long, is_beyond}
@@ -37,7 +37,7 @@ module _ {l : Lengths} {left right over : List ℕ} {cost : List Float} {j : ℕ
       piece_nonneg costed.preferred (score_at over cost k) (piece_length left right k j) (piece_bounded ok.candidates k j ok.inside) (costed.cost_nonneg k h)
 
   -- the walk starts just before j
-  pub walked_first : (from : ℕ) → from < j → piece_length left right (j - 1) j ≤ l.limit → Walked l left right over cost from j (record { score = score (j - 1); at = j - 1 }) (j - 1)
+  pub walked_first : (from : ℕ) → from < j → piece_length left right (j - 1) j ≤ l.limit → Walked l left right over cost from j (entry score (j - 1)) (j - 1)
   walked_first from h g = record {
     so_far = so_far_next test score from j _ j h (within_yes l.limit left right j (j - 1) g) (so_far_start test score from j);
     number = score-number (j - 1) (omega arith);
@@ -45,10 +45,10 @@ module _ {l : Lengths} {left right over : List ℕ} {cost : List Float} {j : ℕ
 
   module _ {from : ℕ} {best : Best} {i : ℕ} (w : Walked l left right over cost from j best i) where
     -- it goes on by one candidate
-    pub walked_next : (next : Best) → from < i → piece_length left right (i - 1) j ≤ l.limit → held_of next ≡ or_better (score (i - 1)) (i - 1) (held_of best)
+    pub walked_next : (next : Best) → from < i → piece_length left right (i - 1) j ≤ l.limit → Some next ≡ or_better (entry score (i - 1)) (Some best)
         → T (nonneg next.score.cost) → Walked l left right over cost from j next (i - 1)
     walked_next next h g e p = record {
-      so_far = rw e (so_far_next test score from j (held_of best) i h (within_yes l.limit left right j (i - 1) g) w.so_far);
+      so_far = rw e (so_far_next test score from j (Some best) i h (within_yes l.limit left right j (i - 1) g) w.so_far);
       number = p;
     }
 
@@ -58,7 +58,7 @@ module _ {l : Lengths} {left right over : List ℕ} {cost : List Float} {j : ℕ
       so_far = (
         g,
         omega arith,
-        so_far_stop test score from j (held_of best) i h
+        so_far_stop test score from j (Some best) i h
             (λ k m. within_none l.limit left right j (i - 1) ok.candidates (omega (arith, w.so_far.0, ok.inside)) o k (omega arith)) w.so_far,
       );
       number = w.number;
@@ -67,7 +67,7 @@ module _ {l : Lengths} {left right over : List ℕ} {cost : List Float} {j : ℕ
     -- or where no candidate is left
     pub walked_done : from ≤ j → i ≤ from → Walked l left right over cost from j best from
     walked_done g h = record {
-      so_far = (g, omega arith, so_far_done test score from j (held_of best) i h w.so_far);
+      so_far = (g, omega arith, so_far_done test score from j (Some best) i h w.so_far);
       number = w.number;
     }
 
@@ -82,7 +82,7 @@ module _ {l : Lengths} {left right over : List ℕ} {cost : List Float} {j : ℕ
           so_far = (
             g,
             omega arith,
-            least_worse test score from i j best.score best.at (omega arith) w.so_far.0 w.so_far.2
+            least_worse test score from i j best (omega arith) w.so_far.0 w.so_far.2
                 (λ k a m.
                 let low = piece_alone costed.preferred (score_at over cost k) len (piece_length left right k j) (costed.cost_nonneg k (omega (arith, w.so_far.0)))
                 (piece_longer ok.candidates k (i - 1) j (omega arith) (omega (arith, w.so_far.0, ok.inside)))

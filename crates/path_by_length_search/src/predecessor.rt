@@ -5,10 +5,10 @@ ghost use Rattle.path_pieces.specs.Pieces.{score_at};
 ghost use Rattle.path_by_length_search.specs.Backward.{Scored, Costed};
 
 use crate::backward;
-use crate::backward::Walk;
-use path_pieces::best::{Best, Found};
+use crate::backward::{Table, Walk};
+use path_pieces::best::Best;
+use path_pieces::ends::Ends;
 use path_pieces::lengths::Lengths;
-use path_pieces::score;
 use path_pieces::score::Score;
 
 // The best predecessor of candidate j among the candidates from..j, given each one's score.
@@ -21,40 +21,42 @@ use path_pieces::score::Score;
 pub fn best_predecessor(
     j: usize,
     from: usize,
-    left: &[u64],
-    right: &[u64],
+    ends: &Ends,
     lengths: Lengths,
     over: &[u32],
     cost: &[f64],
-) -> Found
-    requires scored { Scored left.now right.now over.now cost.now j }
+) -> Option<Best>
+    requires scored { Scored ends.now.left.now ends.now.right.now over.now cost.now j }
     requires costed { Costed lengths cost.now j }
-    ensures { result ≡ predecessor_of lengths left.now right.now
+    ensures { result ≡ predecessor_of lengths ends.now.left.now ends.now.right.now
         (score_at over.now cost.now) from j }
 {
     if j <= from {
-        return Found::Nothing;
+        return None;
     }
+    let table = Table {
+        ends: *ends,
+        lengths,
+        over,
+        cost,
+    };
     let nearest = j - 1;
     let prior = Score {
         over: over[nearest],
         cost: cost[nearest],
     };
-    let len = left[j] - right[nearest];
-    let first = score::piece_score(prior, lengths, len);
-    let limit = lengths.limit;
-    if limit < len {
-        return Found::At(first, nearest);
-    }
-    let start = Walk {
-        best: Best {
-            score: first,
-            at: nearest,
-        },
+    let len = ends.left[j] - ends.right[nearest];
+    let first = Best {
+        score: prior.with_piece(lengths, len),
         at: nearest,
     };
-    let walk = backward::short_pieces(j, from, left, right, lengths, over, cost, start);
-    let best = backward::long_parts(j, from, left, right, lengths, over, cost, walk);
-    let score = best.score;
-    Found::At(score, best.at)
+    if lengths.limit < len {
+        return Some(first);
+    }
+    let start = Walk {
+        best: first,
+        at: nearest,
+    };
+    let walk = backward::short_pieces(table, j, from, start);
+    Some(backward::long_parts(table, j, from, walk))
 }

@@ -1,5 +1,5 @@
 -- When a call gives a path: what it needs of its limit and of its own lists, where candidates, costs, preferences and mode are known to pass their tests.
-use Rattle.std.specs.Prelude.{◌≡◌, List, ℕ, ◌*◌, ◌≤◌, ◌<◌, Float, length}
+use Rattle.std.specs.Prelude.{◌≡◌, List, Ok, ℕ, ◌*◌, ◌≤◌, ◌<◌, Float, length}
 use Rattle.base_terms.specs.Limits.{max_len}
 use Rattle.base_terms.specs.Work.{Work, work_length}
 use Rattle.path_pieces.specs.declared.lengths.Lengths.{Lengths}
@@ -8,12 +8,11 @@ use Rattle.path_pieces.specs.declared.mode.Mode.TheVariants.{ByLength, ByCount}
 use Rattle.path_rules.specs.Paths.{piece_count}
 use Rattle.path_rules.specs.BestPath.{BestPathByLength}
 use Rattle.path_rules.specs.declared.solved.Solved.{Solved}
-use Rattle.path_list.specs.declared.search.Answer.{Answer}
-use Rattle.path_list.specs.declared.search.Answer.TheVariants.{Found}
+use Rattle.path_list.specs.Answer.{Answer}
 
 -- a call gives a path
 abbrev pub Gives : Answer → Type 0
-Gives answer = (s : Solved) × (answer ≡ Found s)
+Gives answer = (s : Solved) × (answer ≡ Ok s)
 
 -- its limit and its own lists are enough for it, where no other test fails
 pub record Enough (l : Lengths) (left right : List ℕ) (cost : List Float) (mode : Mode) (path : List ℕ) (work : Work) (parent : List ℕ) : Type 0 where

@@ -1,13 +1,13 @@
 -- When a call gives a path: where no test refuses it, exactly where the parent list and the output are long enough. So 12 does not come where the output has an entry for
 -- each candidate.
 use Rattle.std.proofs.Math.Path.{◌≡◌, refl}
-use Rattle.std.proofs.Common.{ap, ◌∙◌, le_of_eq, leb-true, le-leb}
-use Rattle.std.specs.Prelude.{◌↔◌, Bool, true, false, cond, List, ℕ, suc, ◌*◌, ◌≤◌, ◌<◌, leb, Float}
+use Rattle.std.proofs.Common.{ap, le_of_eq, leb-true, le-leb}
+use Rattle.std.specs.Prelude.{◌↔◌, Bool, true, false, cond, List, Result, Ok, Err, ℕ, ◌*◌, ◌≤◌, leb, Float}
 use native.Mathlib.Omega.{arith}
 use Rattle.std.proofs.Math.Nat.{le_trans}
 use Rattle.std.proofs.Math.ListN.{length}
 use Rattle.base_terms.specs.Lists.{onto}
-use Rattle.base_terms.specs.Work.{Work, work_length}
+use Rattle.base_terms.specs.Work.{Work}
 use Rattle.path_pieces.specs.Domain.{Searchable}
 use Rattle.path_pieces.specs.declared.lengths.Lengths.{Lengths}
 use Rattle.path_pieces.specs.declared.mode.Mode.{Mode}
@@ -23,12 +23,11 @@ use Rattle.path_by_count.specs.Table.{best_path_by_count, best_score_by_count}
 use Rattle.path_by_count.specs.Theorems.{count_all}
 use Rattle.path_tests.specs.Refusal.{first_refusal_of}
 use Rattle.path_tests.specs.RefusalLaws.{AcceptedLists, accepted_lists, fine_limit}
-use Rattle.path_tests.specs.declared.refusal.Verdict.{Verdict}
-use Rattle.path_tests.specs.declared.refusal.Verdict.TheVariants.{Fine, Fails}
-use Rattle.path_list.specs.declared.search.Answer.TheVariants.{Found, ShortParent, ShortPath}
-use Rattle.path_list.specs.Operation.{Outcome, outcome_of, handed_out_of, handed_by_count, sought_of, end_after, path_of}
+use Rattle.path_tests.specs.declared.refusal.Refusal.{Refusal}
+use Rattle.path_list.specs.declared.search.Error.TheVariants.{ShortParent, ShortPath}
+use Rattle.path_list.specs.Operation.{outcome_of, handed_out_of, handed_by_count, sought_of, end_after, path_of}
 use Rattle.path_list.specs.Gives.{Gives, Enough}
-use Rattle.path_list.specs.Theorems.{Searched, searched}
+use Rattle.path_list.specs.Theorems.{searched}
 
 -- ---- a path that is handed out
 
@@ -41,7 +40,7 @@ handed_gives way score path = (
 )
   where
     go : (b : Bool) → (b ≡ true → length way ≤ length path) → (s : Solved)
-        → (cond b (outcome_of (Found (record { score = score; len = length way })) (onto way path)) (outcome_of ShortPath path)).answer ≡ Found s
+        → (cond b (outcome_of (Ok (record { score = score; len = length way })) (onto way path)) (outcome_of (Err ShortPath) path)).answer ≡ Ok s
         → length way ≤ length path
     go true h s q = h refl
     go false h s q = let z : ◌≡◌ {A = ℕ} 0 1 = cc in absurd (omega arith)
@@ -58,7 +57,7 @@ sought_gives l left right cost count parents path = (
 )
   where
     go : (b : Bool) → (b ≡ true → piece_count left count * length left ≤ parents) → (s : Solved)
-        → (cond b (handed_by_count l left right cost count path) (outcome_of ShortParent path)).answer ≡ Found s
+        → (cond b (handed_by_count l left right cost count path) (outcome_of (Err ShortParent) path)).answer ≡ Ok s
         → (piece_count left count * length left ≤ parents) × (length (best_path_by_count l left right cost count) ≤ length path)
     go true h s q = (h refl, (handed_gives (best_path_by_count l left right cost count) (best_score_by_count l left right cost count) path).0 (s, q))
     go false h s q = let z : ◌≡◌ {A = ℕ} 0 1 = cc in absurd (omega arith)
@@ -101,7 +100,7 @@ module _ (l : Lengths) (left right : List ℕ) (cost : List Float) (path : List 
       }
 
   -- and where no test refuses it and it has enough, it gives one
-  pub enough_gives : (mode : Mode) → first_refusal_of left right cost l mode (length work.u32s) (length work.u64s) (length work.f64s) ≡ Fine
+  pub enough_gives : (mode : Mode) → first_refusal_of left right cost l mode (length work.u32s) (length work.u64s) (length work.f64s) ≡ Ok tt
       → Enough l left right cost mode path work parent → Gives (path_of l left right cost mode path work parent).answer
   unfolding path_of sought_of
   enough_gives ByLength f enough =
@@ -120,14 +119,14 @@ module _ (l : Lengths) (left right : List ℕ) (cost : List Float) (path : List 
 
 module _ (l : Lengths) (left right : List ℕ) (cost : List Float) (path : List ℕ) (whole : length left ≤ length path) where
   -- a path that fits is not 12
-  fits_not_short : (way : List ℕ) (score : Score) → length way ≤ length left → (handed_out_of way score path).answer ≡ ShortPath → ⊥
+  fits_not_short : (way : List ℕ) (score : Score) → length way ≤ length left → (handed_out_of way score path).answer ≡ Err ShortPath → ⊥
   fits_not_short way score few e =
       let (s, f) = (handed_gives way score path).1 (le_trans few whole) in
       let z : ◌≡◌ {A = ℕ} 0 1 = cc in
       omega arith
 
   sought_not_short : (mode : Mode) (n32 n64 nf parents : ℕ) → AcceptedLists left right cost l mode n32 n64 nf
-      → (sought_of l left right cost mode parents path).answer ≡ ShortPath → ⊥
+      → (sought_of l left right cost mode parents path).answer ≡ Err ShortPath → ⊥
   unfolding sought_of
   sought_not_short ByLength n32 n64 nf parents ok e =
       fits_not_short (best_path l left right cost) (best_score l left right cost (last_candidate left))
@@ -140,18 +139,18 @@ module _ (l : Lengths) (left right : List ℕ) (cost : List Float) (path : List 
           candidates_few (AllowedByCount l.limit left right) (λ i j a. a.0) left (best_path_by_count l left right cost count) ok.domain.candidates.some
           (count_all ok.domain count (ok.counted count refl).0).allowed.0
 
-      go : (b : Bool) → (cond b (handed_by_count l left right cost count path) (outcome_of ShortParent path)).answer ≡ ShortPath → ⊥
+      go : (b : Bool) → (cond b (handed_by_count l left right cost count path) (outcome_of (Err ShortParent) path)).answer ≡ Err ShortPath → ⊥
       go true q = fits_not_short (best_path_by_count l left right cost count) (best_score_by_count l left right cost count) few q
       go false q = let z : ◌≡◌ {A = ℕ} 0 1 = cc in omega arith
 
   -- 12 does not come
-  pub never_short : (mode : Mode) (work : Work) (parent : List ℕ) → (path_of l left right cost mode path work parent).answer ≡ ShortPath → ⊥
+  pub never_short : (mode : Mode) (work : Work) (parent : List ℕ) → (path_of l left right cost mode path work parent).answer ≡ Err ShortPath → ⊥
   unfolding path_of
   never_short mode work parent e =
       go (first_refusal_of left right cost l mode (length work.u32s) (length work.u64s) (length work.f64s))
       (accepted_lists left right cost l mode (length work.u32s) (length work.u64s) (length work.f64s)) e
     where
-      go : (v : Verdict) → (v ≡ Fine → AcceptedLists left right cost l mode (length work.u32s) (length work.u64s) (length work.f64s))
-          → (end_after v (sought_of l left right cost mode (length parent) path) path work parent).answer ≡ ShortPath → ⊥
-      go Fine ok q = sought_not_short mode (length work.u32s) (length work.u64s) (length work.f64s) (length parent) (ok refl) q
-      go (Fails r) ok q = let z : ◌≡◌ {A = ℕ} 0 1 = cc in omega arith
+      go : (v : Result Unit Refusal) → (v ≡ Ok tt → AcceptedLists left right cost l mode (length work.u32s) (length work.u64s) (length work.f64s))
+          → (end_after v (sought_of l left right cost mode (length parent) path) path work parent).answer ≡ Err ShortPath → ⊥
+      go (Ok tt) ok q = sought_not_short mode (length work.u32s) (length work.u64s) (length work.f64s) (length parent) (ok refl) q
+      go (Err r) ok q = let z : ◌≡◌ {A = ℕ} 0 1 = cc in omega arith

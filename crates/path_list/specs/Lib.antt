@@ -1,4 +1,5 @@
 -- The operation "path over lent candidates", on all input, and what its answer means.
+pub mod Answer
 pub mod Operation
 pub mod OperationLaws
 pub mod Search

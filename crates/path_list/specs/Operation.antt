@@ -1,5 +1,5 @@
 -- Document 01's operation "path over lent candidates": what a call leaves, on all input.
-use Rattle.std.specs.Prelude.{cond, List, ℕ, ◌*◌, leb, Float, length}
+use Rattle.std.specs.Prelude.{cond, List, Result, Ok, Err, ℕ, ◌*◌, leb, Float, length}
 use Rattle.base_terms.specs.Lists.{filled, onto}
 use Rattle.base_terms.specs.Work.{Work, cleared}
 use Rattle.path_pieces.specs.declared.lengths.Lengths.{Lengths}
@@ -11,17 +11,21 @@ use Rattle.path_by_length.specs.Table.{best_score, best_path}
 use Rattle.path_by_count.specs.Table.{best_path_by_count, best_score_by_count}
 use Rattle.path_tests.specs.Refusal.{first_refusal_of}
 use Rattle.path_tests.specs.Refusal as tests
-use Rattle.path_tests.specs.declared.refusal.Verdict.{Verdict}
-use Rattle.path_tests.specs.declared.refusal.Verdict.TheVariants.{Fine, Fails}
-use Rattle.path_list.specs.declared.search.Answer.{Answer}
-use Rattle.path_list.specs.declared.search.Answer.TheVariants.{Found, Refused, ShortParent, ShortPath}
+use Rattle.path_tests.specs.declared.refusal.Refusal.{Refusal}
+use Rattle.path_list.specs.Answer.{Answer}
+use Rattle.path_list.specs.declared.search.Error.{Error}
+use Rattle.path_list.specs.declared.search.Error.TheVariants.{Refused, ShortParent, ShortPath}
+
+-- document 01's number for each case that gives no path
+abbrev pub error_number : Error → ℕ
+error_number (Refused r) = tests.number_of r
+error_number ShortParent = 14
+error_number ShortPath = 12
 
 -- document 01's number for each case of the answer; 0 where a path was found
 abbrev pub number_of : Answer → ℕ
-number_of (Found s) = 0
-number_of (Refused r) = tests.number_of r
-number_of ShortParent = 14
-number_of ShortPath = 12
+number_of (Ok s) = 0
+number_of (Err e) = error_number e
 
 -- ---- the search
 
@@ -38,8 +42,8 @@ outcome_of answer path = record { answer = answer; path = path }
 unfoldable pub handed_out_of : List ℕ → Score → List ℕ → Outcome
 handed_out_of way score path =
     cond (leb (length way) (length path))
-    (outcome_of (Found (record { score = score; len = length way })) (onto way path))
-    (outcome_of ShortPath path)
+    (outcome_of (Ok (record { score = score; len = length way })) (onto way path))
+    (outcome_of (Err ShortPath) path)
 
 -- by length, document 01's best path
 abbrev pub handed_by_length : Lengths → List ℕ → List ℕ → List Float → List ℕ → Outcome
@@ -53,7 +57,7 @@ handed_by_count l left right cost count path = handed_out_of (best_path_by_count
 unfoldable pub sought_of : Lengths → List ℕ → List ℕ → List Float → Mode → ℕ → List ℕ → Outcome
 sought_of l left right cost ByLength parents path = handed_by_length l left right cost path
 sought_of l left right cost (ByCount count) parents path =
-    cond (leb (piece_count left count * length left) parents) (handed_by_count l left right cost count path) (outcome_of ShortParent path)
+    cond (leb (piece_count left count * length left) parents) (handed_by_count l left right cost count path) (outcome_of (Err ShortParent) path)
 
 -- ---- the operation
 
@@ -69,9 +73,9 @@ abbrev pub end_of : Answer → List ℕ → Work → List ℕ → End
 end_of answer path work parent = record { answer = answer; path = path; work = work; parent = parent }
 
 -- a refusal up to 13 leaves every list as it was; else work memory is zeroed whole, whatever the search gave
-abbrev pub end_after : Verdict → Outcome → List ℕ → Work → List ℕ → End
-end_after Fine sought path work parent = end_of sought.answer sought.path (cleared work) (filled 0 parent)
-end_after (Fails r) sought path work parent = end_of (Refused r) path work parent
+abbrev pub end_after : Result Unit Refusal → Outcome → List ℕ → Work → List ℕ → End
+end_after (Ok tt) sought path work parent = end_of sought.answer sought.path (cleared work) (filled 0 parent)
+end_after (Err r) sought path work parent = end_of (Err (Refused r)) path work parent
 
 -- document 01's operation "path over lent candidates": its tests, and then the search
 unfoldable pub path_of : Lengths → List ℕ → List ℕ → List Float → Mode → List ℕ → Work → List ℕ → End

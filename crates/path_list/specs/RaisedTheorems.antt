@@ -15,9 +15,8 @@ use Rattle.path_pieces.specs.declared.mode.Mode.TheVariants.{ByLength, ByCount}
 use Rattle.path_rules.specs.Paths.{Allowed}
 use Rattle.path_rules.specs.PathsLaws.{candidates_few}
 use Rattle.path_rules.specs.RaisedLaws.{best_raised, best_raised_by_count}
-use Rattle.path_rules.specs.declared.solved.Solved.{Solved}
 use Rattle.path_tests.specs.RefusalLaws.{fine_any_limit}
-use Rattle.path_list.specs.declared.search.Answer.{Answer}
+use Rattle.path_list.specs.Answer.{Answer}
 use Rattle.path_list.specs.Operation.{path_of}
 use Rattle.path_list.specs.Gives.{Gives, Enough}
 use Rattle.path_list.specs.GivesLaws.{gives_enough, enough_gives}

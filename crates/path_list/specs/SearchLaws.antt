@@ -1,5 +1,5 @@
 -- The costs copied into work memory stand where the search reads them, and each end of the search is what its definition gives.
-use Rattle.std.specs.Prelude.{◌≡◌, List, ◌++◌, ℕ, ◌+◌, ◌-◌, ◌*◌, ◌≤◌, ◌<◌, Float, take, drop}
+use Rattle.std.specs.Prelude.{◌≡◌, List, Ok, Err, ◌++◌, ℕ, ◌+◌, ◌-◌, ◌*◌, ◌≤◌, ◌<◌, Float, take, drop}
 use Rattle.std.proofs.Math.Path.{refl}
 use Rattle.std.proofs.Common.{mul-le-mul, arith, le-leb, length-append, length-take, length-drop, length-take-le, take_at, drop_at}
 use Rattle.std.proofs.lemmas.Bool.{lt-leb}
@@ -18,7 +18,7 @@ use Rattle.path_rules.specs.declared.solved.Solved.{Solved}
 use Rattle.path_by_count_rows.specs.Rows.{behind}
 use Rattle.path_by_count.specs.Counted as counted
 use Rattle.path_tests.specs.RefusalLaws.{AcceptedLists}
-use Rattle.path_list.specs.declared.search.Answer.TheVariants.{Found, ShortParent, ShortPath}
+use Rattle.path_list.specs.declared.search.Error.TheVariants.{ShortParent, ShortPath}
 use Rattle.path_list.specs.Operation.{outcome_of, handed_out_of, handed_by_length, handed_by_count, sought_of}
 use Rattle.path_list.specs.Search.{Workable}
 
@@ -83,13 +83,13 @@ workable r = record { domain = r.domain; counted = λ count e. (r.counted count 
 -- ---- the search's ends
 
 -- no room for the path
-pub handed-short : (way : List ℕ) (score : Score) (path : List ℕ) → length path < length way → outcome_of ShortPath path ≡ handed_out_of way score path
+pub handed-short : (way : List ℕ) (score : Score) (path : List ℕ) → length path < length way → outcome_of (Err ShortPath) path ≡ handed_out_of way score path
 unfolding handed_out_of
 handed-short way score path h = rw (lt-leb (length way) (length path) h)
 
 -- the path is handed out
 pub handed-found : (way : List ℕ) (score : Score) (path path' : List ℕ) (s : Solved) → length way ≤ length path → s.score ≡ score → s.len ≡ length way
-    → path' ≡ onto way path → outcome_of (Found s) path' ≡ handed_out_of way score path
+    → path' ≡ onto way path → outcome_of (Ok s) path' ≡ handed_out_of way score path
 unfolding handed_out_of
 handed-found way score path path' s h e f g = rw (le-leb (length way) (length path) h, ← e, ← f, g)
 
@@ -102,7 +102,7 @@ module _ (l : Lengths) (left right : List ℕ) (cost : List Float) where
 
   -- 14
   pub sought-short : (count parents : ℕ) (path : List ℕ) → parents < piece_count left count * length left
-      → outcome_of ShortParent path ≡ sought_of l left right cost (ByCount count) parents path
+      → outcome_of (Err ShortParent) path ≡ sought_of l left right cost (ByCount count) parents path
   unfolding sought_of
   sought-short count parents path h = rw (lt-leb (piece_count left count * length left) parents h)
 

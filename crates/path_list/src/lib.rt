@@ -3,6 +3,5 @@
 // path.
 #![tactic(auto)]
 
-pub mod copy;
 pub mod operation;
 pub mod search;

@@ -1,5 +1,5 @@
 -- Laws of the lowest least: how it goes from a range to a longer one, that it looks at nothing outside its range, and that it is what its name says.
-use Rattle.std.specs.Prelude.{◌≡◌, ◌⊎◌, Bool, not, T}
+use Rattle.std.specs.Prelude.{◌≡◌, ◌⊎◌, Bool, not, T, Option, Some, None}
 use Rattle.std.proofs.Math.Path.{refl}
 use Rattle.std.proofs.Common.{sym, ap, subst, ◌∙◌, le_refl, T_not}
 use Rattle.std.proofs.Math.Logic.{inl, inr}
@@ -13,15 +13,13 @@ use Rattle.path_pieces.specs.Pieces.{at_most, less_than}
 use Rattle.path_pieces.specs.DomainLaws.{at_most_refl, at_most_trans, at_most-total, less_than_is}
 use Rattle.path_pieces.specs.declared.score.Score.{Score}
 use Rattle.path_pieces.specs.declared.best.Best.{Best}
-use Rattle.path_pieces.specs.declared.best.Found.{Found}
-use Rattle.path_pieces.specs.declared.best.Found.TheVariants.{At, Nothing}
-use Rattle.path_pieces.specs.Least.{held_of, found_score, found_index, or_better, lowest_least, LowestLeast, Answers, BestSoFar}
+use Rattle.path_pieces.specs.Least.{found_score, found_index, or_better, entry, lowest_least, LowestLeast, Answers, BestSoFar}
 
 -- ---- from a range to a longer one
 
 module _ (test : ℕ → Bool) (score : ℕ → Score) where
   -- the range is empty
-  pub least_none : (i : ℕ) → Nothing ≡ lowest_least test score i (i - i)
+  pub least_none : (i : ℕ) → None ≡ lowest_least test score i (i - i)
   unfolding lowest_least
   least_none i = let e : i - i ≡ 0 = omega arith in rw e
 
@@ -30,7 +28,7 @@ module _ (test : ℕ → Bool) (score : ℕ → Score) where
 
   -- one candidate more in front, which passes
   pub least_front : (i j : ℕ) → i < j → T (test i)
-      → lowest_least test score i (j - i) ≡ or_better (score i) i (lowest_least test score (suc i) (j - suc i))
+      → lowest_least test score i (j - i) ≡ or_better (entry score i) (lowest_least test score (suc i) (j - suc i))
   unfolding lowest_least
   least_front i j h t =
       let after = lowest_least test score (suc i) (j - suc i) in
@@ -56,40 +54,40 @@ module _ (test : ℕ → Bool) (score : ℕ → Score) where
           ∙ go d (suc from) (omega arith) (λ k a b. fails k (omega arith) b)
 
   -- any number of candidates in front that are worse than what was found
-  pub least_worse : (from i j : ℕ) (s : Score) (b : ℕ) → from ≤ i → i ≤ j → At s b ≡ lowest_least test score i (j - i)
-      → ((k : ℕ) → from ≤ k → k < i → T (not (at_most (score k) s))) → At s b ≡ lowest_least test score from (j - from)
-  least_worse from i j s b h g found worse = go (i - from) from (omega arith) worse
+  pub least_worse : (from i j : ℕ) (b : Best) → from ≤ i → i ≤ j → Some b ≡ lowest_least test score i (j - i)
+      → ((k : ℕ) → from ≤ k → k < i → T (not (at_most (score k) b.score))) → Some b ≡ lowest_least test score from (j - from)
+  least_worse from i j b h g found worse = go (i - from) from (omega arith) worse
     where
-      go : (d from : ℕ) → from + d ≡ i → ((k : ℕ) → from ≤ k → k < i → T (not (at_most (score k) s))) → At s b ≡ lowest_least test score from (j - from)
+      go : (d from : ℕ) → from + d ≡ i → ((k : ℕ) → from ≤ k → k < i → T (not (at_most (score k) b.score))) → Some b ≡ lowest_least test score from (j - from)
       go zero from e worse = let q : from ≡ i = omega arith in rw q found
       go (suc d) from e worse =
           let after = go d (suc from) (omega arith) (λ k a l. worse k (omega arith) l) in
           elim (passes (test from)) [
             | inl t ↦
-                sym (least_front from j (omega arith) t ∙ rw (← after, is_false (at_most (score from) s) (worse from (le_refl from) (omega arith))))
+                sym (least_front from j (omega arith) t ∙ rw (← after, is_false (at_most (score from) b.score) (worse from (le_refl from) (omega arith))))
             | inr t ↦ after ∙ sym (least_past from j (omega arith) t)
           ]
 
 -- nothing is found only where none passes
-never : (f : Found) (s : Score) (i : ℕ) → or_better s i f ≡ Nothing → ⊥
-never Nothing s i e = let z : ◌≡◌ {A = ℕ} 0 1 = cc in omega arith
-never (At t k) s i e = elim (tested (at_most s t)) [
-  | inl b ↦ let z : ◌≡◌ {A = ℕ} 0 1 = cc (rw b at e) in omega arith
-  | inr b ↦ let z : ◌≡◌ {A = ℕ} 0 1 = cc (rw b at e) in omega arith
+never : (f : Option Best) (a : Best) → or_better a f ≡ None → ⊥
+never None a e = let z : ◌≡◌ {A = ℕ} 0 1 = cc in omega arith
+never (Some b) a e = elim (tested (at_most a.score b.score)) [
+  | inl t ↦ let z : ◌≡◌ {A = ℕ} 0 1 = cc (rw t at e) in omega arith
+  | inr t ↦ let z : ◌≡◌ {A = ℕ} 0 1 = cc (rw t at e) in omega arith
 ]
 
 -- where nothing is found, no candidate passes
-pub least_nothing : (test : ℕ → Bool) (score : ℕ → Score) (from j : ℕ) → lowest_least test score from (j - from) ≡ Nothing
+pub least_nothing : (test : ℕ → Bool) (score : ℕ → Score) (from j : ℕ) → lowest_least test score from (j - from) ≡ None
     → (k : ℕ) → from ≤ k → k < j → T (not (test k))
 unfolding lowest_least
 least_nothing test score from j e k h g = go (j - from) from e h (omega arith)
   where
-    go : (n from : ℕ) → lowest_least test score from n ≡ Nothing → from ≤ k → k < from + n → T (not (test k))
+    go : (n from : ℕ) → lowest_least test score from n ≡ None → from ≤ k → k < from + n → T (not (test k))
     go zero from e h g = absurd (omega arith)
     go (suc n) from e h g =
         let after = lowest_least test score (suc from) n in
         elim (passes (test from)) [
-          | inl t ↦ absurd (never after (score from) from (rw (is_true (test from) t) at e))
+          | inl t ↦ absurd (never after (entry score from) (rw (is_true (test from) t) at e))
           | inr t ↦ elim (lt_or_le from k) [
             | inl l ↦ go n (suc from) (rw (is_false (test from) t) at e) l (omega arith)
             | inr m ↦ let q : from ≡ k = omega arith in subst (λ (i : ℕ). T (not (test i))) q t
@@ -100,24 +98,24 @@ least_nothing test score from j e k h g = go (j - from) from e h (omega arith)
 
 module _ (test : ℕ → Bool) (score : ℕ → Score) (from j : ℕ) where
   -- no candidate yet
-  pub so_far_start : BestSoFar test score from j Nothing j
+  pub so_far_start : BestSoFar test score from j None j
   so_far_start = (le_refl j, omega arith, least_none test score j)
 
   -- the candidate before i passes
-  pub so_far_next : (best : Found) (i : ℕ) → from < i → T (test (i - 1)) → BestSoFar test score from j best i
-      → BestSoFar test score from j (or_better (score (i - 1)) (i - 1) best) (i - 1)
+  pub so_far_next : (best : Option Best) (i : ℕ) → from < i → T (test (i - 1)) → BestSoFar test score from j best i
+      → BestSoFar test score from j (or_better (entry score (i - 1)) best) (i - 1)
   so_far_next best i h t (a, b, e) =
       let s : suc (i - 1) ≡ i = omega arith in
       (omega arith, omega arith, rw e (sym (rw s at (least_front test score (i - 1) j (omega arith) t))))
 
   -- no candidate before i passes
-  pub so_far_stop : (best : Found) (i : ℕ) → from < i → ((k : ℕ) → k < i → T (not (test k))) → BestSoFar test score from j best i
+  pub so_far_stop : (best : Option Best) (i : ℕ) → from < i → ((k : ℕ) → k < i → T (not (test k))) → BestSoFar test score from j best i
       → best ≡ lowest_least test score from (j - from)
   so_far_stop best i h fails (a, b, e) =
       e ∙ sym (least_skip test score from i j (omega arith) a (λ k g l. fails k l))
 
   -- no candidate is left
-  pub so_far_done : (best : Found) (i : ℕ) → i ≤ from → BestSoFar test score from j best i → best ≡ lowest_least test score from (j - from)
+  pub so_far_done : (best : Option Best) (i : ℕ) → i ≤ from → BestSoFar test score from j best i → best ≡ lowest_least test score from (j - from)
   unfolding lowest_least
   so_far_done best i h (a, b, e) =
       let empty : (i : ℕ) → lowest_least test score i 0 ≡ lowest_least test score from 0 = λ i. refl in
@@ -151,9 +149,9 @@ module _ (test : ℕ → Bool) (score : ℕ → Score) (to : ℕ) where
   from_or_after from k h = elim (lt_or_le from k) [ inl l ↦ inr l | inr g ↦ inl (omega arith) ]
 
   -- a candidate in front that does not pass changes nothing
-  past : (from : ℕ) (f : Found) → T (not (test from)) → Answers test score (suc from) to f → Answers test score from to f
-  past from Nothing t a = λ k h g. elim (from_or_after from k h) [ inl e ↦ subst (λ (n : ℕ). T (not (test n))) e t | inr l ↦ a k l g ]
-  past from (At s i) t (e, a) = (
+  past : (from : ℕ) (f : Option Best) → T (not (test from)) → Answers test score (suc from) to f → Answers test score from to f
+  past from None t a = λ k h g. elim (from_or_after from k h) [ inl e ↦ subst (λ (n : ℕ). T (not (test n))) e t | inr l ↦ a k l g ]
+  past from (Some b) t (e, a) = (
     e,
     record {
       low = omega arith;
@@ -210,13 +208,13 @@ module _ (test : ℕ → Bool) (score : ℕ → Score) (to : ℕ) where
           ];
         }
 
-    front : (from : ℕ) (f : Found) → from < to → T (test from) → Answers test score (suc from) to f
-        → Answers test score from to (or_better (score from) from f)
-    front from Nothing h t a = (refl, front-best from h t (λ k g l u. absurd (T_not (test k) (a k g l) u)))
-    front from (At s i) h t (e, a) = elim (passes (at_most (score from) s)) [
-      | inl y ↦ rw (is_true (at_most (score from) s) y)
-          (refl, front-best from h t (λ k g l u. at_most_trans (score from) (score i) (score k) (rw e at y) (a.least k g l u)))
-      | inr n ↦ rw (is_false (at_most (score from) s) n) (e, after-best from i h t (rw e at n) a)
+    front : (from : ℕ) (f : Option Best) → from < to → T (test from) → Answers test score (suc from) to f
+        → Answers test score from to (or_better (entry score from) f)
+    front from None h t a = (refl, front-best from h t (λ k g l u. absurd (T_not (test k) (a k g l) u)))
+    front from (Some b) h t (e, a) = elim (passes (at_most (score from) b.score)) [
+      | inl y ↦ rw (is_true (at_most (score from) b.score) y)
+          (refl, front-best from h t (λ k g l u. at_most_trans (score from) (score b.at) (score k) (rw e at y) (a.least k g l u)))
+      | inr n ↦ rw (is_false (at_most (score from) b.score) n) (e, after-best from b.at h t (rw e at n) a)
     ]
 
     -- the definition gives the lowest candidate of the least score, and nothing only where none passes
@@ -235,10 +233,10 @@ module _ (test : ℕ → Bool) (score : ℕ → Score) (to : ℕ) where
             ]
 
 -- what is found where some candidate passes
-pub least_settled : (test : ℕ → Bool) (score : ℕ → Score) (from to i : ℕ) (f : Found) → from ≤ i → i < to → T (test i) → Answers test score from to f
+pub least_settled : (test : ℕ → Bool) (score : ℕ → Score) (from to i : ℕ) (f : Option Best) → from ≤ i → i < to → T (test i) → Answers test score from to f
     → (found_score f ≡ score (found_index f)) × LowestLeast test score from to (found_index f)
-least_settled test score from to i Nothing g h t a = absurd (T_not (test i) (a i g h) t)
-least_settled test score from to i (At s k) g h t a = a
+least_settled test score from to i None g h t a = absurd (T_not (test i) (a i g h) t)
+least_settled test score from to i (Some b) g h t a = a
 
 -- ---- there is one only
 
@@ -274,13 +272,13 @@ lowest_same {test} {score} {score'} {from} {to} {i} up down c = record {
 
 -- so a candidate that is the lowest least is what the definition finds
 pub least_only : (test : ℕ → Bool) (score : ℕ → Score) (from to : ℕ) (b : Best) → ((k : ℕ) → k < to → T (test k) → T (nonneg (score k).cost))
-    → Answers test score from to (held_of b) → held_of b ≡ lowest_least test score from (to - from)
+    → Answers test score from to (Some b) → Some b ≡ lowest_least test score from (to - from)
 least_only test score from to b fine a =
     let h : from ≤ to = omega (arith, a.1.low, a.1.high) in
     go (lowest_least test score from (to - from)) (least_answers test score to fine from h)
   where
-    go : (f : Found) → Answers test score from to f → held_of b ≡ f
-    go Nothing none = absurd (T_not (test b.at) (none b.at a.1.low a.1.high) a.1.passed)
-    go (At s i) (e, c) =
-        let q : b.at ≡ i = lowest_unique b.at i (fine b.at a.1.high a.1.passed) (fine i c.high c.passed) a.1 c in
-        ap (λ (x : Score). At x b.at) (a.0 ∙ ap score q ∙ sym e) ∙ ap (λ (k : ℕ). At s k) q
+    go : (f : Option Best) → Answers test score from to f → Some b ≡ f
+    go None none = absurd (T_not (test b.at) (none b.at a.1.low a.1.high) a.1.passed)
+    go (Some d) (e, c) =
+        let q : b.at ≡ d.at = lowest_unique b.at d.at (fine b.at a.1.high a.1.passed) (fine d.at c.high c.passed) a.1 c in
+        ap (λ (x : Score). Some (record { score = x; at = b.at })) (a.0 ∙ ap score q ∙ sym e) ∙ ap (λ (k : ℕ). Some (record { score = d.score; at = k })) q

@@ -7,3 +7,4 @@ pub mod DomainLaws
 pub mod Least
 pub mod LeastLaws
 pub mod PredecessorLaws
+pub mod OrderLaws

@@ -1,5 +1,5 @@
 -- Laws of the best predecessor: walking back within the limit finds it, or else it is the candidate just before.
-use Rattle.std.specs.Prelude.{◌≡◌, refl, not, ◌||◌, List, T, eqb, length}
+use Rattle.std.specs.Prelude.{◌≡◌, refl, not, ◌||◌, List, T, eqb, length, Option, Some, None}
 use Rattle.std.proofs.Common.{ap, subst, ◌∙◌, le_trans, not-le_of_lt, T_not, le→leb, leb→le}
 use Rattle.std.proofs.Math.Logic.{inl, inr}
 use Prim.Native.Nat.{ℕ, suc, ◌-◌, ◌≤◌, ◌<◌}
@@ -12,9 +12,8 @@ use Rattle.path_pieces.specs.DomainLaws.{piece_longer, piece_bounded, piece_nonn
 use Rattle.base_laws.specs.Tests.{same_test, or_l, or_r, or_split}
 use Rattle.path_pieces.specs.declared.lengths.Lengths.{Lengths}
 use Rattle.path_pieces.specs.declared.score.Score.{Score}
-use Rattle.path_pieces.specs.declared.best.Found.{Found}
-use Rattle.path_pieces.specs.declared.best.Found.TheVariants.{At, Nothing}
-use Rattle.path_pieces.specs.Least.{found_score, found_index, lowest_least, LowestLeast, predecessor_of}
+use Rattle.path_pieces.specs.declared.best.Best.{Best}
+use Rattle.path_pieces.specs.Least.{found_score, found_index, entry, lowest_least, LowestLeast, predecessor_of}
 use Rattle.path_pieces.specs.LeastLaws.{least_none, least_front, least_skip, least_same, least_answers, least_settled}
 
 -- ---- which pieces are within the limit
@@ -59,7 +58,7 @@ start_none limit left right j i n h = not_T (is_within limit left right j i || e
 
 module _ (l : Lengths) (left right : List ℕ) (own : ℕ → Score) (from j : ℕ) (ok : Candidates left right) (in_List : j < length left) where
   -- the best of the candidates from..j whose piece is within the limit
-  abbrev found_within : Found
+  abbrev found_within : Option Best
   found_within = lowest_least (is_within l.limit left right j) (arrival l left right own j) from (j - from)
 
   -- with the piece from the candidate just before j within the limit, the rule allows just the pieces within the limit
@@ -80,7 +79,7 @@ module _ (l : Lengths) (left right : List ℕ) (own : ℕ → Score) (from j : �
 
   -- with that piece too long, it is the only one
   pub predecessor_nearest : from < j → l.limit < piece_length left right (j - 1) j
-      → predecessor_of l left right own from j ≡ At (arrival l left right own j (j - 1)) (j - 1)
+      → predecessor_of l left right own from j ≡ Some (entry (arrival l left right own j) (j - 1))
   unfolding predecessor_of may_start
   predecessor_nearest h g =
       let test = may_start l.limit left right j in
@@ -92,7 +91,7 @@ module _ (l : Lengths) (left right : List ℕ) (own : ℕ → Score) (from j : �
       ∙ rw (s, ← least_none test score j)
 
   -- where there is no candidate, nothing is
-  pub predecessor_nothing : j ≤ from → Nothing ≡ predecessor_of l left right own from j
+  pub predecessor_nothing : j ≤ from → None ≡ predecessor_of l left right own from j
   unfolding predecessor_of lowest_least
   predecessor_nothing h = let z : j - from ≡ 0 = omega arith in rw z
 

@@ -15,54 +15,53 @@ pub struct Lengths {
     pub weights: Weights,
 }
 
-// What a piece of this length costs.
-pub fn length_cost(lengths: Lengths, len: u64) -> f64
-    requires { len ≤ max_len }
-    ensures { result ≡ length_cost_of lengths len }
-{
-    let len = len as f64;
-    let off = (len - lengths.target) / lengths.target;
-    let cost = lengths.weights.target * off * off;
-    if len < lengths.min {
-        cost + lengths.weights.short * (lengths.min - len) / lengths.min
-    } else {
-        cost
+impl Lengths {
+    // What a piece of this length costs.
+    pub fn cost(self, len: u64) -> f64
+        requires { len ≤ max_len }
+        ensures { result ≡ length_cost_of self len }
+    {
+        let len = len as f64;
+        let off = (len - self.target) / self.target;
+        let cost = self.weights.target * off * off;
+        if len < self.min {
+            cost + self.weights.short * (self.min - len) / self.min
+        } else {
+            cost
+        }
     }
-}
 
-// Whether a piece of this length is below the minimum.
-pub fn is_short(lengths: Lengths, len: u64) -> bool
-    requires { len ≤ max_len }
-    ensures { result ≡ IsShort lengths len }
-{
-    let len = len as f64;
-    len < lengths.min
-}
+    // Whether a piece of this length is below the minimum.
+    pub fn is_short(self, len: u64) -> bool
+        requires { len ≤ max_len }
+        ensures { result ≡ IsShort self len }
+    {
+        (len as f64) < self.min
+    }
 
-// Whether a piece of this length is longer than the target.
-pub fn passes_target(lengths: Lengths, len: u64) -> bool
-    requires { len ≤ max_len }
-    ensures { result ≡ passes_target lengths len }
-{
-    let len = len as f64;
-    lengths.target < len
-}
+    // Whether a piece of this length is longer than the target.
+    pub fn passes_target(self, len: u64) -> bool
+        requires { len ≤ max_len }
+        ensures { result ≡ passes_target self len }
+    {
+        self.target < len as f64
+    }
 
-// What a piece that is not below the minimum costs: one division, where `length_cost` may be compiled to make both of
-// its own for every piece.
-pub fn long_cost(lengths: Lengths, len: u64) -> f64
-    requires len_le_max_len { len ≤ max_len }
-    requires not_short { IsShort lengths len ≡ false }
-    ensures { result ≡ length_cost_of lengths len }
-{
-    let len = len as f64;
-    let off = (len - lengths.target) / lengths.target;
-    lengths.weights.target * off * off
-}
+    // What a piece that is not below the minimum costs: one division, where `cost` may be compiled to make both of its
+    // own for every piece.
+    pub fn long_cost(self, len: u64) -> f64
+        requires len_le_max_len { len ≤ max_len }
+        requires not_short { IsShort self len ≡ false }
+        ensures { result ≡ length_cost_of self len }
+    {
+        let off = (len as f64 - self.target) / self.target;
+        self.weights.target * off * off
+    }
 
-// 1 for a piece that is longer than the limit, else 0.
-pub fn is_over(len: u64, limit: u64) -> u32
-    ensures { result ≡ over_of limit len }
-{
-    if limit < len { 1 } else { 0 }
+    // 1 for a piece that is longer than the limit, else 0.
+    pub fn over(self, len: u64) -> u32
+        ensures { result ≡ over_of self.limit len }
+    {
+        u32::from(self.limit < len)
+    }
 }

@@ -4,6 +4,7 @@
 #![tactic(auto)]
 
 pub mod best;
+pub mod ends;
 pub mod lengths;
 pub mod mode;
 pub mod score;

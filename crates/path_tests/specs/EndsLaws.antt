@@ -1,55 +1,48 @@
 -- The loop over the candidates, and that tests 15 and 16 leave candidates in order.
-use Rattle.std.specs.Prelude.{◌≡◌, Bool, true, false, ◌&&◌, ℕ, zero, suc, ◌+◌, ◌≤◌, ◌<◌, ltb, leb, eqb, length, get_or, drop}
-use Rattle.std.proofs.Math.Path.{refl, sym}
-use Rattle.std.proofs.Common.{ap, ◌∙◌, not-suc-le-zero, le_of_suc-le-suc, add-one, ltb-true, leb-true, eqb-true, le-leb, drop_of_length-le}
+use Rattle.std.specs.Prelude.{◌≡◌, true, false, ◌&&◌, ℕ, zero, suc, ◌≤◌, ◌<◌, ltb, leb, eqb, length, get_or}
+use Rattle.std.proofs.Math.Path.{sym}
+use Rattle.std.proofs.Common.{not-suc-le-zero, le_of_suc-le-suc, ltb-true, leb-true, eqb-true, le-leb}
 use mathlib.Core.List.{List, [], ◌∷◌}
 use native.Mathlib.Omega.{arith}
 use Rattle.std.proofs.lemmas.Bool.{lt-leb}
-use Rattle.std.proofs.Math.Seq.{drop-cons}
 use Rattle.base_laws.specs.Tests.{holds, both}
 use Rattle.base_terms.specs.Limits.{max_len}
 use Rattle.path_pieces.specs.Limits.{max_candidates}
 use Rattle.path_pieces.specs.Domain.{Candidates}
 use Rattle.path_tests.specs.Ends.{lists_ok, end_ok, ends_from, ends_ok}
 
--- ---- the loop: the test of all candidates has come down to those from i on, which follow the right end `last`
+-- ---- the loop: the test of all candidates has come down to those that are left, ls and rs, which follow the right end `last`
 
--- those before i passed
-abbrev pub EndsPassed : List ℕ → List ℕ → ℕ → ℕ → ℕ → ℕ → Type 0
-EndsPassed left right limit end last i =
-    (i ≤ length left) × (end ≡ length left) × (length right ≡ length left) × (ends_from last (drop i left) (drop i right) ≡ ends_ok left right limit)
+-- the candidates before them passed
+abbrev pub EndsPassed : List ℕ → List ℕ → ℕ → ℕ → List ℕ → List ℕ → Type 0
+EndsPassed left right limit last ls rs = (length ls ≡ length rs) × (ends_from last ls rs ≡ ends_ok left right limit)
 
 module _ (left right : List ℕ) (limit : ℕ) where
   -- a limit within the bound leaves the test of the candidates
-  pub ending_start : limit ≤ max_len → length right ≡ length left → EndsPassed left right limit (length left) 0 0
+  pub ending_start : (ls rs : List ℕ) → ls ≡ left → rs ≡ right → limit ≤ max_len → length right ≡ length left → EndsPassed left right limit 0 ls rs
   unfolding ends_ok
-  ending_start h e = (omega arith, refl, e, rw (le-leb limit max_len h))
+  ending_start ls rs a b h e = rw (a, b) (sym e, rw (le-leb limit max_len h))
 
   -- a limit above it fails
   pub ending_limit : max_len < limit → false ≡ ends_ok left right limit
   unfolding ends_ok
   ending_limit h = rw (lt-leb limit max_len h)
 
-  ends-step : (last i : ℕ) → i < length left → i < length right
-      → ends_from last (drop i left) (drop i right) ≡ (end_ok last (get_or left i 0) (get_or right i 0) && ends_from (get_or right i 0) (drop (i + 1) left) (drop (i + 1) right))
-  unfolding ends_from
-  ends-step last i h k = rw (add-one, drop-cons left i 0 h, drop-cons right i 0 k)
+  module _ (last l r : ℕ) (ls rs ms ns : List ℕ) (a : ls ≡ l ∷ ms) (b : rs ≡ r ∷ ns) where
+    -- the next candidate passes
+    pub ending_next : end_ok last l r ≡ true → EndsPassed left right limit last ls rs → EndsPassed left right limit r ms ns
+    unfolding ends_from
+    ending_next t (e, d) = (omega (arith, (rw (a, b) at e)), (rw (a, b, t) at d))
 
-  module _ (end last i : ℕ) (l : i < end) where
-    -- the candidate at i passes
-    pub ending_next : end_ok last (get_or left i 0) (get_or right i 0) ≡ true → EndsPassed left right limit end last i → EndsPassed left right limit end (get_or right i 0) (i + 1)
-    ending_next t (a, b, c, d) =
-        (omega arith, b, c, sym (ends-step last i (omega arith) (omega arith) ∙ ap (λ (q : Bool). q && ends_from (get_or right i 0) (drop (i + 1) left) (drop (i + 1) right)) t) ∙ d)
-
-    -- the candidate at i fails
-    pub ending_fails : end_ok last (get_or left i 0) (get_or right i 0) ≡ false → EndsPassed left right limit end last i → false ≡ ends_ok left right limit
-    ending_fails t (a, b, c, d) =
-        sym (ends-step last i (omega arith) (omega arith) ∙ ap (λ (q : Bool). q && ends_from (get_or right i 0) (drop (i + 1) left) (drop (i + 1) right)) t) ∙ d
+    -- the next candidate fails
+    pub ending_fails : end_ok last l r ≡ false → EndsPassed left right limit last ls rs → false ≡ ends_ok left right limit
+    unfolding ends_from
+    ending_fails t (e, d) = rw (a, b, t) at d
 
   -- no candidate is left
-  pub ending_done : (end last i : ℕ) → end ≤ i → EndsPassed left right limit end last i → true ≡ ends_ok left right limit
+  pub ending_done : (last : ℕ) (ls rs : List ℕ) → ls ≡ [] → EndsPassed left right limit last ls rs → true ≡ ends_ok left right limit
   unfolding ends_from
-  ending_done end last i l (a, b, c, d) = sym (ap (λ (xs : List ℕ). ends_from last xs (drop i right)) (drop_of_length-le left {i = i} (omega arith))) ∙ d
+  ending_done last ls rs n (e, d) = rw n at d
 
 -- ---- what the tests leave
 

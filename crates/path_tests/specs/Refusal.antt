@@ -1,5 +1,5 @@
 -- Document 01's refusals of "path over lent candidates" before 14: 15, 16, 17, 8 and 13, in this order.
-use Rattle.std.specs.Prelude.{ℕ, Bool, true, ◌&&◌, cond, List, ltb, leb, Float, length}
+use Rattle.std.specs.Prelude.{ℕ, Bool, true, ◌&&◌, cond, List, Result, Ok, Err, ltb, leb, Float, length}
 use Rattle.base_terms.specs.Lists.{all_of}
 use Rattle.base_terms.specs.Work.{work_ok}
 use Rattle.path_pieces.specs.declared.lengths.Lengths.{Lengths}
@@ -7,8 +7,6 @@ use Rattle.path_pieces.specs.declared.mode.Mode.{Mode}
 use Rattle.path_pieces.specs.declared.mode.Mode.TheVariants.{ByLength, ByCount}
 use Rattle.path_tests.specs.Ends.{lists_ok, ends_ok}
 use Rattle.path_tests.specs.Costs.{is_cost, lengths_ok}
-use Rattle.path_tests.specs.declared.refusal.Verdict.{Verdict}
-use Rattle.path_tests.specs.declared.refusal.Verdict.TheVariants.{Fine, Fails}
 use Rattle.path_tests.specs.declared.refusal.Refusal.{Refusal}
 use Rattle.path_tests.specs.declared.refusal.Refusal.TheVariants.{BadLists, BadEnds, BadCosts, BadCount, ShortWork}
 
@@ -28,11 +26,11 @@ count_ok (ByCount count) = is_count count
 -- ---- the chain
 
 -- what the rest of the chain says where a test passes, and else why it does not
-abbrev pub or_else : Bool → Refusal → Verdict → Verdict
-or_else passes refusal rest = cond passes rest (Fails refusal)
+abbrev pub or_else : Bool → Refusal → Result Unit Refusal → Result Unit Refusal
+or_else passes refusal rest = cond passes rest (Err refusal)
 
 -- the first test that fails, in document 01's order; 17 is that of the cuts' costs and that of the lengths
-unfoldable pub first_refusal_of : List ℕ → List ℕ → List Float → Lengths → Mode → ℕ → ℕ → ℕ → Verdict
+unfoldable pub first_refusal_of : List ℕ → List ℕ → List Float → Lengths → Mode → ℕ → ℕ → ℕ → Result Unit Refusal
 first_refusal_of left right cost l mode n32 n64 nf =
     or_else (lists_ok (length left) (length right) (length cost)) BadLists
     (or_else (ends_ok left right l.limit) BadEnds
@@ -40,7 +38,7 @@ first_refusal_of left right cost l mode n32 n64 nf =
     (or_else (lengths_ok l) BadCosts
     (or_else (count_ok mode) BadCount
     (or_else (work_ok (length left) n32 n64 nf) ShortWork
-    Fine)))))
+    (Ok tt))))))
 
 -- document 01's number for each case
 abbrev pub number_of : Refusal → ℕ

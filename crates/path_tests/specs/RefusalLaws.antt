@@ -1,5 +1,5 @@
--- The chain of the tests: which verdict each end gives, what the search is left with where no test fails, and that the limit takes part in 16 alone.
-use Rattle.std.specs.Prelude.{◌≡◌, refl, Bool, true, false, List, ℕ, ◌≤◌, ◌<◌, ltb, leb, Float, length}
+-- The chain of the tests: which answer each end gives, what the search is left with where no test fails, and that the limit takes part in 16 alone.
+use Rattle.std.specs.Prelude.{◌≡◌, refl, Bool, true, false, List, ℕ, Result, Ok, Err, ◌≤◌, ◌<◌, ltb, leb, Float, length}
 use Rattle.std.proofs.Math.Path.{sym}
 use Rattle.std.proofs.Common.{ap, ◌∙◌, ltb-true, leb-true, arith}
 use Rattle.base_laws.specs.Tests.{both}
@@ -17,8 +17,6 @@ use Rattle.path_tests.specs.EndsLaws.{lists_parts, ends-candidates, limit_within
 use Rattle.path_tests.specs.Costs.{is_cost, lengths_ok}
 use Rattle.path_tests.specs.CostsLaws.{costs_all_lem, lengths_preferred}
 use Rattle.path_tests.specs.Refusal.{max_count, is_count, count_ok, or_else, first_refusal_of}
-use Rattle.path_tests.specs.declared.refusal.Verdict.{Verdict}
-use Rattle.path_tests.specs.declared.refusal.Verdict.TheVariants.{Fine, Fails}
 use Rattle.path_tests.specs.declared.refusal.Refusal.{Refusal}
 use Rattle.path_tests.specs.declared.refusal.Refusal.TheVariants.{BadLists, BadEnds, BadCosts, BadCount, ShortWork}
 
@@ -26,49 +24,49 @@ use Rattle.path_tests.specs.declared.refusal.Refusal.TheVariants.{BadLists, BadE
 
 module _ (left right : List ℕ) (cost : List Float) (l : Lengths) (mode : Mode) (n32 n64 nf : ℕ) where
   -- 15 comes first
-  pub fails_lists : lists_ok (length left) (length right) (length cost) ≡ false → Fails BadLists ≡ first_refusal_of left right cost l mode n32 n64 nf
+  pub fails_lists : lists_ok (length left) (length right) (length cost) ≡ false → Err BadLists ≡ first_refusal_of left right cost l mode n32 n64 nf
   unfolding first_refusal_of
   fails_lists n = rw n
 
   module _ (a : lists_ok (length left) (length right) (length cost) ≡ true) where
     -- 16, where 15 passed
-    pub fails_ends : ends_ok left right l.limit ≡ false → Fails BadEnds ≡ first_refusal_of left right cost l mode n32 n64 nf
+    pub fails_ends : ends_ok left right l.limit ≡ false → Err BadEnds ≡ first_refusal_of left right cost l mode n32 n64 nf
     unfolding first_refusal_of
     fails_ends n = rw (a, n)
 
     module _ (b : ends_ok left right l.limit ≡ true) where
       -- 17 for a cut's cost, where 15 and 16 passed
-      pub fails_costs : all_of is_cost cost ≡ false → Fails BadCosts ≡ first_refusal_of left right cost l mode n32 n64 nf
+      pub fails_costs : all_of is_cost cost ≡ false → Err BadCosts ≡ first_refusal_of left right cost l mode n32 n64 nf
       unfolding first_refusal_of
       fails_costs n = rw (a, b, n)
 
       module _ (c : all_of is_cost cost ≡ true) where
         -- 17 for weights, target or minimum, where the cuts' costs passed too
-        pub fails_lengths : lengths_ok l ≡ false → Fails BadCosts ≡ first_refusal_of left right cost l mode n32 n64 nf
+        pub fails_lengths : lengths_ok l ≡ false → Err BadCosts ≡ first_refusal_of left right cost l mode n32 n64 nf
         unfolding first_refusal_of
         fails_lengths n = rw (a, b, c, n)
 
         module _ (d : lengths_ok l ≡ true) where
           -- 8, where all up to 17 passed
-          pub fails_count : count_ok mode ≡ false → Fails BadCount ≡ first_refusal_of left right cost l mode n32 n64 nf
+          pub fails_count : count_ok mode ≡ false → Err BadCount ≡ first_refusal_of left right cost l mode n32 n64 nf
           unfolding first_refusal_of
           fails_count n = rw (a, b, c, d, n)
 
           module _ (e : count_ok mode ≡ true) where
             -- 13, where 8 passed too
-            pub fails_work : work_ok (length left) n32 n64 nf ≡ false → Fails ShortWork ≡ first_refusal_of left right cost l mode n32 n64 nf
+            pub fails_work : work_ok (length left) n32 n64 nf ≡ false → Err ShortWork ≡ first_refusal_of left right cost l mode n32 n64 nf
             unfolding first_refusal_of
             fails_work n = rw (a, b, c, d, e, n)
 
             -- no test fails, where 13 passes as well
-            pub passes : work_ok (length left) n32 n64 nf ≡ true → Fine ≡ first_refusal_of left right cost l mode n32 n64 nf
+            pub passes : work_ok (length left) n32 n64 nf ≡ true → Ok tt ≡ first_refusal_of left right cost l mode n32 n64 nf
             unfolding first_refusal_of
             passes n = rw (a, b, c, d, e, n)
 
 -- ---- no test fails
 
 -- a chain that is fine has passed its first test, and its rest is fine
-step : (b : Bool) (refusal : Refusal) {rest : Verdict} → or_else b refusal rest ≡ Fine → (b ≡ true) × (rest ≡ Fine)
+step : (b : Bool) (refusal : Refusal) {rest : Result Unit Refusal} → or_else b refusal rest ≡ Ok tt → (b ≡ true) × (rest ≡ Ok tt)
 step true refusal e = (refl, e)
 step false refusal e = let z : ◌≡◌ {A = ℕ} 0 1 = cc in absurd (omega arith)
 
@@ -95,7 +93,7 @@ all_pass : (left right : List ℕ) (cost : List Float) (l : Lengths) (mode : Mod
     (or_else (lengths_ok l) BadCosts
     (or_else (count_ok mode) BadCount
     (or_else (work_ok (length left) n32 n64 nf) ShortWork
-    Fine))))) ≡ Fine → AllPass left right cost l mode n32 n64 nf
+    (Ok tt)))))) ≡ Ok tt → AllPass left right cost l mode n32 n64 nf
 all_pass left right cost l mode n32 n64 nf e =
     let p = step (lists_ok (length left) (length right) (length cost)) BadLists e in
     let q = step (ends_ok left right l.limit) BadEnds p.1 in
@@ -125,7 +123,7 @@ pub record AcceptedLists (left right : List ℕ) (cost : List Float) (l : Length
 
 -- where no test fails, all of that holds
 pub accepted_lists : (left right : List ℕ) (cost : List Float) (l : Lengths) (mode : Mode) (n32 n64 nf : ℕ)
-    → first_refusal_of left right cost l mode n32 n64 nf ≡ Fine → AcceptedLists left right cost l mode n32 n64 nf
+    → first_refusal_of left right cost l mode n32 n64 nf ≡ Ok tt → AcceptedLists left right cost l mode n32 n64 nf
 unfolding first_refusal_of
 accepted_lists left right cost l mode n32 n64 nf e =
     let p = all_pass left right cost l mode n32 n64 nf e in
@@ -143,13 +141,13 @@ accepted_lists left right cost l mode n32 n64 nf e =
 
 module _ (left right : List ℕ) (cost : List Float) (l : Lengths) (mode : Mode) (n32 n64 nf : ℕ) where
   -- where no test fails the limit is within 16's bound
-  pub fine_limit : first_refusal_of left right cost l mode n32 n64 nf ≡ Fine → l.limit ≤ max_len
+  pub fine_limit : first_refusal_of left right cost l mode n32 n64 nf ≡ Ok tt → l.limit ≤ max_len
   unfolding first_refusal_of
   fine_limit e = limit_within left right l.limit (all_pass left right cost l mode n32 n64 nf e).ends
 
   -- and none fails with any other limit within that bound and any other work lists that are long enough
-  pub fine_any_limit : (limit m32 m64 mf : ℕ) → first_refusal_of left right cost l mode n32 n64 nf ≡ Fine → limit ≤ max_len → work_ok (length left) m32 m64 mf ≡ true
-      → first_refusal_of left right cost (with_limit l limit) mode m32 m64 mf ≡ Fine
+  pub fine_any_limit : (limit m32 m64 mf : ℕ) → first_refusal_of left right cost l mode n32 n64 nf ≡ Ok tt → limit ≤ max_len → work_ok (length left) m32 m64 mf ≡ true
+      → first_refusal_of left right cost (with_limit l limit) mode m32 m64 mf ≡ Ok tt
   unfolding first_refusal_of lengths_ok
   fine_any_limit limit m32 m64 mf e h w =
       let p = all_pass left right cost l mode n32 n64 nf e in

@@ -22,12 +22,7 @@ pub fn is_cost(x: f64) -> bool
 pub fn costs_ok(cost: &[f64]) -> bool
     ensures { result ≡ all_of is_cost cost.now }
 {
-    for i in 0..cost.len() {
-        if !is_cost(cost[i]) {
-            return false;
-        }
-    }
-    true
+    cost.iter().all(|x| is_cost(*x))
 }
 
 // Whether x may be a target length.
@@ -45,17 +40,13 @@ fn is_min(x: f64) -> bool
 }
 
 // Both weights, the target and the minimum.
+#[tactic(auto, unfolding(crate::specs::Costs::lengths_ok))]
 pub fn lengths_ok(lengths: Lengths) -> bool
     ensures { result ≡ lengths_ok lengths }
 {
-    if !is_cost(lengths.weights.target) {
-        return false;
-    }
-    if !is_cost(lengths.weights.short) {
-        return false;
-    }
-    if !is_target(lengths.target) {
-        return false;
-    }
-    is_min(lengths.min)
+    let weights = lengths.weights;
+    is_cost(weights.target)
+        && is_cost(weights.short)
+        && is_target(lengths.target)
+        && is_min(lengths.min)
 }

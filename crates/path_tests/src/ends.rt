@@ -2,6 +2,8 @@
 ghost use Rattle.std.specs.Prelude.{◌≡◌, length};
 ghost use Rattle.path_tests.specs.Ends.{lists_ok, end_ok, ends_ok};
 
+use path_pieces::ends::Ends;
+
 // The most candidates: 2^20 + 1.
 const MAX_CANDIDATES: usize = 1048577;
 
@@ -9,46 +11,32 @@ const MAX_CANDIDATES: usize = 1048577;
 const MAX_END: u64 = 1099511627776;
 
 // Test 15: how many left ends, right ends and costs there are.
+#[tactic(auto, unfolding(crate::specs::Ends::lists_ok))]
 pub fn lists_ok(lefts: usize, rights: usize, costs: usize) -> bool
     ensures { result ≡ lists_ok lefts rights costs }
 {
-    if lefts == 0 {
-        return false;
-    }
-    if MAX_CANDIDATES < lefts {
-        return false;
-    }
-    if rights != lefts {
-        return false;
-    }
-    costs == lefts
+    0 < lefts && lefts <= MAX_CANDIDATES && rights == lefts && costs == lefts
 }
 
 // Whether a candidate is in order, and not before the right end `last`.
+#[tactic(auto, unfolding(crate::specs::Ends::end_ok))]
 fn end_ok(last: u64, left: u64, right: u64) -> bool
     ensures { result ≡ end_ok last left right }
 {
-    if left < last {
-        return false;
-    }
-    if right < left {
-        return false;
-    }
-    right <= MAX_END
+    last <= left && left <= right && right <= MAX_END
 }
 
 // Test 16: the ends of all candidates, and the limit.
-pub fn ends_ok(left: &[u64], right: &[u64], limit: u64) -> bool
-    requires { length right.now ≡ length left.now }
-    ensures { result ≡ ends_ok left.now right.now limit }
+pub fn ends_ok(ends: &Ends, limit: u64) -> bool
+    requires { length ends.now.right.now ≡ length ends.now.left.now }
+    ensures { result ≡ ends_ok ends.now.left.now ends.now.right.now limit }
 {
     if MAX_END < limit {
         return false;
     }
     let mut last: u64 = 0;
-    for i in 0..left.len() {
-        let end = right[i];
-        if !end_ok(last, left[i], end) {
+    for (&start, &end) in ends.left.iter().zip(ends.right) {
+        if !end_ok(last, start, end) {
             return false;
         }
         last = end;

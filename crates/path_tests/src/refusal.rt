@@ -2,8 +2,10 @@
 ghost use Rattle.std.specs.Prelude.{◌≡◌};
 ghost use Rattle.path_tests.specs.Refusal.{is_count, count_ok, first_refusal_of, number_of};
 
-use crate::{costs, ends};
+use crate::costs;
+use crate::ends::{ends_ok, lists_ok};
 use base_code::work;
+use path_pieces::ends::Ends;
 use path_pieces::lengths::Lengths;
 use path_pieces::mode::Mode;
 
@@ -11,7 +13,7 @@ use path_pieces::mode::Mode;
 const MAX_COUNT: u32 = 1048576;
 
 // Why a test fails.
-#[derive(Clone, Copy)]
+#[derive(Clone, Copy, Debug, PartialEq, Eq)]
 pub enum Refusal {
     BadLists,
     BadEnds,
@@ -20,27 +22,23 @@ pub enum Refusal {
     ShortWork,
 }
 
-// What the tests say: that none fails, or the first that does.
-#[derive(Clone, Copy)]
-pub enum Verdict {
-    Fine,
-    Fails(Refusal),
-}
-
 // Document 01's number for each case.
-pub fn number(r: Refusal) -> u32
-    ensures { result ≡ number_of r }
-{
-    match r {
-        Refusal::BadLists => 15,
-        Refusal::BadEnds => 16,
-        Refusal::BadCosts => 17,
-        Refusal::BadCount => 8,
-        Refusal::ShortWork => 13,
+impl From<Refusal> for u32 {
+    ghost from_gives = { λ r n. n ≡ number_of r };
+
+    fn from(r: Refusal) -> u32 {
+        match r {
+            Refusal::BadLists => 15,
+            Refusal::BadEnds => 16,
+            Refusal::BadCosts => 17,
+            Refusal::BadCount => 8,
+            Refusal::ShortWork => 13,
+        }
     }
 }
 
 // Whether so many pieces may be asked for.
+#[tactic(auto, unfolding(crate::specs::Refusal::is_count))]
 fn is_count(count: u32) -> bool
     ensures { result ≡ is_count count }
 {
@@ -48,6 +46,7 @@ fn is_count(count: u32) -> bool
 }
 
 // Test 8: by count only, how many pieces are asked for.
+#[tactic(auto, unfolding(crate::specs::Refusal::count_ok))]
 pub fn count_ok(mode: Mode) -> bool
     ensures { result ≡ count_ok mode }
 {
@@ -57,36 +56,36 @@ pub fn count_ok(mode: Mode) -> bool
     }
 }
 
-// The tests in document 01's order. It reads the candidates alone, and of work memory its lengths.
+// The tests in document 01's order: that none fails, or the first that does. It reads the candidates alone, and of work memory its lengths.
+#[tactic(auto, unfolding(crate::specs::Refusal::first_refusal_of))]
 pub fn first_refusal(
-    left: &[u64],
-    right: &[u64],
+    ends: &Ends,
     cost: &[f64],
     lengths: Lengths,
     mode: Mode,
     n32: usize,
     n64: usize,
     nf: usize,
-) -> Verdict
-    ensures { result ≡ first_refusal_of left.now right.now cost.now lengths mode n32 n64 nf }
+) -> Result<(), Refusal>
+    ensures { result ≡ first_refusal_of ends.now.left.now ends.now.right.now cost.now lengths mode n32 n64 nf }
 {
-    if !ends::lists_ok(left.len(), right.len(), cost.len()) {
-        return Verdict::Fails(Refusal::BadLists);
+    if !lists_ok(ends.left.len(), ends.right.len(), cost.len()) {
+        return Err(Refusal::BadLists);
     }
-    if !ends::ends_ok(left, right, lengths.limit) {
-        return Verdict::Fails(Refusal::BadEnds);
+    if !ends_ok(ends, lengths.limit) {
+        return Err(Refusal::BadEnds);
     }
     if !costs::costs_ok(cost) {
-        return Verdict::Fails(Refusal::BadCosts);
+        return Err(Refusal::BadCosts);
     }
     if !costs::lengths_ok(lengths) {
-        return Verdict::Fails(Refusal::BadCosts);
+        return Err(Refusal::BadCosts);
     }
     if !count_ok(mode) {
-        return Verdict::Fails(Refusal::BadCount);
+        return Err(Refusal::BadCount);
     }
-    if !work::work_ok(left.len(), n32, n64, nf) {
-        return Verdict::Fails(Refusal::ShortWork);
+    if !work::work_ok(ends.left.len(), n32, n64, nf) {
+        return Err(Refusal::ShortWork);
     }
-    Verdict::Fine
+    Ok(())
 }

@@ -20,12 +20,11 @@ fn lengths_with(g: FrameGrid, settings: PlanConfig, target: f64, limit: u64) -> 
     requires { Timed g settings }
     ensures { result ≡ lengths_with g settings target limit }
 {
-    let weights = settings.weights;
     Lengths {
         min: durations::samples_in(g.sample_rate, settings.min),
         target,
         limit,
-        weights,
+        weights: settings.weights,
     }
 }
 

@@ -6,7 +6,7 @@ use Rattle.std.proofs.lemmas.List.{take-set-le, drop-set-add}
 use Rattle.candidate_points.specs.Placed.{placed}
 use Rattle.path_by_length.specs.Table.{way_to}
 use Rattle.path_by_length.specs.Solved.{parent_at}
-use Rattle.path_by_length.specs.WalkLaws.{WritingBack, writing_back_start, writing_back_room, writing_back_next, writing_back_done}
+use Rattle.path_by_length.specs.WalkLaws.{WritingBack, writing_back_start, writing_back_room, writing_back_later, writing_back_next, writing_back_done}
 use Rattle.plan_lists.specs.Within.{part_at}
 use Rattle.plan_lists.specs.WithinLaws.{within-placed}
 use Rattle.plan_lists.specs.Back.{WayRoom}
@@ -50,6 +50,10 @@ module _ (parents n at : ℕ) where
           ∙ get_or-take at work₀ (parents + j) 0 within_inside.1 ∙ sym (get_or-drop parents work₀ j 0)
           ∙ sym (get_or-take n (drop parents work₀) j 0 within_inside.0)
 
+      -- more than one is left where candidate j is not the first
+      pub within_later : 1 < k → 0 < j
+      within_later h = writing_back_later r.leads.falling (drop at work₀) fits (drop at work) k j h w.writing
+
       -- one step back
       pub within_next : (i : ℕ) → i ≡ k - 1 → 0 < j → WritingWithin work₀ (set work (at + i) j) i (parent_in work₀ j)
       within_next i e h = record {
@@ -65,12 +69,8 @@ module _ (parents n at : ℕ) where
           ∙ ap (λ (xs : List ℕ). get_or xs (parents + j) 0) (take-set-le at work (at + i) j (omega arith))
           ∙ get_or-take at work (parents + j) 0 within_inside.1 ∙ kept
 
-      -- it falls
-      pub within_falls : 0 < j → parent_in work₀ j < j
-      within_falls h = r.leads.falling j h w.writing.0
-
-      -- at the first candidate the whole way is written
-      pub within_done : j ≤ 0 → set work at 0 ≡ placed at (way_to (parent_in work₀) (n - 1)) work₀
+      -- where one is left the whole way is written with it
+      pub within_done : k ≤ 1 → set work at 0 ≡ placed at (way_to (parent_in work₀) (n - 1)) work₀
       within_done h =
           let z : at + 0 ≡ at = omega arith in
           within-placed at (way_to (parent_in work₀) (n - 1)) work₀ (set work at 0)

@@ -13,10 +13,8 @@ pub fn backtrack_within(work: &mut [u32], parents: usize, n: usize, len: usize, 
     ensures { work.new
         ≡ placed at (way_to (parent_at (part_at parents n work.old)) (n - 1)) work.old }
 {
-    let mut k = len;
     let mut j = n - 1;
-    while 0 < j {
-        k -= 1;
+    for k in (1..len).rev() {
         work[at + k] = j as u32;
         j = work[parents + j] as usize;
     }

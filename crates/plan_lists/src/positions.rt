@@ -4,7 +4,7 @@ ghost use Rattle.base_terms.specs.Lists.{tabulate};
 ghost use Rattle.grid.specs.Boundary.{Bounded};
 ghost use Rattle.plan_lists.specs.Positions.{end_in, positions_in, EntriesRoom, PositionsRoom};
 
-use base_code::layout;
+use base_code::layout::Layout;
 use grid::boundary::FrameGrid;
 
 // The position of each candidate's number `which`: 0 for the left end, 1 for the right.
@@ -13,8 +13,8 @@ fn ends(g: FrameGrid, entries: &[u32], which: usize, out: &mut [u64])
     requires entries_room { EntriesRoom (length out.old) which entries.now }
     ensures { out.new ≡ tabulate (end_in g entries.now which) (length out.old) }
 {
-    for i in 0..out.len() {
-        out[i] = g.position(entries[3 * i + which] as usize);
+    for (i, end) in out.iter_mut().enumerate() {
+        *end = g.position(entries[3 * i + which] as usize);
     }
 }
 
@@ -24,9 +24,10 @@ pub fn positions(g: FrameGrid, candidates: usize, work_u32: &[u32], work_u64: &m
     requires positions_room { PositionsRoom g.frames candidates work_u32.now work_u64.old }
     ensures { work_u64.new ≡ positions_in g candidates work_u32.now work_u64.old }
 {
-    let first = layout::entries_at(g.frames);
+    let places = Layout { frames: g.frames };
+    let first = places.entries_at();
     let entries = &work_u32[first..first + 3 * candidates];
     ends(g, entries, 0, &mut work_u64[..candidates]);
-    let rights = layout::rights_at(g.frames);
+    let rights = places.rights_at();
     ends(g, entries, 1, &mut work_u64[rights..rights + candidates]);
 }

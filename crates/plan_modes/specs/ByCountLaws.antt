@@ -1,5 +1,5 @@
 -- The plan by count, step by step: the path over candidates under a limit, of the first list and of the completed one, and each end of both functions.
-use Rattle.std.specs.Prelude.{◌≡◌, refl, Bool, true, false, ◌&&◌, ℕ, suc, ◌+◌, ◌-◌, ◌*◌, ◌≤◌, ◌<◌, min, Float, length, take}
+use Rattle.std.specs.Prelude.{◌≡◌, refl, Bool, true, false, ◌&&◌, ℕ, suc, ◌+◌, ◌-◌, ◌*◌, ◌≤◌, ◌<◌, min, Float, length, take, Err}
 use Rattle.std.proofs.Math.Path.{sym, ap, subst}
 use Rattle.std.proofs.Common.{◌∙◌, arith, take-take}
 use mathlib.Core.List.Memᴰ
@@ -28,7 +28,7 @@ use Rattle.completion_reach.specs.Reach.{reach_of}
 use Rattle.plan_lengths.specs.PlanLengths.{maximum_in, lengths_with, lengths_by_count}
 use Rattle.plan_pieces.specs.Along.{reasons_in, pieces_along_numbers, cuts_along_numbers}
 use Rattle.plan_pieces.specs.Output.{Output, Handed, handed_of, handed_out_of}
-use Rattle.plan_pieces.specs.declared.answer.Answer.TheVariants.{ShortParent}
+use Rattle.plan_pieces.specs.declared.answer.Error.TheVariants.{ShortParent}
 use Rattle.plan_lists.specs.Positions.{entries_in}
 use Rattle.plan_path.specs.Search.{lefts_in, rights_in}
 use Rattle.plan_division.specs.Best.{best_path_over_by_count, overs_of}
@@ -180,7 +180,7 @@ module _ (x : Context) (g : FrameGrid) (settings : PlanConfig) (count : ℕ) (sp
             ap (λ (l : ℕ). planned_under g settings s count l (completed_by_count g settings s with count l) parents out) (reach ∙ ap (reach_of g s count) is)
 
         -- the parent list is too short: 14
-        pub after-short : has_parents count (length ds) parents ≡ false → handed_of ShortParent out ≡ planned_after g settings s with count parents out
+        pub after-short : has_parents count (length ds) parents ≡ false → handed_of (Err ShortParent) out ≡ planned_after g settings s with count parents out
         unfolding planned_under
         after-short b = sym (rw b) ∙ under-reach
 
@@ -194,7 +194,7 @@ module _ (x : Context) (g : FrameGrid) (settings : PlanConfig) (count : ℕ) (sp
 
     module _ (most : ℕ) (is : most ≡ maximum_in g settings) (parents : ℕ) (out : Output) where
       -- the parent list is too short for the first path: 14
-      pub count_short : has_parents count (length (with [])) parents ≡ false → handed_of ShortParent out ≡ plan_by_count g settings s with count parents out
+      pub count_short : has_parents count (length (with [])) parents ≡ false → handed_of (Err ShortParent) out ≡ plan_by_count g settings s with count parents out
       unfolding plan_by_count
       count_short b = rw b
 

@@ -1,6 +1,6 @@
 -- Document 01's plan of a span that is not empty, by length and by count, with the refusals that arise on the way: 14 and 12.
 -- `with` gives the candidates of a recording and settings with points added at the boundaries of some cuts; with none, they are the first ones.
-use Rattle.std.specs.Prelude.{Bool, ◌&&◌, List, [], ℕ, suc, eqb, length}
+use Rattle.std.specs.Prelude.{Bool, ◌&&◌, List, [], ℕ, suc, eqb, length, Err}
 use Rattle.grid.specs.declared.boundary.FrameGrid.{FrameGrid}
 use Rattle.path_pieces.specs.declared.mode.Mode.{Mode}
 use Rattle.path_pieces.specs.declared.mode.Mode.TheVariants.{ByLength, ByCount}
@@ -14,7 +14,7 @@ use Rattle.plan_division.specs.Best.{best_path_over, best_path_over_by_count, ov
 use Rattle.plan_lists.specs.Parents.{has_parents}
 use Rattle.plan_lengths.specs.PlanLengths.{maximum_in, lengths_by_length, lengths_by_count}
 use Rattle.plan_pieces.specs.Output.{Output, Handed, handed_of, pick}
-use Rattle.plan_pieces.specs.declared.answer.Answer.TheVariants.{ShortParent}
+use Rattle.plan_pieces.specs.declared.answer.Error.TheVariants.{ShortParent}
 use Rattle.plan_steps.specs.Steps.{plan_along, cuts_added}
 
 -- ---- by length
@@ -47,7 +47,7 @@ module _ (g : FrameGrid) (settings : PlanConfig) (s : Span) where
   -- the path over candidates under a limit: 14, or the plan along it
   unfoldable pub planned_under : ℕ → ℕ → List Candidate → ℕ → Output → Handed
   planned_under count limit cs parents out =
-      pick (has_parents count (length cs) parents) (plan_along g settings cs (path_by_count count limit cs) out) (handed_of ShortParent out)
+      pick (has_parents count (length cs) parents) (plan_along g settings cs (path_by_count count limit cs) out) (handed_of (Err ShortParent) out)
 
   module _ (with : List Cut → List Candidate) where
     -- the candidates completed for a number of pieces, under a limit
@@ -67,7 +67,7 @@ module _ (g : FrameGrid) (settings : PlanConfig) (s : Span) where
         (pick (suffices count (maximum_in g settings) (with []))
         (plan_along g settings (with []) (path_by_count count (maximum_in g settings) (with [])) out)
         (planned_after count parents out))
-        (handed_of ShortParent out)
+        (handed_of (Err ShortParent) out)
 
     -- ---- either
 

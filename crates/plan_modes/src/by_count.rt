@@ -14,7 +14,7 @@ use grid::FrameGrid;
 use path_rules::solved::Solved;
 use plan_lengths::lengths;
 use plan_lists::parents;
-use plan_pieces::answer::Answer;
+use plan_pieces::answer::{Answer, Error};
 use plan_settings::config::PlanConfig;
 use plan_steps::{complete, hand, search};
 
@@ -23,10 +23,7 @@ fn is_enough(solved: Solved, count: usize) -> bool
     requires { count < 4294967296 }
     ensures { result ≡ (eqb solved.len (suc count) && eqb solved.score.over 0) }
 {
-    if solved.len != count + 1 {
-        return false;
-    }
-    solved.score.over == 0
+    solved.len == count + 1 && solved.score.over == 0
 }
 
 // Seeks the reach, and plans over the candidates that are completed under it.
@@ -56,33 +53,15 @@ fn plan_after(
         count (length parent.old) (output_of pieces.old cuts.old) }
 {
     let max = lengths::maximum(g, settings);
-    let completed = complete::complete_by_count(
-        x,
-        g,
-        max,
-        count,
-        span,
-        &mut *work_u32,
-        &mut *work_f64,
-    );
+    let completed = complete::complete_by_count(x, g, max, count, span, work_u32, work_f64);
     let k = completed.candidates;
     if !parents::has_parents(count, k, parent.len()) {
-        return Answer::ShortParent;
+        return Err(Error::ShortParent);
     }
-    let limit = completed.limit;
-    let l = lengths::lengths_by_count(g, settings, span.first, span.last, count, limit);
-    let solved = search::search_by_count(
-        g,
-        k,
-        l,
-        count,
-        &mut *work_u32,
-        &mut *work_u64,
-        work_f64,
-        parent,
-    );
+    let l = lengths::lengths_by_count(g, settings, span.first, span.last, count, completed.limit);
+    let solved = search::search_by_count(g, k, l, count, work_u32, work_u64, work_f64, parent);
     let len = solved.len;
-    hand::hand_out_held(g, k, len, l.min, max, &*work_u32, &*work_u64, pieces, cuts)
+    hand::hand_out_held(g, k, len, l.min, max, work_u32, work_u64, pieces, cuts)
 }
 
 // The best path over the first candidates, if it suffices under the maximum; else over those that are completed under
@@ -113,24 +92,16 @@ pub fn plan_by_count(
         count (length parent.old) (output_of pieces.old cuts.old) }
 {
     let max = lengths::maximum(g, settings);
-    let k = collect::collect(x, span, &mut *work_u32, &mut *work_f64);
+    let k = collect::collect(x, span, work_u32, work_f64);
     if !parents::has_parents(count, k, parent.len()) {
-        return Answer::ShortParent;
+        return Err(Error::ShortParent);
     }
     let l = lengths::lengths_by_count(g, settings, span.first, span.last, count, max);
-    let solved = search::search_by_count(
-        g,
-        k,
-        l,
-        count,
-        &mut *work_u32,
-        &mut *work_u64,
-        &mut *work_f64,
-        &mut *parent,
-    );
+    let solved = search::search_by_count(g, k, l, count, work_u32, work_u64, work_f64, parent);
     if is_enough(solved, count) {
-        let len = solved.len;
-        return hand::hand_out_held(g, k, len, l.min, max, &*work_u32, &*work_u64, pieces, cuts);
+        return hand::hand_out_held(
+            g, k, solved.len, l.min, max, work_u32, work_u64, pieces, cuts,
+        );
     }
     plan_after(
         x, g, settings, count, span, work_u32, work_u64, work_f64, parent, pieces, cuts,

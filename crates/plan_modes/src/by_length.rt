@@ -38,10 +38,10 @@ pub fn plan_by_length(
         (output_of pieces.old cuts.old) }
 {
     let max = lengths::maximum(g, settings);
-    let k = complete::complete_by_length(x, g, max, span, &mut *work_u32, &mut *work_f64);
+    let k = complete::complete_by_length(x, g, max, span, work_u32, work_f64);
     let l = lengths::lengths_by_length(g, settings);
-    let solved = search::search_by_length(g, k, l, &mut *work_u32, &mut *work_u64, work_f64);
+    let solved = search::search_by_length(g, k, l, work_u32, work_u64, work_f64);
     hand::hand_out_held(
-        g, k, solved.len, l.min, max, &*work_u32, &*work_u64, pieces, cuts,
+        g, k, solved.len, l.min, max, work_u32, work_u64, pieces, cuts,
     )
 }

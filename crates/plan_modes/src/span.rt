@@ -40,8 +40,7 @@ pub fn plan_span(
         (levels_held x.padding.frames work_f64.old))
         settings.mode (length parent.old) (output_of pieces.old cuts.old) }
 {
-    let mode = settings.mode;
-    match mode {
+    match settings.mode {
         Mode::ByLength => by_length::plan_by_length(
             x, g, settings, span, work_u32, work_u64, work_f64, pieces, cuts,
         ),

@@ -8,12 +8,13 @@ ghost use Rattle.plan_path.specs.Held.{PathHeld};
 ghost use Rattle.plan_path.specs.Search.{lefts_in, rights_in, costs_in, SearchRoom};
 
 use crate::{by_count, by_length};
-use base_code::layout;
+use base_code::layout::{self, Layout, SearchLayout};
+use path_pieces::ends::Ends;
 use path_pieces::lengths::Lengths;
 use path_rules::solved::Solved;
-use plan_lists::copy;
 
 // By length.
+// Two functions and not one over both modes: each asks a search of its own, which promises another best path and score.
 pub fn search_by_length(
     frames: usize,
     n: usize,
@@ -31,18 +32,23 @@ pub fn search_by_length(
         work_u32.old work_u32.new result }
     ensures work_f64_unchanged { take (scores_at frames) work_f64.new ≡ take (scores_at frames) work_f64.old }
 {
-    let costs = layout::costs_at(frames);
-    let scores = layout::scores_at(frames);
-    copy::copy_within(&mut *work_f64, costs, scores + layout::behind_table(n), n);
-    let rights = layout::rights_at(frames);
-    let search = layout::search_at(frames);
-    let path = layout::path_at(frames);
-    let end = layout::end_f64(frames);
+    let places = Layout { frames };
+    let costs = places.costs_at();
+    let scores = places.scores_at();
+    let behind_table = scores + layout::behind_table(n);
+    work_f64.copy_within(costs..costs + n, behind_table);
+    let rights = places.rights_at();
+    let search = places.search_at();
+    let path = places.path_at();
+    let end = places.end_f64();
+    let ends = Ends {
+        left: &work_u64[..n],
+        right: &work_u64[rights..rights + n],
+    };
     by_length::path_by_length(
-        &work_u64[..n],
-        &work_u64[rights..rights + n],
+        &ends,
         lengths,
-        &mut *work_u32,
+        work_u32,
         search,
         path,
         &mut work_f64[scores..end],
@@ -70,22 +76,27 @@ pub fn search_by_count(
         work_u32.old work_u32.new result }
     ensures work_f64_unchanged { take (scores_at frames) work_f64.new ≡ take (scores_at frames) work_f64.old }
 {
-    let costs = layout::costs_at(frames);
-    let scores = layout::scores_at(frames);
-    copy::copy_within(&mut *work_f64, costs, scores + layout::behind_tree(n), n);
-    let rights = layout::rights_at(frames);
-    let search = layout::search_at(frames);
-    let path = layout::path_at(frames);
-    let end = layout::end_f64(frames);
+    let places = Layout { frames };
+    let costs = places.costs_at();
+    let scores = places.scores_at();
+    let behind_tree = scores + SearchLayout { candidates: n }.behind_tree();
+    work_f64.copy_within(costs..costs + n, behind_tree);
+    let rights = places.rights_at();
+    let search = places.search_at();
+    let path = places.path_at();
+    let end = places.end_f64();
+    let ends = Ends {
+        left: &work_u64[..n],
+        right: &work_u64[rights..rights + n],
+    };
     by_count::path_by_count(
-        &work_u64[..n],
-        &work_u64[rights..rights + n],
+        &ends,
         lengths,
         count,
-        &mut *work_u32,
+        work_u32,
         search,
         path,
         &mut work_f64[scores..end],
-        &mut *parent,
+        parent,
     )
 }

@@ -1,12 +1,20 @@
 -- What the operation Plan answers, as document 01's numbers: a plan, a refusal before 14, or one of those that arise later.
-use Rattle.std.specs.Prelude.{ℕ}
+use Rattle.std.specs.Prelude.{ℕ, Result, Ok, Err}
 use Rattle.plan_tests.specs.Refusal as tests
-use Rattle.plan_pieces.specs.declared.answer.Answer.{Answer}
-use Rattle.plan_pieces.specs.declared.answer.Answer.TheVariants.{Planned, Refused, ShortParent, ShortOutput}
+use Rattle.plan_pieces.specs.declared.answer.Error.{Error}
+use Rattle.plan_pieces.specs.declared.answer.Error.TheVariants.{Refused, ShortParent, ShortOutput}
 
--- document 01's number for each case; 0 where the plan was made
+-- how many pieces the plan has, or why there is none
+abbrev pub Answer : Type 0
+Answer = Result ℕ Error
+
+-- document 01's number for each case without a plan
+abbrev pub error_number : Error → ℕ
+error_number (Refused r) = tests.number_of r
+error_number ShortParent = 14
+error_number ShortOutput = 12
+
+-- document 01's number for each answer; 0 where the plan was made
 abbrev pub number_of : Answer → ℕ
-number_of (Planned pieces) = 0
-number_of (Refused r) = tests.number_of r
-number_of ShortParent = 14
-number_of ShortOutput = 12
+number_of (Ok pieces) = 0
+number_of (Err e) = error_number e

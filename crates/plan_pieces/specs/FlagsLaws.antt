@@ -1,7 +1,8 @@
 -- Which piece is the tail. One flag is 1 and the other 2, so that either can be read off their sum.
 -- No piece has both: a length above the whole samples of the maximum is at least one more, and neither the maximum nor a minimum up to it is above that as a float.
 use Rattle.std.specs.Prelude.{◌≡◌, refl, Bool, true, false, ◌&&◌, ◌||◌, not, cond, ℕ, zero, suc, ◌+◌, ◌-◌, ◌*◌, ◌^◌, ◌≤◌, ◌<◌, T, leb, eqb, pos, Float}
-use Rattle.std.proofs.Common.{sym, ◌∙◌, arith, ltb-true, lt-ltb, le-ltb, le-leb, eq-eqb, ne_eqb}
+use Rattle.std.proofs.Common.{sym, ap, ◌∙◌, arith, ltb-true, le-leb, eq-eqb, ne_eqb}
+use Rattle.std.specs.Int.{from_bool}
 use Rattle.std.proofs.Math.Dec.{eqb-suc-suc}
 use Rattle.std.specs.Float.{binary64}
 use Rattle.std.specs.Float.Ieee.{of_int, le}
@@ -40,25 +41,23 @@ tail_before k i h = tail_of_several k i (omega (arith, h)) ∙ ne_eqb i (k - 1) 
 
 -- ---- each flag
 
--- a length below the minimum has flag `s`, unless it is the tail's
-pub flags_below : (least : Float) (len : ℕ) → is_shorter least len ≡ true → 1 ≡ short_flag false least len
+-- a test as a number, 1 where it holds, is flag `s` of a piece that is not the tail
+pub short_told : (least : Float) (len n : ℕ) → n ≡ from_bool (is_shorter least len) → n ≡ short_flag false least len
 unfolding short_flag
-flags_below least len e = rw e
+short_told least len n e = e ∙ go (is_shorter least len)
+  where
+    go : (b : Bool) → from_bool b ≡ cond b 1 0
+    go true = refl
+    go false = refl
 
--- no other has
-pub flags_enough : (least : Float) (len : ℕ) → is_shorter least len ≡ false → 0 ≡ short_flag false least len
-unfolding short_flag
-flags_enough least len e = rw e
-
--- a length above the maximum has flag `l`
-pub flags_longer : (most len : ℕ) → most < len → 2 ≡ long_flag most len
+-- and twice that number is flag `l`
+pub long_told : (most len n : ℕ) → n ≡ from_bool (is_longer most len) → 2 * n ≡ long_flag most len
 unfolding long_flag
-flags_longer most len h = rw (lt-ltb most len h)
-
--- no other has
-pub flags-within : (most len : ℕ) → len ≤ most → 0 ≡ long_flag most len
-unfolding long_flag
-flags-within most len h = rw (le-ltb most len h)
+long_told most len n e = ap (λ (m : ℕ). 2 * m) e ∙ go (is_longer most len)
+  where
+    go : (b : Bool) → 2 * from_bool b ≡ cond b 2 0
+    go true = refl
+    go false = refl
 
 -- ---- both as one number
 

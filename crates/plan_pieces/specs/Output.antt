@@ -1,8 +1,8 @@
 -- Document 01's refusal 12 of the operation Plan, "output too short for the answer": the plan is handed out whole, or nothing is written.
-use Rattle.std.specs.Prelude.{ℕ, ◌-◌, ◌*◌, Bool, ◌&&◌, cond, List, leb, length}
+use Rattle.std.specs.Prelude.{ℕ, ◌-◌, ◌*◌, Bool, ◌&&◌, cond, List, leb, length, Ok, Err}
 use Rattle.base_terms.specs.Lists.{onto}
-use Rattle.plan_pieces.specs.declared.answer.Answer.{Answer}
-use Rattle.plan_pieces.specs.declared.answer.Answer.TheVariants.{Planned, ShortOutput}
+use Rattle.plan_pieces.specs.Answer.{Answer}
+use Rattle.plan_pieces.specs.declared.answer.Error.TheVariants.{ShortOutput}
 
 -- the output: three numbers for each piece, and three for each cut
 pub record Output : Type 0 where
@@ -34,5 +34,5 @@ has_room pieces piecesLength cutsLength = leb (3 * pieces) piecesLength && leb (
 unfoldable pub handed_out_of : ℕ → List ℕ → List ℕ → Output → Handed
 handed_out_of pieces piece_numbers cut_numbers out =
     pick (has_room pieces (length out.pieces) (length out.cuts))
-    (handed_of (Planned pieces) (output_of (onto piece_numbers out.pieces) (onto cut_numbers out.cuts)))
-    (handed_of ShortOutput out)
+    (handed_of (Ok pieces) (output_of (onto piece_numbers out.pieces) (onto cut_numbers out.cuts)))
+    (handed_of (Err ShortOutput) out)

@@ -1,10 +1,10 @@
 -- Thirds of the lengths are compared, so that nothing overflows; and the two ends of handing out.
-use Rattle.std.specs.Prelude.{◌≡◌, refl, Bool, true, false, List, ℕ, ◌+◌, ◌-◌, ◌*◌, ◌/◌, ◌≤◌, ◌<◌, leb, length}
+use Rattle.std.specs.Prelude.{◌≡◌, refl, Bool, true, false, List, ℕ, ◌+◌, ◌-◌, ◌*◌, ◌/◌, ◌≤◌, ◌<◌, leb, length, Ok, Err}
 use Rattle.std.proofs.Common.{sym, arith}
 use borrow.Author.Tests.{leb-true, leb-false, le-leb, lt-leb}
 use Rattle.base_terms.specs.Lists.{onto}
 use Rattle.base_laws.specs.Tests.{both}
-use Rattle.plan_pieces.specs.declared.answer.Answer.TheVariants.{Planned, ShortOutput}
+use Rattle.plan_pieces.specs.declared.answer.Error.TheVariants.{ShortOutput}
 use Rattle.plan_pieces.specs.Output.{Output, output_of, handed_of, has_room, handed_out_of}
 
 module _ (pieces piecesLength cutsLength : ℕ) where
@@ -34,12 +34,12 @@ module _ (pieces piecesLength cutsLength : ℕ) where
 module _ (pieces : ℕ) (piece_numbers cut_numbers : List ℕ) (out : Output) where
   -- without room the end is 12
   pub out-short : has_room pieces (length out.pieces) (length out.cuts) ≡ false
-      → handed_of ShortOutput out ≡ handed_out_of pieces piece_numbers cut_numbers out
+      → handed_of (Err ShortOutput) out ≡ handed_out_of pieces piece_numbers cut_numbers out
   unfolding handed_out_of
   out-short n = rw n
 
   -- with room in both the plan is handed out
   pub out-planned : (ps cs : List ℕ) → has_room pieces (length out.pieces) (length out.cuts) ≡ true → ps ≡ onto piece_numbers out.pieces
-      → cs ≡ onto cut_numbers out.cuts → handed_of (Planned pieces) (output_of ps cs) ≡ handed_out_of pieces piece_numbers cut_numbers out
+      → cs ≡ onto cut_numbers out.cuts → handed_of (Ok pieces) (output_of ps cs) ≡ handed_out_of pieces piece_numbers cut_numbers out
   unfolding handed_out_of
   out-planned ps cs n e f = rw (n, e, f)

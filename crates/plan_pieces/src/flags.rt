@@ -7,10 +7,8 @@ ghost use Rattle.plan_pieces.specs.Flags.{is_tail, short_flag, long_flag, flags_
 pub fn is_tail(i: usize, pieces: usize) -> bool
     ensures { result ≡ is_tail pieces i }
 {
-    if pieces < 2 {
-        return false;
-    }
-    i == pieces - 1
+    let several = 1 < pieces;
+    several && i == pieces - 1
 }
 
 // 1 for a piece that is below the minimum. The minimum is a float, and so the length is compared as one.
@@ -18,18 +16,17 @@ fn short_flag(len: u64, min: f64) -> u64
     requires { len ≤ max_len }
     ensures { result ≡ short_flag false min len }
 {
-    let len = len as f64;
-    if len < min { 1 } else { 0 }
+    u64::from((len as f64) < min)
 }
 
 // 2 for a piece that is longer than the maximum.
 fn long_flag(len: u64, max: u64) -> u64
     ensures { result ≡ long_flag max len }
 {
-    if max < len { 2 } else { 0 }
+    2 * u64::from(max < len)
 }
 
-// Both as one number.
+// Both as one number, as the C interface has it.
 pub fn flags_of(len: u64, tail: bool, min: f64, max: u64) -> u64
     requires { len ≤ max_len }
     ensures { result ≡ flags_of tail min max len }

@@ -1,7 +1,7 @@
 // The pieces of a plan as records.
-ghost use Rattle.std.specs.Prelude.{◌≡◌, ◌+◌, ◌*◌, ◌<◌, length};
-ghost use Rattle.plan_records.specs.Records.{record_at};
 ghost use Rattle.plan_records.specs.Pieces.{piece_of};
+
+use crate::records::Record;
 
 // A piece of the recording, from sample `start` to the one before `end`.
 // Laid out as C does: two 64-bit numbers and two bools, 24 bytes.
@@ -15,21 +15,15 @@ pub struct Piece {
 }
 
 // The record of a piece's three numbers: flags 1 is too short, 2 too long, 3 both.
-fn piece_of(start: u64, end: u64, flags: u64) -> Piece
-    ensures { result ≡ piece_of start end flags }
-{
-    Piece {
-        start,
-        end,
-        too_short: (flags == 1) | (flags == 3),
-        too_long: 2 <= flags,
-    }
-}
+impl Record for Piece {
+    ghost made_of = { piece_of };
 
-// Piece i of a plan's numbers.
-pub fn piece_at(numbers: &[u64], i: usize) -> Piece
-    requires { 3 * i + 2 < length numbers.now }
-    ensures { result ≡ record_at piece_of numbers.now i }
-{
-    piece_of(numbers[3 * i], numbers[3 * i + 1], numbers[3 * i + 2])
+    fn of(start: u64, end: u64, flags: u64) -> Piece {
+        Piece {
+            start,
+            end,
+            too_short: (flags == 1) | (flags == 3),
+            too_long: 2 <= flags,
+        }
+    }
 }

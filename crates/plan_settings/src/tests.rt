@@ -6,6 +6,7 @@ use crate::config::Placement;
 use path_pieces::weights::Weights;
 
 // Test 9, for a ratio only.
+#[tactic(auto, unfolding(crate::specs::Tests::ratio_ok))]
 pub fn ratio_ok(placement: Placement) -> bool
     ensures { result ≡ ratio_ok placement }
 {
@@ -31,6 +32,7 @@ fn is_cut_cost(x: f64) -> bool
 }
 
 // Whether a pause reference is above zero and at most 24 hours.
+#[tactic(auto, unfolding(crate::specs::Tests::is_reference))]
 fn is_reference(nanos: u64) -> bool
     ensures { result ≡ is_reference nanos }
 {
@@ -38,23 +40,14 @@ fn is_reference(nanos: u64) -> bool
 }
 
 // Test 10.
+#[tactic(auto, unfolding(crate::specs::Tests::weights_ok))]
 pub fn weights_ok(weights: Weights) -> bool
     ensures { result ≡ weights_ok weights }
 {
-    if !is_weight(weights.level) {
-        return false;
-    }
-    if !is_weight(weights.pause) {
-        return false;
-    }
-    if !is_weight(weights.target) {
-        return false;
-    }
-    if !is_weight(weights.short) {
-        return false;
-    }
-    if !is_cut_cost(weights.cut) {
-        return false;
-    }
-    is_reference(weights.pause_ref)
+    is_weight(weights.level)
+        && is_weight(weights.pause)
+        && is_weight(weights.target)
+        && is_weight(weights.short)
+        && is_cut_cost(weights.cut)
+        && is_reference(weights.pause_ref)
 }

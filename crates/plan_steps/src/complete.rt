@@ -11,7 +11,7 @@ ghost use Rattle.plan_steps.specs.Held.{front_of, SpanHeld, CollectRoom};
 ghost use Rattle.plan_steps.specs.Complete.{bridged_held, CompletedIs};
 ghost use Rattle.plan_steps.specs.Steps.{cuts_added};
 
-use base_code::{layout, sizes};
+use base_code::layout::Layout;
 use candidate_span::held::HeldSpan;
 use candidate_span::kept;
 use candidate_walk::collect;
@@ -38,10 +38,11 @@ pub fn complete_by_length(
         work_u32.new work_f64.new }
 {
     let n = x.padding.frames;
-    let marks = layout::marks_at(n);
-    let entries = layout::entries_at(n);
-    let found = collect::collect(x, span, &mut *work_u32, &mut *work_f64);
-    bridge::complete_max(g, marks, entries, found - 1, max, &mut *work_u32);
+    let places = Layout { frames: n };
+    let marks = places.marks_at();
+    let entries = places.entries_at();
+    let found = collect::collect(x, span, work_u32, work_f64);
+    bridge::complete_max(g, marks, entries, found - 1, max, work_u32);
     collect::collect(x, span, work_u32, work_f64)
 }
 
@@ -55,14 +56,14 @@ fn mark_cuts(x: Ground, count: usize, limit: u64, work_u32: &mut [u32])
         (span_in x.gap x.padding x.span (take (2 * x.span.silences) work_u32.old)) count limit)
         work_u32.old }
 {
-    let g = x.grid;
-    let gap = x.gap;
-    let base = layout::marks_at(g.frames);
-    let span = x.span;
-    let silences = &work_u32[..2 * span.silences];
-    let frames = kept::kept_frames(gap, x.padding, span.first, span.last, silences);
-    let pieces = sizes::lesser(count, frames);
-    far::mark_far(x, base, pieces, limit, &mut *work_u32);
+    let places = Layout {
+        frames: x.grid.frames,
+    };
+    let base = places.marks_at();
+    let silences = &work_u32[..2 * x.span.silences];
+    let frames = kept::kept_frames(x.gap, x.padding, x.span.first, x.span.last, silences);
+    let pieces = count.min(frames);
+    far::mark_far(x, base, pieces, limit, work_u32);
     shares::mark_shares(x, base, frames, pieces, work_u32);
 }
 
@@ -90,16 +91,14 @@ pub fn complete_by_count(
     ensures { CompletedIs x g max count span work_u32.old work_f64.old
         work_u32.new work_f64.new result }
 {
-    let gap = x.gap;
-    let padding = x.padding;
     let ground = Ground {
         grid: g,
-        gap,
-        padding,
+        gap: x.gap,
+        padding: x.padding,
         span,
     };
     let limit = reach::reach(ground, &work_u32[..2 * span.silences], count, max);
-    mark_cuts(ground, count, limit, &mut *work_u32);
+    mark_cuts(ground, count, limit, work_u32);
     let candidates = collect::collect(x, span, work_u32, work_f64);
     Completed { limit, candidates }
 }

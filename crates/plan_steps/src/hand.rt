@@ -6,8 +6,9 @@ ghost use Rattle.plan_lists.specs.Positions.{entries_in};
 ghost use Rattle.plan_path.specs.Search.{lefts_in, rights_in};
 ghost use Rattle.plan_steps.specs.Hand.{path_in, HandRoom};
 
-use base_code::layout;
+use base_code::layout::Layout;
 use grid::FrameGrid;
+use path_pieces::ends::Ends;
 use plan_pieces::answer::Answer;
 use plan_pieces::output;
 
@@ -33,12 +34,16 @@ pub fn hand_out_held(
         (path_in g.frames len work_u32.now))
         (output_of pieces.old cuts.old) }
 {
-    let rights = layout::rights_at(g.frames);
-    let entries = layout::entries_at(g.frames);
-    let path = layout::path_at(g.frames);
+    let places = Layout { frames: g.frames };
+    let rights = places.rights_at();
+    let entries = places.entries_at();
+    let path = places.path_at();
+    let ends = Ends {
+        left: &work_u64[..k],
+        right: &work_u64[rights..rights + k],
+    };
     output::hand_out(
-        &work_u64[..k],
-        &work_u64[rights..rights + k],
+        &ends,
         &work_u32[entries..entries + 3 * k],
         &work_u32[path..path + len],
         min,

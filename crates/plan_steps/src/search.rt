@@ -9,6 +9,7 @@ use plan_lists::positions;
 use plan_path::search;
 
 // By length.
+// Two functions and not one over both modes: each asks a search of its own, which promises another best path and score.
 pub fn search_by_length(
     g: FrameGrid,
     k: usize,
@@ -22,8 +23,8 @@ pub fn search_by_length(
         work_u32.old work_u64.old work_f64.old
         work_u32.new work_u64.new work_f64.new result }
 {
-    positions::positions(g, k, &*work_u32, &mut *work_u64);
-    search::search_by_length(g.frames, k, lengths, work_u32, &*work_u64, work_f64)
+    positions::positions(g, k, work_u32, work_u64);
+    search::search_by_length(g.frames, k, lengths, work_u32, work_u64, work_f64)
 }
 
 // By count. The parent list has an entry for each piece and candidate.
@@ -43,8 +44,8 @@ pub fn search_by_count(
         work_u32.old work_u64.old work_f64.old
         work_u32.new work_u64.new work_f64.new result }
 {
-    positions::positions(g, k, &*work_u32, &mut *work_u64);
+    positions::positions(g, k, work_u32, work_u64);
     search::search_by_count(
-        g.frames, k, lengths, count, work_u32, &*work_u64, work_f64, parent,
+        g.frames, k, lengths, count, work_u32, work_u64, work_f64, parent,
     )
 }

@@ -1,5 +1,5 @@
 -- What the tests of a plan leave for the work: bounded grids and durations, levels on their scale, room in the work lists.
-use Rattle.std.specs.Prelude.{◌≡◌, true, ◌&&◌, List, ℕ, ◌+◌, ◌≤◌, ◌<◌, ltb, leb, Float, length}
+use Rattle.std.specs.Prelude.{◌≡◌, true, ◌&&◌, List, ℕ, ◌+◌, ◌≤◌, ◌<◌, ltb, leb, Float, length, Ok}
 use Rattle.std.proofs.Common.{sym, ap, ◌∙◌, ltb-true, leb-true}
 use Rattle.base_laws.specs.Tests.{both}
 use Rattle.base_code.specs.WorkLaws.{WorkIn, work_parts}
@@ -31,7 +31,6 @@ use Rattle.candidate_costs.specs.Within.{Levelled, levels_scaled, smoothing-fram
 use Rattle.plan_tests.specs.Refusal.{piece_lengths_ok, all_durations_ok, first_refusal_of}
 use Rattle.plan_tests.specs.Fitting.{Fitting}
 use Rattle.plan_tests.specs.RefusalLaws.{TestsPassed, passed, valid_passed, valid_few}
-use Rattle.plan_tests.specs.declared.refusal.Verdict.TheVariants.{Fine}
 
 -- test 7 for what a piece should last, taken apart
 pub record Preferring (least target most : ℕ) : Type 0 where
@@ -130,7 +129,7 @@ module _ (r : Recording) (segment : SegmentConfig) (settings : PlanConfig) (valu
       }
 
   -- so does a call in which no test fails
-  pub fine_ready : first_refusal_of r segment settings values flags levels n32 n64 nf ≡ Fine → PlanReady r segment settings values flags levels n32 n64 nf
+  pub fine_ready : first_refusal_of r segment settings values flags levels n32 n64 nf ≡ Ok tt → PlanReady r segment settings values flags levels n32 n64 nf
   fine_ready e = passed_ready (passed r segment settings values flags levels n32 n64 nf e)
 
   -- the levels are on their scale, where the lists hold what their types say

@@ -1,15 +1,18 @@
 // Test 7, and the chain of all tests before 14.
 ghost use Rattle.std.specs.Prelude.{◌≡◌};
 ghost use Rattle.plan_tests.specs.Refusal.{piece_lengths_ok, all_durations_ok, first_refusal_of, number_of};
+ghost use Rattle.plan_tests.specs.declared.refusal.Refusal.TheVariants.{BadRecording};
 
-use grid::validate::{Recording, Validity};
+use grid::durations::MAX_DURATION;
+use grid::validate::Recording;
+use grid::{Readings, validate};
 use plan_settings::config::PlanConfig;
 use silence_list::config::SegmentConfig;
 
 // Why a test fails.
-#[derive(Clone, Copy)]
+#[derive(Clone, Copy, Debug, PartialEq, Eq)]
 pub enum Refusal {
-    BadRecording(Validity),
+    BadRecording(validate::Refusal),
     BadDurations,
     BadCount,
     BadRatio,
@@ -18,51 +21,47 @@ pub enum Refusal {
     ShortWork,
 }
 
-// What the tests say: that none fails, or the first that does.
-#[derive(Clone, Copy)]
-pub enum Verdict {
-    Fine,
-    Fails(Refusal),
+// A recording that is refused makes the first test fail.
+impl From<validate::Refusal> for Refusal {
+    ghost from_gives = { λ x r. r ≡ BadRecording x };
+
+    fn from(x: validate::Refusal) -> Refusal {
+        Refusal::BadRecording(x)
+    }
 }
 
 // Document 01's number for each case.
-pub fn number(r: Refusal) -> u32
-    ensures { result ≡ number_of r }
-{
-    match r {
-        Refusal::BadRecording(validity) => grid::validate::refusal(validity),
-        Refusal::BadDurations => 7,
-        Refusal::BadCount => 8,
-        Refusal::BadRatio => 9,
-        Refusal::BadWeights => 10,
-        Refusal::BadThreshold => 11,
-        Refusal::ShortWork => 13,
+impl From<Refusal> for u32 {
+    ghost from_gives = { λ r n. n ≡ number_of r };
+
+    fn from(r: Refusal) -> u32 {
+        match r {
+            Refusal::BadRecording(x) => u32::from(x),
+            Refusal::BadDurations => 7,
+            Refusal::BadCount => 8,
+            Refusal::BadRatio => 9,
+            Refusal::BadWeights => 10,
+            Refusal::BadThreshold => 11,
+            Refusal::ShortWork => 13,
+        }
     }
 }
 
 // Test 7 for what a piece should last.
+#[tactic(auto, unfolding(crate::specs::Refusal::piece_lengths_ok))]
 fn piece_lengths_ok(min: u64, target: u64, max: u64) -> bool
     ensures { result ≡ piece_lengths_ok min target max }
 {
-    if grid::durations::MAX_DURATION < min {
-        return false;
-    }
-    if grid::durations::MAX_DURATION < target {
-        return false;
-    }
-    if grid::durations::MAX_DURATION < max {
-        return false;
-    }
-    if target == 0 {
-        return false;
-    }
-    if target < min {
-        return false;
-    }
-    target <= max
+    min <= MAX_DURATION
+        && target <= MAX_DURATION
+        && max <= MAX_DURATION
+        && target != 0
+        && min <= target
+        && target <= max
 }
 
 // Test 7.
+#[tactic(auto, unfolding(crate::specs::Refusal::all_durations_ok))]
 fn all_durations_ok(segment: SegmentConfig, settings: PlanConfig) -> bool
     ensures { result ≡ all_durations_ok segment settings }
 {
@@ -71,44 +70,37 @@ fn all_durations_ok(segment: SegmentConfig, settings: PlanConfig) -> bool
 }
 
 // The tests in document 01's order. It reads the recording alone, and of work memory its lengths.
+#[tactic(auto, unfolding(crate::specs::Refusal::first_refusal_of))]
 pub fn first_refusal(
     r: Recording,
     segment: SegmentConfig,
     settings: PlanConfig,
-    values: &[f32],
-    flags: &[u8],
-    levels: &[f64],
+    readings: &Readings,
     n32: usize,
     n64: usize,
     nf: usize,
-) -> Verdict
+) -> Result<(), Refusal>
     ensures { result ≡ first_refusal_of r segment settings
-        values.now flags.now levels.now n32 n64 nf }
+        readings.now.values.now readings.now.flags.now readings.now.levels.now n32 n64 nf }
 {
-    let validity = r.validate(values, flags, levels);
-    if !grid::validate::is_valid(validity) {
-        return Verdict::Fails(Refusal::BadRecording(validity));
-    }
+    r.validate(readings)?;
     if !all_durations_ok(segment, settings) {
-        return Verdict::Fails(Refusal::BadDurations);
+        return Err(Refusal::BadDurations);
     }
-    let mode = settings.mode;
-    if !path_tests::refusal::count_ok(mode) {
-        return Verdict::Fails(Refusal::BadCount);
+    if !path_tests::refusal::count_ok(settings.mode) {
+        return Err(Refusal::BadCount);
     }
-    let placement = settings.placement;
-    if !plan_settings::tests::ratio_ok(placement) {
-        return Verdict::Fails(Refusal::BadRatio);
+    if !plan_settings::tests::ratio_ok(settings.placement) {
+        return Err(Refusal::BadRatio);
     }
     if !plan_settings::tests::weights_ok(settings.weights) {
-        return Verdict::Fails(Refusal::BadWeights);
+        return Err(Refusal::BadWeights);
     }
-    let threshold = segment.threshold;
-    if !silence_list::config::threshold_ok(threshold) {
-        return Verdict::Fails(Refusal::BadThreshold);
+    if !silence_list::config::threshold_ok(segment.threshold) {
+        return Err(Refusal::BadThreshold);
     }
-    if !base_code::work::work_ok(values.len() + 1, n32, n64, nf) {
-        return Verdict::Fails(Refusal::ShortWork);
+    if !base_code::work::work_ok(readings.values.len() + 1, n32, n64, nf) {
+        return Err(Refusal::ShortWork);
     }
-    Verdict::Fine
+    Ok(())
 }

@@ -1,6 +1,6 @@
 -- A plan of a span that is not empty, by length and by count: its path is the best one over a plan's candidates, so demands 2 and 3 hold of it.
 -- The first candidates are document 01's (`candidates_in`); the tests before 14 and the types of the lists give what the theorems of the crates below ask.
-use Rattle.std.specs.Prelude.{◌≡◌, refl, ◌⊎◌, true, false, eqb, Float}
+use Rattle.std.specs.Prelude.{◌≡◌, refl, ◌⊎◌, true, false, eqb, Float, Err}
 use Rattle.std.proofs.Math.Path.{sym, ap, subst}
 use Rattle.std.proofs.Common.{◌∙◌, inl, inr, mul_comm, mul-le-mul, arith}
 use mathlib.Core.List.{List, [], ◌++◌, append-nil, Memᴰ}
@@ -67,7 +67,7 @@ use Rattle.plan_division.proofs.PlanTheorems.{plan_searchable, first_plan, secon
 use Rattle.plan_lengths.specs.PlanLengths.{minimum_in, maximum_in, lengths_with, lengths_by_length, lengths_by_count}
 use Rattle.plan_lengths.specs.PlanLengthsLaws.{ready_timed, by_length_preferred, by_count_preferred}
 use Rattle.plan_pieces.specs.Output.{Output, handed_of}
-use Rattle.plan_pieces.specs.declared.answer.Answer.TheVariants.{ShortParent}
+use Rattle.plan_pieces.specs.declared.answer.Error.TheVariants.{ShortParent}
 use Rattle.plan_lists.specs.Parents.{has_parents}
 use Rattle.plan_modes.specs.Plan.{completed_by_length, path_by_length, suffices, completed_by_count, plan_by_count}
 use Rattle.planner.specs.Operation.{candidates_with}
@@ -456,7 +456,7 @@ module _ (r : Recording) (segment : SegmentConfig) (settings : PlanConfig) (valu
 
         -- 14 where its condition holds
         pub short_given : Fitting values levels → (cs : List Candidate) → SoughtOver r segment settings values flags levels count cs
-            → parents < min count (length cs - 1) * length cs → (out : Output) → plan_by_count g settings s with count parents out ≡ handed_of ShortParent out
+            → parents < min count (length cs - 1) * length cs → (out : Output) → plan_by_count g settings s with count parents out ≡ handed_of (Err ShortParent) out
         short_given f cs made.at_first h out =
             short-at-first g settings s with count parents
             (too_few count (length (with [])) parents (subst (λ (ds : List Candidate). parents < min count (length ds - 1) * length ds) (sym none-added) h)) out

@@ -1,5 +1,5 @@
--- Document 02's S-5, of every answer `Planned` and the output that goes with it: what the short flag says of the last of several pieces, of a plan's only one, and of every other.
-use Rattle.std.specs.Prelude.{◌≡◌, Bool, false, List, ℕ, suc, ◌-◌, ◌≤◌, ◌<◌, Float, length}
+-- Document 02's S-5, of every answer `Ok` and the output that goes with it: what the short flag says of the last of several pieces, of a plan's only one, and of every other.
+use Rattle.std.specs.Prelude.{◌≡◌, Bool, false, List, ℕ, suc, ◌-◌, ◌≤◌, ◌<◌, Float, length, Ok}
 use Rattle.std.proofs.Common.{ap, ◌∙◌, arith}
 use Rattle.base_terms.specs.Work.{Work}
 use Rattle.grid.specs.Validate.{grid_of}
@@ -11,13 +11,12 @@ use Rattle.plan_lengths.specs.PlanLengths.{minimum_in}
 use Rattle.plan_pieces.specs.Flags.{has_short, is_shorter, is_tail, IsShort}
 use Rattle.plan_pieces.specs.FlagsLaws.{tail_alone, tail_last, tail_before}
 use Rattle.plan_pieces.specs.Output.{Output}
-use Rattle.plan_pieces.specs.declared.answer.Answer.TheVariants.{Planned}
 use Rattle.planner.specs.Operation.{plan_of}
 use Rattle.plan_theorems.specs.Made.{flags_at, length_at}
 use Rattle.plan_theorems.proofs.Theorems.{plan_made, made_of_span}
 
 module _ (r : Recording) (segment : SegmentConfig) (settings : PlanConfig) (values : List Float) (flags : List ℕ) (levels : List Float) (out : Output) (work : Work) (parent : List ℕ)
-    (f : Fitting values levels) (k : ℕ) (planned : (plan_of r segment settings values flags levels out work parent).answer ≡ Planned k)
+    (f : Fitting values levels) (k : ℕ) (planned : (plan_of r segment settings values flags levels out work parent).answer ≡ Ok k)
   where
     abbrev after : Output
     after = (plan_of r segment settings values flags levels out work parent).out

@@ -1,5 +1,5 @@
 -- The theorems of the operation Plan, in the words of Made.
---   plan-made    of every answer `Planned`, with no hypothesis but the answer and, for a span that is not empty, what the types of the lists say (`Fitting`):
+--   plan-made    of every answer `Ok`, with no hypothesis but the answer and, for a span that is not empty, what the types of the lists say (`Fitting`):
 --                demand 2, where the candidates lie, demand 3 by count and by length, pieces plus what lies between them, no more of them than frames, flags, the empty span
 --   plan-ended   of every call: what is untouched, what is zeroed, that an empty span has the empty plan, that 14 and 12 come under their conditions only and wherever they hold,
 --                12 never where there is room for a piece at each frame, 14 never where there are (frames + 1) × min(N, frames) parents,
@@ -9,7 +9,7 @@
 -- Of the reach and the greedy division which they name, division has
 --   reach-one (division/specs/ReachLaws)       two limits that are the reach are one
 --   greedy_ahead (division/proofs/AheadLaws)   cut by cut the greedy division is nowhere behind any division that keeps its limit; by greedy-one there is only one
-use Rattle.std.specs.Prelude.{◌≡◌, refl, ◌⊎◌, Bool, true, false, List, ℕ, ◌+◌, ◌*◌, ◌≤◌, ◌<◌, min, Float, length, replicate}
+use Rattle.std.specs.Prelude.{◌≡◌, refl, ◌⊎◌, Bool, true, false, List, ℕ, ◌+◌, ◌*◌, ◌≤◌, ◌<◌, min, Float, length, replicate, Ok, Err, Result}
 use Rattle.std.proofs.Common.{sym, subst, ◌∙◌, inl, inr, arith}
 use Rattle.std.proofs.Math.Path.{ap}
 use Rattle.std.proofs.lemmas.List.{length-replicate}
@@ -34,14 +34,12 @@ use Rattle.plan_tests.specs.PlanReady.{PlanReady, fine_ready}
 use Rattle.plan_tests.specs.Refusal as tests
 use Rattle.plan_tests.specs.RefusalLaws.{fails_some}
 use Rattle.plan_tests.specs.declared.refusal.Refusal.{Refusal}
-use Rattle.plan_tests.specs.declared.refusal.Verdict.{Verdict}
-use Rattle.plan_tests.specs.declared.refusal.Verdict.TheVariants.{Fine, Fails}
 use Rattle.candidate_finder.specs.SpanIn.{empty_in, padding_in}
 use Rattle.plan_pieces.specs.Answer.{number_of}
 use Rattle.plan_pieces.specs.AnswerLaws.{Numbered, number_zero}
 use Rattle.plan_pieces.specs.Output.{Output, output_of, Handed, handed_of, pick}
-use Rattle.plan_pieces.specs.declared.answer.Answer.{Answer}
-use Rattle.plan_pieces.specs.declared.answer.Answer.TheVariants.{Planned, Refused, ShortParent, ShortOutput}
+use Rattle.plan_pieces.specs.Answer.{Answer}
+use Rattle.plan_pieces.specs.declared.answer.Error.TheVariants.{Refused, ShortParent, ShortOutput}
 use Rattle.plan_modes.specs.Plan.{plan_by}
 use Rattle.planner.specs.Operation.{End, end_after, candidates_with, planned_of, plan_of}
 use Rattle.plan_theorems.specs.Made.{HasRoom, PlanWritten, ReachExists, MadeOfSpan, Made, FewParents, Ended}
@@ -59,14 +57,14 @@ counted e = cc
 
 -- 14 and 12
 abbrev is_later : Answer → Bool
-is_later (Planned k) = false
-is_later (Refused v) = false
-is_later ShortParent = true
-is_later ShortOutput = true
+is_later (Ok k) = false
+is_later (Err (Refused v)) = false
+is_later (Err ShortParent) = true
+is_later (Err ShortOutput) = true
 
 module _ (r : Recording) (segment : SegmentConfig) (settings : PlanConfig) (values : List Float) (flags : List ℕ) (levels : List Float) (work : Work) (parent : List ℕ) where
   -- the first test that fails
-  abbrev verdict : Verdict
+  abbrev verdict : Result Unit Refusal
   verdict = tests.first_refusal_of r segment settings values flags levels (length work.u32s) (length work.u64s) (length work.f64s)
 
   -- the span is empty
@@ -89,10 +87,10 @@ module _ (r : Recording) (segment : SegmentConfig) (settings : PlanConfig) (valu
   abbrev planned : Output → Handed
   planned o = planned_of r segment settings values flags levels (length parent) o
 
-  abbrev call_by : Verdict → Output → End
+  abbrev call_by : Result Unit Refusal → Output → End
   call_by v o = end_after v (planned o) o work parent
 
-  is_call : (v : Verdict) → verdict ≡ v → (o : Output) → call o ≡ call_by v o
+  is_call : (v : Result Unit Refusal) → verdict ≡ v → (o : Output) → call o ≡ call_by v o
   unfolding plan_of
   is_call v e o = rw e
 
@@ -107,7 +105,7 @@ module _ (r : Recording) (segment : SegmentConfig) (settings : PlanConfig) (valu
   handed o = handed_by g settings reached.end o
 
   abbrev planned_by : Bool → Output → Handed
-  planned_by b o = pick b (handed_of (Planned 0) o) (handed o)
+  planned_by b o = pick b (handed_of (Ok 0) o) (handed o)
 
   is_planned : (b : Bool) → is_empty ≡ b → (o : Output) → planned o ≡ planned_by b o
   unfolding planned_of
@@ -122,27 +120,27 @@ module _ (r : Recording) (segment : SegmentConfig) (settings : PlanConfig) (valu
   ending : (o : Output) → AnswerEnds o (planned o)
   ending o = subst (AnswerEnds o) (sym (is_planned is_empty refl o)) (planned_ending is_empty o)
 
-  numbered : (v : Verdict) → verdict ≡ v → (o : Output) → Numbered (call_by v o).answer
-  numbered Fine e o = (ending o).numbered
-  numbered (Fails x) e o = fails_some r segment settings values flags levels (length work.u32s) (length work.u64s) (length work.f64s) x e
+  numbered : (v : Result Unit Refusal) → verdict ≡ v → (o : Output) → Numbered (call_by v o).answer
+  numbered (Ok u) e o = (ending o).numbered
+  numbered (Err x) e o = fails_some r segment settings values flags levels (length work.u32s) (length work.u64s) (length work.f64s) x e
 
-  left_alone : (v : Verdict) (o : Output) → ((k : ℕ) → (call_by v o).answer ≡ Planned k → ⊥) → (call_by v o).out ≡ o
-  left_alone Fine o never = (ending o).untouched never
-  left_alone (Fails x) o never = refl
+  left_alone : (v : Result Unit Refusal) (o : Output) → ((k : ℕ) → (call_by v o).answer ≡ Ok k → ⊥) → (call_by v o).out ≡ o
+  left_alone (Ok u) o never = (ending o).untouched never
+  left_alone (Err x) o never = refl
 
   -- a refusal before 14 is that of the first test which fails
-  refused_first : (v : Verdict) (o : Output) (x : Refusal) → (call_by v o).answer ≡ Refused x → v ≡ Fails x
-  refused_first Fine o x e = absurd ((ending o).unrefused x e)
-  refused_first (Fails y) o x e = let same : y ≡ x = cc in ap Fails same
+  refused_first : (v : Result Unit Refusal) (o : Output) (x : Refusal) → (call_by v o).answer ≡ Err (Refused x) → v ≡ Err x
+  refused_first (Ok u) o x e = absurd ((ending o).unrefused x e)
+  refused_first (Err y) o x e = let same : y ≡ x = cc in ap (λ (t : Refusal). Err t) same
 
   -- a plan is made, or refused later, where the tests pass
-  made_passed : (v : Verdict) (o : Output) (k : ℕ) → (call_by v o).answer ≡ Planned k → v ≡ Fine
-  made_passed Fine o k e = refl
-  made_passed (Fails x) o k e = let z : ◌≡◌ {A = ℕ} 0 1 = cc in absurd (omega arith)
+  made_passed : (v : Result Unit Refusal) (o : Output) (k : ℕ) → (call_by v o).answer ≡ Ok k → v ≡ Ok tt
+  made_passed (Ok u) o k e = refl
+  made_passed (Err x) o k e = let z : ◌≡◌ {A = ℕ} 0 1 = cc in absurd (omega arith)
 
-  later-passed : (v : Verdict) (o : Output) → is_later (call_by v o).answer ≡ true → v ≡ Fine
-  later-passed Fine o e = refl
-  later-passed (Fails x) o e = unmet e
+  later-passed : (v : Result Unit Refusal) (o : Output) → is_later (call_by v o).answer ≡ true → v ≡ Ok tt
+  later-passed (Ok u) o e = refl
+  later-passed (Err x) o e = unmet e
 
   -- and refused later where the span is not empty
   later_full : (b : Bool) (o : Output) → is_later (planned_by b o).answer ≡ true → b ≡ false
@@ -151,41 +149,41 @@ module _ (r : Recording) (segment : SegmentConfig) (settings : PlanConfig) (valu
 
   -- a later refusal: that of the end which is reached
   record Later (o : Output) : Type 0 where
-    fine : verdict ≡ Fine
+    fine : verdict ≡ Ok tt
     full : is_empty ≡ false
     is : (room : Output) → (call room).answer ≡ (handed room).answer
 
   later : (o : Output) → is_later (call o).answer ≡ true → Later o
   later o e = record { fine = fine; full = full; is = λ room. answer room ∙ ap (λ (h : Handed). h.answer) (is_planned false full room) }
     where
-      fine : verdict ≡ Fine
+      fine : verdict ≡ Ok tt
       fine = later-passed verdict o (sym (ap (λ (x : End). is_later x.answer) (is_call verdict refl o)) ∙ e)
 
       answer : (room : Output) → (call room).answer ≡ (planned room).answer
-      answer room = ap (λ (x : End). x.answer) (is_call Fine fine room)
+      answer room = ap (λ (x : End). x.answer) (is_call (Ok tt) fine room)
 
       full : is_empty ≡ false
       full =
           later_full is_empty o
           (sym (ap is_later (answer o) ∙ ap (λ (h : Handed). is_later h.answer) (is_planned is_empty refl o)) ∙ e)
 
-  ready : verdict ≡ Fine → PlanReady r segment settings values flags levels (length work.u32s) (length work.u64s) (length work.f64s)
+  ready : verdict ≡ Ok tt → PlanReady r segment settings values flags levels (length work.u32s) (length work.u64s) (length work.f64s)
   ready fine = fine_ready r segment settings values flags levels (length work.u32s) (length work.u64s) (length work.f64s) fine
 
   -- 14
-  few : (fine : verdict ≡ Fine) (full : is_empty ≡ false) (m : Mode) → settings.mode ≡ m → ModeEnd g settings s with (length parent) m short_parent
+  few : (fine : verdict ≡ Ok tt) (full : is_empty ≡ false) (m : Mode) → settings.mode ≡ m → ModeEnd g settings s with (length parent) m short_parent
       → FewParents r segment settings values flags levels (length parent)
   few fine full ByLength e made = elim made [ ]
   few fine full (ByCount count) e (by_count c) =
       few_made r segment settings values flags levels (length work.u32s) (length work.u64s) (length work.f64s) (ready fine) full count e (length parent) c
 
   -- where the tests pass and the span is not empty, the call is that of the mode
-  mode_call : verdict ≡ Fine → is_empty ≡ false → (m : Mode) → settings.mode ≡ m → (o : Output) → (call o).answer ≡ (plan_by g settings s with m (length parent) o).answer
+  mode_call : verdict ≡ Ok tt → is_empty ≡ false → (m : Mode) → settings.mode ≡ m → (o : Output) → (call o).answer ≡ (plan_by g settings s with m (length parent) o).answer
   unfolding planned_of
-  mode_call fine full m e o = ap (λ (x : End). x.answer) (is_call Fine fine o) ∙ rw (full, e)
+  mode_call fine full m e o = ap (λ (x : End). x.answer) (is_call (Ok tt) fine o) ∙ rw (full, e)
 
   -- 14 where its condition holds
-  gives_short : verdict ≡ Fine → is_empty ≡ false → Fitting values levels → FewParents r segment settings values flags levels (length parent) → (o : Output) → (call o).answer ≡ ShortParent
+  gives_short : verdict ≡ Ok tt → is_empty ≡ false → Fitting values levels → FewParents r segment settings values flags levels (length parent) → (o : Output) → (call o).answer ≡ Err ShortParent
   unfolding plan_by
   gives_short fine full f t o =
       mode_call fine full (ByCount t.count) t.asked o
@@ -195,16 +193,16 @@ module _ (r : Recording) (segment : SegmentConfig) (settings : PlanConfig) (valu
 
   -- ---- every plan
 
-  module _ (out : Output) (k : ℕ) (made : (call out).answer ≡ Planned k) where
-    made_fine : verdict ≡ Fine
+  module _ (out : Output) (k : ℕ) (made : (call out).answer ≡ Ok k) where
+    made_fine : verdict ≡ Ok tt
     made_fine = made_passed verdict out k (sym (ap (λ (x : End). x.answer) (is_call verdict refl out)) ∙ made)
 
     -- answer and output, where the span is empty or not
-    made_answer : (b : Bool) → is_empty ≡ b → (planned_by b out).answer ≡ Planned k
-    made_answer b e = sym (ap (λ (x : End). x.answer) (is_call Fine made_fine out) ∙ ap (λ (h : Handed). h.answer) (is_planned b e out)) ∙ made
+    made_answer : (b : Bool) → is_empty ≡ b → (planned_by b out).answer ≡ Ok k
+    made_answer b e = sym (ap (λ (x : End). x.answer) (is_call (Ok tt) made_fine out) ∙ ap (λ (h : Handed). h.answer) (is_planned b e out)) ∙ made
 
     made_out : (b : Bool) → is_empty ≡ b → (call out).out ≡ (planned_by b out).out
-    made_out b e = ap (λ (x : End). x.out) (is_call Fine made_fine out) ∙ ap (λ (h : Handed). h.out) (is_planned b e out)
+    made_out b e = ap (λ (x : End). x.out) (is_call (Ok tt) made_fine out) ∙ ap (λ (h : Handed). h.out) (is_planned b e out)
 
     empty_made : is_empty ≡ true → (k ≡ 0) × ((call out).out ≡ out)
     empty_made e =
@@ -287,19 +285,19 @@ module _ (r : Recording) (segment : SegmentConfig) (settings : PlanConfig) (valu
   -- ---- every call
 
   module _ (out : Output) where
-    said_short : (call out).answer ≡ ShortParent → FewParents r segment settings values flags levels (length parent)
+    said_short : (call out).answer ≡ Err ShortParent → FewParents r segment settings values flags levels (length parent)
     said_short e =
         let l = later out (ap is_later e) in
         few l.fine l.full settings.mode refl
         (subst (ModeEnd g settings s with (length parent) settings.mode) (parent-end g settings reached.end out (sym (l.is out) ∙ e)) reached.kind)
 
-    said_room : (call out).answer ≡ ShortOutput → (k : ℕ) × (HasRoom k out → ⊥) × ((room : Output) → HasRoom k room → (call room).answer ≡ Planned k)
+    said_room : (call out).answer ≡ Err ShortOutput → (k : ℕ) × (HasRoom k out → ⊥) × ((room : Output) → HasRoom k room → (call room).answer ≡ Ok k)
     said_room e =
         let l = later out (ap is_later e) in
         let q = room-end g settings reached.end out (sym (l.is out) ∙ e) in
         (q.0, q.1, λ room h. l.is room ∙ q.2 room h)
 
-    said_roomy : Fitting values levels → HasRoom (length values) out → (call out).answer ≡ ShortOutput → ⊥
+    said_roomy : Fitting values levels → HasRoom (length values) out → (call out).answer ≡ Err ShortOutput → ⊥
     said_roomy f (p, c) e =
         let q = said_room e in
         let k = q.0 in
@@ -309,17 +307,17 @@ module _ (r : Recording) (segment : SegmentConfig) (settings : PlanConfig) (valu
         q.1 (omega (arith, few, p), omega (arith, few, c))
 
     -- 12 where another output, that has room, gets a plan of more pieces than this one has room for
-    gives_room : (k : ℕ) (room : Output) → (call room).answer ≡ Planned k → (HasRoom k out → ⊥) → (call out).answer ≡ ShortOutput
+    gives_room : (k : ℕ) (room : Output) → (call room).answer ≡ Ok k → (HasRoom k out → ⊥) → (call out).answer ≡ Err ShortOutput
     gives_room k room e never = elim (tested is_empty) [
       | inl t ↦ absurd (never (let n = (empty_made room k e t).0 in (omega (arith, n), omega (arith, n))))
       | inr t ↦
           let a = along_some room k e t in
-          ap (λ (x : End). x.answer) (is_call Fine (made_fine room k e) out) ∙ ap (λ (h : Handed). h.answer) (is_planned false t out ∙ ap (λ (q : PlanEnd). handed_by g settings q out) a.is)
+          ap (λ (x : End). x.answer) (is_call (Ok tt) (made_fine room k e) out) ∙ ap (λ (h : Handed). h.answer) (is_planned false t out ∙ ap (λ (q : PlanEnd). handed_by g settings q out) a.is)
           ∙ along_refused g settings a.candidates a.path out (subst (λ (n : ℕ). HasRoom n out → ⊥) (sym a.handed.number) never)
     ]
 
     -- 14 never comes with so many parents
-    said_enough : (count : ℕ) → settings.mode ≡ ByCount count → (length values + 1) * min count (length values) ≤ length parent → (call out).answer ≡ ShortParent → ⊥
+    said_enough : (count : ℕ) → settings.mode ≡ ByCount count → (length values + 1) * min count (length values) ≤ length parent → (call out).answer ≡ Err ShortParent → ⊥
     said_enough count asked enough e =
         let l = later out (ap is_later e) in
         let t = said_short e in
@@ -330,7 +328,7 @@ module _ (r : Recording) (segment : SegmentConfig) (settings : PlanConfig) (valu
     whole : call out ≡ call_by verdict out
     whole = is_call verdict refl out
 
-    zero_made : number_of (call out).answer ≡ 0 → (k : ℕ) × ((call out).answer ≡ Planned k)
+    zero_made : number_of (call out).answer ≡ 0 → (k : ℕ) × ((call out).answer ≡ Ok k)
     zero_made e =
         let f = ap (λ (x : End). x.answer) whole in
         let m = number_zero (call_by verdict out).answer (numbered verdict refl out) (ap number_of (sym f) ∙ e) in
@@ -338,13 +336,13 @@ module _ (r : Recording) (segment : SegmentConfig) (settings : PlanConfig) (valu
 
     ended : Ended r segment settings values flags levels out work parent
     ended = record {
-      refused = λ x e. is_call (Fails x) e out;
+      refused = λ x e. is_call (Err x) e out;
       first_failed = λ x e. refused_first verdict out x (sym (ap (λ (x : End). x.answer) whole) ∙ e);
-      zeroed = λ e. (ap (λ (x : End). x.work) (is_call Fine e out), ap (λ (x : End). x.parent) (is_call Fine e out));
+      zeroed = λ e. (ap (λ (x : End). x.work) (is_call (Ok tt) e out), ap (λ (x : End). x.parent) (is_call (Ok tt) e out));
       untouched = λ never. ap (λ (x : End). x.out) whole ∙ left_alone verdict out (λ k e. never k (ap (λ (x : End). x.answer) whole ∙ e));
       empty = λ e none. (
-        ap (λ (x : End). x.answer) (is_call Fine e out) ∙ ap (λ (h : Handed). h.answer) (is_planned true none out),
-        ap (λ (x : End). x.out) (is_call Fine e out) ∙ ap (λ (h : Handed). h.out) (is_planned true none out),
+        ap (λ (x : End). x.answer) (is_call (Ok tt) e out) ∙ ap (λ (h : Handed). h.answer) (is_planned true none out),
+        ap (λ (x : End). x.out) (is_call (Ok tt) e out) ∙ ap (λ (h : Handed). h.out) (is_planned true none out),
       );
       short_parent = said_short;
       short_output = said_room;
@@ -359,8 +357,8 @@ module _ (r : Recording) (segment : SegmentConfig) (settings : PlanConfig) (valu
 -- ---- the theorems
 
 module _ (r : Recording) (segment : SegmentConfig) (settings : PlanConfig) (values : List Float) (flags : List ℕ) (levels : List Float) (out : Output) (work : Work) (parent : List ℕ) where
-  -- of every answer `Planned`
-  pub plan_made : (k : ℕ) → (plan_of r segment settings values flags levels out work parent).answer ≡ Planned k
+  -- of every answer `Ok`
+  pub plan_made : (k : ℕ) → (plan_of r segment settings values flags levels out work parent).answer ≡ Ok k
       → Made r segment settings values flags levels k out (plan_of r segment settings values flags levels out work parent).out
   plan_made k e = record {
     written = written r segment settings values flags levels work parent out k e (empty_in r segment settings values flags) refl;
@@ -375,20 +373,20 @@ module _ (r : Recording) (segment : SegmentConfig) (settings : PlanConfig) (valu
   module _ (f : Fitting values levels) (parents : (count : ℕ) → settings.mode ≡ ByCount count → (length values + 1) * min count (length values) ≤ length parent)
       (room : HasRoom (length values) out) where
     -- where parents and output are never too few for so many frames, nothing refuses but the tests
-    pub plan_tested : ((k : ℕ) × ((plan_of r segment settings values flags levels out work parent).answer ≡ Planned k))
-        ⊎ ((x : Refusal) × ((plan_of r segment settings values flags levels out work parent).answer ≡ Refused x))
+    pub plan_tested : ((k : ℕ) × ((plan_of r segment settings values flags levels out work parent).answer ≡ Ok k))
+        ⊎ ((x : Refusal) × ((plan_of r segment settings values flags levels out work parent).answer ≡ Err (Refused x)))
     plan_tested = go (plan_of r segment settings values flags levels out work parent).answer refl
       where
         go : (a : Answer) → (plan_of r segment settings values flags levels out work parent).answer ≡ a
-            → ((k : ℕ) × ((plan_of r segment settings values flags levels out work parent).answer ≡ Planned k))
-            ⊎ ((x : Refusal) × ((plan_of r segment settings values flags levels out work parent).answer ≡ Refused x))
-        go (Planned k) e = inl (k, e)
-        go (Refused x) e = inr (x, e)
-        go ShortParent e = let t = plan_ended.short_parent e in absurd (plan_ended.parents_enough t.count t.asked (parents t.count t.asked) e)
-        go ShortOutput e = absurd (plan_ended.roomy f room e)
+            → ((k : ℕ) × ((plan_of r segment settings values flags levels out work parent).answer ≡ Ok k))
+            ⊎ ((x : Refusal) × ((plan_of r segment settings values flags levels out work parent).answer ≡ Err (Refused x)))
+        go (Ok k) e = inl (k, e)
+        go (Err (Refused x)) e = inr (x, e)
+        go (Err ShortParent) e = let t = plan_ended.short_parent e in absurd (plan_ended.parents_enough t.count t.asked (parents t.count t.asked) e)
+        go (Err ShortOutput) e = absurd (plan_ended.roomy f room e)
 
     -- so where the tests up to 13 pass a plan is made
-    pub plan_sure : verdict r segment settings values flags levels work parent ≡ Fine → (k : ℕ) × ((plan_of r segment settings values flags levels out work parent).answer ≡ Planned k)
+    pub plan_sure : verdict r segment settings values flags levels work parent ≡ Ok tt → (k : ℕ) × ((plan_of r segment settings values flags levels out work parent).answer ≡ Ok k)
     plan_sure fine = elim plan_tested [
       | inl p ↦ p
       | inr p ↦ let clash = sym (plan_ended.first_failed p.0 p.1) ∙ fine in let z : ◌≡◌ {A = ℕ} 0 1 = cc in absurd (omega arith)
@@ -396,7 +394,7 @@ module _ (r : Recording) (segment : SegmentConfig) (settings : PlanConfig) (valu
 
 -- of every recording and settings, gaps kept or dropped: where the tests up to 13 pass and the span is not empty, there is a reach for any number of pieces
 pub plan_reach : (r : Recording) (segment : SegmentConfig) (settings : PlanConfig) (values : List Float) (flags : List ℕ) (levels : List Float) (n32 n64 nf : ℕ)
-    → tests.first_refusal_of r segment settings values flags levels n32 n64 nf ≡ Fine → empty_in r segment settings values flags ≡ false
+    → tests.first_refusal_of r segment settings values flags levels n32 n64 nf ≡ Ok tt → empty_in r segment settings values flags ≡ false
     → (count : ℕ) → 0 < count → ReachExists r segment settings values flags levels count
 plan_reach r segment settings values flags levels n32 n64 nf fine full =
     reach_there r segment settings values flags levels n32 n64 nf (fine_ready r segment settings values flags levels n32 n64 nf fine) full

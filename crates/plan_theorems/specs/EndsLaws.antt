@@ -1,6 +1,6 @@
 -- The ends of a plan, by the tests that lead to each and whatever the output: which of them makes a plan, along which path, and what the others say.
 use Rattle.std.proofs.Math.Path.{◌≡◌, refl}
-use Rattle.std.specs.Prelude.{Bool, List, []}
+use Rattle.std.specs.Prelude.{Bool, List, [], Ok, Err}
 use Rattle.std.proofs.Math.Bool.{true, false}
 use Rattle.std.proofs.Math.Logic.{inl, inr}
 use Prim.Native.Nat.{ℕ, ◌-◌, ◌*◌, ◌<◌, min}
@@ -23,7 +23,7 @@ use Rattle.plan_pieces.specs.PlanAlong.{plan_pieces, plan_cuts}
 use Rattle.plan_pieces.specs.Output.{Output, output_of, Handed, handed_of, pick, has_room, handed_out_of}
 use Rattle.plan_pieces.specs.OutputLaws.{room_parts}
 use Rattle.plan_pieces.specs.AnswerLaws.{Numbered}
-use Rattle.plan_pieces.specs.declared.answer.Answer.TheVariants.{Planned, Refused, ShortParent, ShortOutput}
+use Rattle.plan_pieces.specs.declared.answer.Error.TheVariants.{Refused, ShortParent, ShortOutput}
 use Rattle.plan_steps.specs.Steps.{plan_along}
 use Rattle.plan_lists.specs.Parents.{has_parents}
 use Rattle.plan_modes.specs.Plan.{completed_by_length, path_by_length, plan_by_length, path_by_count, suffices, planned_under, completed_by_count, planned_after, plan_by_count, plan_by}
@@ -43,7 +43,7 @@ room_there k out h = rw (le-leb (3 * k) (length out.pieces) h.0, le-leb (3 * (k 
 
 module _ (g : FrameGrid) (settings : PlanConfig) (cs : List Candidate) (path : List ℕ) where
   -- with room, a plan of one piece fewer than candidates
-  along_made : (out : Output) → HasRoom (length path - 1) out → (plan_along g settings cs path out).answer ≡ Planned (length path - 1)
+  along_made : (out : Output) → HasRoom (length path - 1) out → (plan_along g settings cs path out).answer ≡ Ok (length path - 1)
   unfolding handed_out_of
   along_made out h = rw (room_there (length path - 1) out h)
 
@@ -52,21 +52,21 @@ module _ (g : FrameGrid) (settings : PlanConfig) (cs : List Candidate) (path : L
     whole = output_of (onto (plan_pieces g settings cs path) out.pieces) (onto (plan_cuts g cs path) out.cuts)
 
     abbrev handed : Bool → Handed
-    handed b = pick b (handed_of (Planned (length path - 1)) whole) (handed_of ShortOutput out)
+    handed b = pick b (handed_of (Ok (length path - 1)) whole) (handed_of (Err ShortOutput) out)
 
     -- where a plan is made, it is handed out along the path
-    pub handed-along : (k : ℕ) → (plan_along g settings cs path out).answer ≡ Planned k → HandedAlong g settings cs path k out (plan_along g settings cs path out).out
+    pub handed-along : (k : ℕ) → (plan_along g settings cs path out).answer ≡ Ok k → HandedAlong g settings cs path k out (plan_along g settings cs path out).out
     unfolding handed_out_of
     handed-along k = go (has_room (length path - 1) (length out.pieces) (length out.cuts)) (room_parts (length path - 1) (length out.pieces) (length out.cuts))
       where
-        go : (b : Bool) → (b ≡ true → HasRoom (length path - 1) out) → (handed b).answer ≡ Planned k → HandedAlong g settings cs path k out (handed b).out
+        go : (b : Bool) → (b ≡ true → HasRoom (length path - 1) out) → (handed b).answer ≡ Ok k → HandedAlong g settings cs path k out (handed b).out
         go true f e =
             let n : length path - 1 ≡ k = cc in
             record { number = n; fits = (rw (← n) (f refl).0, rw (← n) (f refl).1); is = refl }
         go false f e = let z : ◌≡◌ {A = ℕ} 0 1 = cc in absurd (omega arith)
 
     -- without room it is 12
-    pub along_refused : (HasRoom (length path - 1) out → ⊥) → (plan_along g settings cs path out).answer ≡ ShortOutput
+    pub along_refused : (HasRoom (length path - 1) out → ⊥) → (plan_along g settings cs path out).answer ≡ Err ShortOutput
     unfolding handed_out_of
     along_refused never = elim (tested (has_room (length path - 1) (length out.pieces) (length out.cuts))) [
       | inl e ↦ absurd (never (room_parts (length path - 1) (length out.pieces) (length out.cuts) e))
@@ -74,7 +74,7 @@ module _ (g : FrameGrid) (settings : PlanConfig) (cs : List Candidate) (path : L
     ]
 
     -- 12 alone is said otherwise, and then there is no room
-    along-short : (plan_along g settings cs path out).answer ≡ ShortOutput → HasRoom (length path - 1) out → ⊥
+    along-short : (plan_along g settings cs path out).answer ≡ Err ShortOutput → HasRoom (length path - 1) out → ⊥
     along-short e h = let f = along_made out h in let z : ◌≡◌ {A = ℕ} 0 1 = cc in omega arith
 
 -- ---- by which tests an end is reached
@@ -87,7 +87,7 @@ pub data PlanEnd : Type 0 where
 -- what it hands out
 abbrev pub handed_by : FrameGrid → PlanConfig → PlanEnd → Output → Handed
 handed_by g settings (along cs path) out = plan_along g settings cs path out
-handed_by g settings short_parent out = handed_of ShortParent out
+handed_by g settings short_parent out = handed_of (Err ShortParent) out
 
 module _ (g : FrameGrid) (settings : PlanConfig) (s : Span) (with : List Cut → List Candidate) (count parents : ℕ) where
   abbrev maximum : ℕ
@@ -110,13 +110,13 @@ module _ (g : FrameGrid) (settings : PlanConfig) (s : Span) (with : List Cut →
   -- ---- what the tests give, whatever the output
 
   -- 14 at the first path
-  pub short-at-first : has_parents count (length (with [])) parents ≡ false → (out : Output) → plan_by_count g settings s with count parents out ≡ handed_of ShortParent out
+  pub short-at-first : has_parents count (length (with [])) parents ≡ false → (out : Output) → plan_by_count g settings s with count parents out ≡ handed_of (Err ShortParent) out
   unfolding plan_by_count
   short-at-first h out = rw h
 
   -- 14 at the second, or at the first before it
   pub short-at-second : suffices g settings s count maximum (with []) ≡ false → has_parents count (length second) parents ≡ false
-      → (out : Output) → plan_by_count g settings s with count parents out ≡ handed_of ShortParent out
+      → (out : Output) → plan_by_count g settings s with count parents out ≡ handed_of (Err ShortParent) out
   unfolding plan_by_count planned_under
   short-at-second e h out = elim (tested (has_parents count (length (with [])) parents)) [ inl t ↦ rw (t, e, h) | inr t ↦ rw t ]
 
@@ -141,7 +141,7 @@ module _ (g : FrameGrid) (settings : PlanConfig) (s : Span) (with : List Cut →
       cs = completed_by_count g settings s with count limit
 
       go : (b : Bool) → has_parents count (length cs) parents ≡ b
-          → Ends (λ (out : Output). pick (has_parents count (length cs) parents) (plan_along g settings cs (path_by_count g settings s count limit cs) out) (handed_of ShortParent out))
+          → Ends (λ (out : Output). pick (has_parents count (length cs) parents) (plan_along g settings cs (path_by_count g settings s count limit cs) out) (handed_of (Err ShortParent) out))
       go true h = record { end = along cs (path_by_count g settings s count limit cs); kind = with_reach e; is = λ out. rw h }
       go false h = record { end = short_parent; kind = second_short e h; is = λ out. rw h }
 
@@ -176,15 +176,15 @@ mode_end g settings s with parents (ByCount count) =
 
 -- where no plan is made the output is as it was, a plan alone has the number 0, and no test before 14 is named
 pub record AnswerEnds (out : Output) (h : Handed) : Type 0 where
-  pub untouched : ((k : ℕ) → h.answer ≡ Planned k → ⊥) → h.out ≡ out
+  pub untouched : ((k : ℕ) → h.answer ≡ Ok k → ⊥) → h.out ≡ out
   pub numbered : Numbered h.answer
-  pub unrefused : (x : Refusal) → h.answer ≡ Refused x → ⊥
+  pub unrefused : (x : Refusal) → h.answer ≡ Err (Refused x) → ⊥
 
 along_ending : (n : ℕ) (pieces cuts : List ℕ) (out : Output) → AnswerEnds out (handed_out_of n pieces cuts out)
 unfolding handed_out_of
 along_ending n pieces cuts out = go (has_room n (length out.pieces) (length out.cuts))
   where
-    go : (b : Bool) → AnswerEnds out (pick b (handed_of (Planned n) (output_of (onto pieces out.pieces) (onto cuts out.cuts))) (handed_of ShortOutput out))
+    go : (b : Bool) → AnswerEnds out (pick b (handed_of (Ok n) (output_of (onto pieces out.pieces) (onto cuts out.cuts))) (handed_of (Err ShortOutput) out))
     go true = record { untouched = λ never. absurd (never n refl); numbered = tt; unrefused = λ x e. let z : ◌≡◌ {A = ℕ} 0 1 = cc in omega arith }
     go false = record { untouched = λ never. refl; numbered = tt; unrefused = λ x e. let z : ◌≡◌ {A = ℕ} 0 1 = cc in omega arith }
 
@@ -203,30 +203,30 @@ pub record AlongSome (g : FrameGrid) (settings : PlanConfig) (e : PlanEnd) (k : 
   pub handed : HandedAlong g settings candidates path k before after
 
 -- a plan was made: along a path
-pub made_end : (g : FrameGrid) (settings : PlanConfig) (e : PlanEnd) (k : ℕ) (out : Output) → (handed_by g settings e out).answer ≡ Planned k → AlongSome g settings e k out (handed_by g settings e out).out
+pub made_end : (g : FrameGrid) (settings : PlanConfig) (e : PlanEnd) (k : ℕ) (out : Output) → (handed_by g settings e out).answer ≡ Ok k → AlongSome g settings e k out (handed_by g settings e out).out
 made_end g settings (along cs path) k out q = record { candidates = cs; path = path; is = refl; handed = handed-along g settings cs path out k q }
 made_end g settings short_parent k out q = let z : ◌≡◌ {A = ℕ} 0 1 = cc in absurd (omega arith)
 
 -- along a path, nothing but 12 refuses
-along-answer : (n : ℕ) (pieces cuts : List ℕ) (out : Output) → (handed_out_of n pieces cuts out).answer ≡ ShortParent → ⊥
+along-answer : (n : ℕ) (pieces cuts : List ℕ) (out : Output) → (handed_out_of n pieces cuts out).answer ≡ Err ShortParent → ⊥
 unfolding handed_out_of
 along-answer n pieces cuts out = go (has_room n (length out.pieces) (length out.cuts))
   where
     answered : Bool → Handed
-    answered b = pick b (handed_of (Planned n) (output_of (onto pieces out.pieces) (onto cuts out.cuts))) (handed_of ShortOutput out)
+    answered b = pick b (handed_of (Ok n) (output_of (onto pieces out.pieces) (onto cuts out.cuts))) (handed_of (Err ShortOutput) out)
 
-    go : (b : Bool) → (answered b).answer ≡ ShortParent → ⊥
+    go : (b : Bool) → (answered b).answer ≡ Err ShortParent → ⊥
     go true e = let z : ◌≡◌ {A = ℕ} 0 1 = cc in omega arith
     go false e = let z : ◌≡◌ {A = ℕ} 0 1 = cc in omega arith
 
 -- 14 is answered only where a parent list is too short
-pub parent-end : (g : FrameGrid) (settings : PlanConfig) (e : PlanEnd) (out : Output) → (handed_by g settings e out).answer ≡ ShortParent → e ≡ short_parent
+pub parent-end : (g : FrameGrid) (settings : PlanConfig) (e : PlanEnd) (out : Output) → (handed_by g settings e out).answer ≡ Err ShortParent → e ≡ short_parent
 parent-end g settings (along cs path) out q = absurd (along-answer (length path - 1) (plan_pieces g settings cs path) (plan_cuts g cs path) out q)
 parent-end g settings short_parent out q = refl
 
 -- 12: the output has no room for so many pieces, and any that has gets them
-pub room-end : (g : FrameGrid) (settings : PlanConfig) (e : PlanEnd) (out : Output) → (handed_by g settings e out).answer ≡ ShortOutput
-    → (k : ℕ) × (HasRoom k out → ⊥) × ((room : Output) → HasRoom k room → (handed_by g settings e room).answer ≡ Planned k)
+pub room-end : (g : FrameGrid) (settings : PlanConfig) (e : PlanEnd) (out : Output) → (handed_by g settings e out).answer ≡ Err ShortOutput
+    → (k : ℕ) × (HasRoom k out → ⊥) × ((room : Output) → HasRoom k room → (handed_by g settings e room).answer ≡ Ok k)
 room-end g settings (along cs path) out q = (length path - 1, along-short g settings cs path out q, along_made g settings cs path)
 room-end g settings short_parent out q = let z : ◌≡◌ {A = ℕ} 0 1 = cc in absurd (omega arith)
 

@@ -1,7 +1,7 @@
 -- What is claimed of every call of the operation Plan (`Ended`) and of every plan that it makes (`Made`). Theorems proves it, with no hypothesis but the answer and,
 -- for a span that is not empty, what the types of the lists say (`Fitting`).
 -- The output has three numbers for each piece, start, end and flags, and three for each cut, previous end, next start and reason; all ends are in samples.
-use Rattle.std.specs.Prelude.{◌≡◌, ◌⊎◌, ◌↔◌, true, false, ℕ, zero, suc, ◌+◌, ◌-◌, ◌*◌, ◌≤◌, ◌<◌, min, Float, length, get_or, take}
+use Rattle.std.specs.Prelude.{◌≡◌, ◌⊎◌, ◌↔◌, true, false, ℕ, zero, suc, ◌+◌, ◌-◌, ◌*◌, ◌≤◌, ◌<◌, min, Float, length, get_or, take, Ok, Err, Result}
 use mathlib.Core.List.{List, Memᴰ}
 use Rattle.base_terms.specs.Lists.{filled, onto}
 use Rattle.base_terms.specs.Work.{Work, cleared}
@@ -28,8 +28,6 @@ use Rattle.candidates.specs.declared.candidate.Candidate.{Candidate}
 use Rattle.plan_tests.specs.Fitting.{Fitting}
 use Rattle.plan_tests.specs.Refusal as tests
 use Rattle.plan_tests.specs.declared.refusal.Refusal.{Refusal}
-use Rattle.plan_tests.specs.declared.refusal.Verdict.{Verdict}
-use Rattle.plan_tests.specs.declared.refusal.Verdict.TheVariants.{Fine, Fails}
 use Rattle.candidate_finder.specs.CandidatesIn.{candidates_in}
 use Rattle.candidate_finder.specs.SpanIn.{empty_in, padding_in}
 use Rattle.plan_division.specs.Along.{ends_at, piece_between}
@@ -39,7 +37,7 @@ use Rattle.plan_pieces.specs.Flags.{has_long, has_short, is_longer, is_tail, IsS
 use Rattle.plan_pieces.specs.PlanAlong.{plan_pieces, plan_cuts}
 use Rattle.plan_pieces.specs.Output.{Output}
 use Rattle.plan_pieces.specs.Answer.{number_of}
-use Rattle.plan_pieces.specs.declared.answer.Answer.TheVariants.{Planned, Refused, ShortParent, ShortOutput}
+use Rattle.plan_pieces.specs.declared.answer.Error.TheVariants.{Refused, ShortParent, ShortOutput}
 use Rattle.planner.specs.Operation.{End, end_of, candidates_with, plan_of}
 
 -- ---- the output by its numbers
@@ -264,34 +262,34 @@ module _ (r : Recording) (segment : SegmentConfig) (settings : PlanConfig) (valu
     end = plan_of r segment settings values flags levels out work parent
 
     -- the first test before 14 that fails
-    abbrev verdict : Verdict
+    abbrev verdict : Result Unit Refusal
     verdict = tests.first_refusal_of r segment settings values flags levels (length work.u32s) (length work.u64s) (length work.f64s)
 
     -- what is claimed of every call
     pub record Ended : Type 0 where
       -- "Refusals before 14 .. leave work memory untouched", and each is that of the first test that fails
-      pub refused : (x : Refusal) → verdict ≡ Fails x → end ≡ end_of (Refused x) out work parent
-      pub first_failed : (x : Refusal) → end.answer ≡ Refused x → verdict ≡ Fails x
+      pub refused : (x : Refusal) → verdict ≡ Err x → end ≡ end_of (Err (Refused x)) out work parent
+      pub first_failed : (x : Refusal) → end.answer ≡ Err (Refused x) → verdict ≡ Err x
       -- "All later ends, success too, leave it zeroed"
-      pub zeroed : verdict ≡ Fine → (end.work ≡ cleared work) × (end.parent ≡ filled 0 parent)
+      pub zeroed : verdict ≡ Ok tt → (end.work ≡ cleared work) × (end.parent ≡ filled 0 parent)
       -- where no plan is made the output is as it was
-      pub untouched : ((k : ℕ) → end.answer ≡ Planned k → ⊥) → end.out ≡ out
+      pub untouched : ((k : ℕ) → end.answer ≡ Ok k → ⊥) → end.out ≡ out
       -- an empty span that passes the tests has the empty plan: no 14 or 12
-      pub empty : verdict ≡ Fine → empty_in r segment settings values flags ≡ true → (end.answer ≡ Planned 0) × (end.out ≡ out)
+      pub empty : verdict ≡ Ok tt → empty_in r segment settings values flags ≡ true → (end.answer ≡ Ok 0) × (end.out ≡ out)
       -- 14 and 12, each under its condition only; at 12 the call makes its plan with any output that has room for it
-      pub short_parent : end.answer ≡ ShortParent → FewParents (length parent)
-      pub short_output : end.answer ≡ ShortOutput
-          → (k : ℕ) × (HasRoom k out → ⊥) × ((room : Output) → HasRoom k room → (plan_of r segment settings values flags levels room work parent).answer ≡ Planned k)
+      pub short_parent : end.answer ≡ Err ShortParent → FewParents (length parent)
+      pub short_output : end.answer ≡ Err ShortOutput
+          → (k : ℕ) × (HasRoom k out → ⊥) × ((room : Output) → HasRoom k room → (plan_of r segment settings values flags levels room work parent).answer ≡ Ok k)
       -- and each where its condition holds
-      pub gives_short_parent : verdict ≡ Fine → empty_in r segment settings values flags ≡ false → Fitting values levels → FewParents (length parent) → end.answer ≡ ShortParent
-      pub gives_short_output : (k : ℕ) (room : Output) → (plan_of r segment settings values flags levels room work parent).answer ≡ Planned k → (HasRoom k out → ⊥)
-          → end.answer ≡ ShortOutput
+      pub gives_short_parent : verdict ≡ Ok tt → empty_in r segment settings values flags ≡ false → Fitting values levels → FewParents (length parent) → end.answer ≡ Err ShortParent
+      pub gives_short_output : (k : ℕ) (room : Output) → (plan_of r segment settings values flags levels room work parent).answer ≡ Ok k → (HasRoom k out → ⊥)
+          → end.answer ≡ Err ShortOutput
       -- 12 never comes where there is room for a piece at each frame
-      pub roomy : Fitting values levels → HasRoom (length values) out → end.answer ≡ ShortOutput → ⊥
+      pub roomy : Fitting values levels → HasRoom (length values) out → end.answer ≡ Err ShortOutput → ⊥
       -- 14 never comes where there are (frames + 1) × min(N, frames) parents
       pub parents_enough : (count : ℕ) → settings.mode ≡ ByCount count → (length values + 1) * min count (length values) ≤ length parent
-          → end.answer ≡ ShortParent → ⊥
+          → end.answer ≡ Err ShortParent → ⊥
       -- a plan is made only where the tests pass
-      pub accepted : (k : ℕ) → end.answer ≡ Planned k → verdict ≡ Fine
+      pub accepted : (k : ℕ) → end.answer ≡ Ok k → verdict ≡ Ok tt
       -- the number is 0 where a plan is made, and nowhere else
-      pub number : (number_of end.answer ≡ 0) ↔ ((k : ℕ) × (end.answer ≡ Planned k))
+      pub number : (number_of end.answer ≡ 0) ↔ ((k : ℕ) × (end.answer ≡ Ok k))

@@ -1,7 +1,7 @@
 -- The operation Plan at document 01's recording R, through its whole definition and whatever the lent lists held: the plan as printed, the two trials of R by count,
 -- a count that the first path meets, a dropped gap, an empty span, and 14, 12 and 13. So what Made claims of plans by length, at the first path and with the reach,
 -- of dropped gaps and of these ends is claimed of something. And two recordings whose plans cost more under a longer maximum.
-use Rattle.std.specs.Prelude.{◌≡◌, refl, Bool, true, false, List, [], ◌∷◌, ℕ, ◌*◌, Float, length, replicate}
+use Rattle.std.specs.Prelude.{◌≡◌, refl, Bool, true, false, List, [], ◌∷◌, ℕ, ◌*◌, Float, length, replicate, Ok, Err}
 use Rattle.std.specs.Float.{binary32, binary64}
 use Rattle.std.specs.Float.Ieee.{span, climb, size, odd, units, round, sum, add, neg, sub, mul, div, lt, eq, le, is_nan, of_int, of_bits}
 use Rattle.base_terms.specs.Floats.{min_of, max_of, clamp_of}
@@ -80,8 +80,8 @@ use Rattle.plan_settings.specs.declared.config.Gap.{Gap}
 use Rattle.plan_settings.specs.declared.config.Gap.TheVariants.{Keep, Drop}
 use Rattle.plan_settings.specs.declared.config.Placement.TheVariants.{Quietest}
 use Rattle.plan_tests.specs.declared.refusal.Refusal.TheVariants.{ShortWork}
-use Rattle.plan_pieces.specs.declared.answer.Answer.{Answer}
-use Rattle.plan_pieces.specs.declared.answer.Answer.TheVariants.{Planned, Refused, ShortParent, ShortOutput}
+use Rattle.plan_pieces.specs.Answer.{Answer}
+use Rattle.plan_pieces.specs.declared.answer.Error.TheVariants.{Refused, ShortParent, ShortOutput}
 
 -- "1,000 Hz, 1 channel, frame rate 10, hop 1, length 700"
 abbrev recording : Recording
@@ -216,42 +216,42 @@ module _ (a b c d : ℕ) (x : Float) where
   -- and what it leaves
   abbrev later_seconds : ℕ → List ℕ → List ℕ → ℕ → End
   later_seconds n pieces cuts parents =
-      end_of (Planned n) (output_of pieces cuts) (work_of (replicate 64 0) (replicate 64 0) (replicate 64 (of_bits binary64 0))) (replicate parents 0)
+      end_of (Ok n) (output_of pieces cuts) (work_of (replicate 64 0) (replicate 64 0) (replicate 64 (of_bits binary64 0))) (replicate parents 0)
 
   -- document 01's trials of plans, and beside them the other ends of a call: an empty plan, 12, 13 and 14
   pub record PlanTrials : Type 0 where
     -- "piece 0 400 -, piece 400 700 -, cut 400 400 silence"; one number more in each list stays as it was
     pub printed : call (settings ByLength 400000000 Keep) scores 7 4 0
-        ≡ later (Planned 2) (output_of (0 ∷ 400 ∷ 0 ∷ 400 ∷ 700 ∷ 0 ∷ a ∷ []) (400 ∷ 400 ∷ 0 ∷ a ∷ [])) 0
+        ≡ later (Ok 2) (output_of (0 ∷ 400 ∷ 0 ∷ 400 ∷ 700 ∷ 0 ∷ a ∷ []) (400 ∷ 400 ∷ 0 ∷ a ∷ [])) 0
     -- "maximum 300 ms and count 2: pieces 0–300, 300–700 `l`; cut silence"
     pub count_two : call (settings (ByCount 2) 300000000 Keep) scores 6 3 16
-        ≡ later (Planned 2) (output_of (0 ∷ 300 ∷ 0 ∷ 300 ∷ 700 ∷ 2 ∷ []) (300 ∷ 300 ∷ 0 ∷ [])) 16
+        ≡ later (Ok 2) (output_of (0 ∷ 300 ∷ 0 ∷ 300 ∷ 700 ∷ 2 ∷ []) (300 ∷ 300 ∷ 0 ∷ [])) 16
     -- "count 8: seven pieces; reasons forced, quiet, quiet, silence, forced, forced"
     pub count_eight : call (settings (ByCount 8) 400000000 Keep) scores 21 18 56
-        ≡ later (Planned 7)
+        ≡ later (Ok 7)
         (output_of (0 ∷ 100 ∷ 0 ∷ 100 ∷ 200 ∷ 0 ∷ 200 ∷ 300 ∷ 0 ∷ 300 ∷ 400 ∷ 0 ∷ 400 ∷ 500 ∷ 0 ∷ 500 ∷ 600 ∷ 0 ∷ 600 ∷ 700 ∷ 0 ∷ [])
         (100 ∷ 100 ∷ 2 ∷ 200 ∷ 200 ∷ 1 ∷ 300 ∷ 300 ∷ 1 ∷ 400 ∷ 400 ∷ 0 ∷ 500 ∷ 500 ∷ 2 ∷ 600 ∷ 600 ∷ 2 ∷ [])) 56
     -- count 2 under 400 ms: the first path suffices
     pub sufficient : suffices grid2 plan2 span2 2 400 (candidates_with recording defaults plan2 scores (replicate 7 0) [] []) ≡ true
     -- and is the plan's, with two parents for each of five candidates
     pub first_suffices : call plan2 scores 6 3 10
-        ≡ later (Planned 2) (output_of (0 ∷ 400 ∷ 0 ∷ 400 ∷ 700 ∷ 0 ∷ []) (400 ∷ 400 ∷ 0 ∷ [])) 10
+        ≡ later (Ok 2) (output_of (0 ∷ 400 ∷ 0 ∷ 400 ∷ 700 ∷ 0 ∷ []) (400 ∷ 400 ∷ 0 ∷ [])) 10
     -- 14: one entry fewer, at the first path
-    pub first_short : call plan2 scores 6 3 9 ≡ later ShortParent (output 6 3) 9
+    pub first_short : call plan2 scores 6 3 9 ≡ later (Err ShortParent) (output 6 3) 9
     -- the gap dropped: one piece ends at its left end and the next starts at its right end
     pub gap_dropped : call_with unpadded (settings ByLength 400000000 Drop) scores 6 3 0
-        ≡ later (Planned 2) (output_of (0 ∷ 200 ∷ 0 ∷ 500 ∷ 700 ∷ 0 ∷ []) (200 ∷ 500 ∷ 0 ∷ [])) 0
+        ≡ later (Ok 2) (output_of (0 ∷ 200 ∷ 0 ∷ 500 ∷ 700 ∷ 0 ∷ []) (200 ∷ 500 ∷ 0 ∷ [])) 0
     -- silence all through, with dropped gaps: the span is empty, and so is the plan
-    pub silent : call (settings ByLength 400000000 Drop) (replicate 7 none) 0 0 0 ≡ later (Planned 0) (output 0 0) 0
+    pub silent : call (settings ByLength 400000000 Drop) (replicate 7 none) 0 0 0 ≡ later (Ok 0) (output 0 0) 0
     -- S-8, R in one piece under a maximum of 300 ms: the reach is the length of the whole span, and the piece is over-long
-    pub count_one : call (settings (ByCount 1) 300000000 Keep) scores 3 0 8 ≡ later (Planned 1) (output_of (0 ∷ 700 ∷ 2 ∷ []) []) 8
+    pub count_one : call (settings (ByCount 1) 300000000 Keep) scores 3 0 8 ≡ later (Ok 1) (output_of (0 ∷ 700 ∷ 2 ∷ []) []) 8
     -- 14: one entry fewer, at the path over the completed candidates
-    pub parents_short : call (settings (ByCount 8) 400000000 Keep) scores 21 18 55 ≡ later ShortParent (output 21 18) 55
+    pub parents_short : call (settings (ByCount 8) 400000000 Keep) scores 21 18 55 ≡ later (Err ShortParent) (output 21 18) 55
     -- 12: one number fewer
-    pub output_short : call (settings ByLength 400000000 Keep) scores 5 3 0 ≡ later ShortOutput (output 5 3) 0
+    pub output_short : call (settings ByLength 400000000 Keep) scores 5 3 0 ≡ later (Err ShortOutput) (output 5 3) 0
     -- 13: one entry fewer in a work list; every list is as it was
     pub work_short : plan_of recording defaults (settings ByLength 400000000 Keep) scores (replicate 7 0) [] (output 6 3) (work_of (replicate 128 b) (replicate 128 c) (replicate 127 x)) (replicate 1 d)
-        ≡ end_of (Refused ShortWork) (output 6 3) (work_of (replicate 128 b) (replicate 128 c) (replicate 127 x)) (replicate 1 d)
+        ≡ end_of (Err (Refused ShortWork)) (output 6 3) (work_of (replicate 128 b) (replicate 128 c) (replicate 127 x)) (replicate 1 d)
     -- S-12 of a plan by length, of two frames: two pieces under 2 s
     pub raised_from : call_seconds (up_to ByLength 2) (none ∷ one ∷ []) 0 ≡ later_seconds 2 (0 ∷ 1 ∷ 0 ∷ 1 ∷ 2 ∷ 0 ∷ []) (1 ∷ 1 ∷ 0 ∷ []) 0
     -- one piece under 3 s

@@ -1,5 +1,5 @@
 -- Document 01's operation Plan: what a call leaves, on all input. `plan_of` is what the contract cites; `levels` are those that the caller lends for decibels.
-use Rattle.std.specs.Prelude.{List, ℕ, Float, length}
+use Rattle.std.specs.Prelude.{List, ℕ, Float, length, Ok, Err, Result}
 use Rattle.base_terms.specs.Lists.{filled}
 use Rattle.base_terms.specs.Work.{Work, cleared}
 use Rattle.grid.specs.Validate.{grid_of}
@@ -11,14 +11,13 @@ use Rattle.candidate_span.specs.Gaps.{Cut}
 use Rattle.candidate_span.specs.Span.{span_of}
 use Rattle.candidates.specs.declared.candidate.Candidate.{Candidate}
 use Rattle.plan_tests.specs.Refusal as tests
-use Rattle.plan_tests.specs.declared.refusal.Verdict.{Verdict}
-use Rattle.plan_tests.specs.declared.refusal.Verdict.TheVariants.{Fine, Fails}
+use Rattle.plan_tests.specs.declared.refusal.Refusal.{Refusal}
 use Rattle.candidate_finder.specs.CandidatesIn.{runs_in, boundary_levels_in, context_of, grid_points_in}
 use Rattle.candidate_finder.specs.SpanIn.{padding_in, empty_in, first_in, last_in}
 use Rattle.plan_division.specs.Added.{completed_with}
 use Rattle.plan_pieces.specs.Output.{Output, Handed, handed_of, pick}
-use Rattle.plan_pieces.specs.declared.answer.Answer.{Answer}
-use Rattle.plan_pieces.specs.declared.answer.Answer.TheVariants.{Planned, Refused}
+use Rattle.plan_pieces.specs.Answer.{Answer}
+use Rattle.plan_pieces.specs.declared.answer.Error.TheVariants.{Refused}
 use Rattle.plan_modes.specs.Plan.{plan_by}
 
 -- what a call leaves: its answer, and every list that was lent to be written
@@ -33,9 +32,9 @@ abbrev pub end_of : Answer → Output → Work → List ℕ → End
 end_of answer out work parent = record { answer = answer; out = out; work = work; parent = parent }
 
 -- "Refusals before 14 .. leave work memory untouched. All later ends, success too, leave it zeroed."
-abbrev pub end_after : Verdict → Handed → Output → Work → List ℕ → End
-end_after Fine planned out work parent = end_of planned.answer planned.out (cleared work) (filled 0 parent)
-end_after (Fails r) planned out work parent = end_of (Refused r) out work parent
+abbrev pub end_after : Result Unit Refusal → Handed → Output → Work → List ℕ → End
+end_after (Ok u) planned out work parent = end_of planned.answer planned.out (cleared work) (filled 0 parent)
+end_after (Err r) planned out work parent = end_of (Err (Refused r)) out work parent
 
 module _ (r : Recording) (segment : SegmentConfig) (settings : PlanConfig) (values : List Float) (flags : List ℕ) (levels : List Float) where
   -- the candidates of recording and settings, with points added at the boundaries of some cuts
@@ -48,7 +47,7 @@ module _ (r : Recording) (segment : SegmentConfig) (settings : PlanConfig) (valu
   -- document 01: "the span is empty, and so is the plan; no reach is sought then"; else the plan of document 01's span, with `parents` the length of the parent list
   unfoldable pub planned_of : ℕ → Output → Handed
   planned_of parents out =
-      pick (empty_in r segment settings values flags) (handed_of (Planned 0) out)
+      pick (empty_in r segment settings values flags) (handed_of (Ok 0) out)
       (plan_by (grid_of r (length values)) settings (span_of settings.gap (padding_in r segment settings (length values)) (silences_in r segment values flags)) candidates_with
       settings.mode parents out)
 

@@ -1,5 +1,5 @@
 -- What the tests leave is what preparing and planning need, and one law for each end of the operation.
-use Rattle.std.specs.Prelude.{◌≡◌, Bool, true, not, ◌||◌, List, ◌++◌, ℕ, suc, ◌+◌, ◌-◌, ◌*◌, ◌≤◌, ◌<◌, eqb, Float, length}
+use Rattle.std.specs.Prelude.{◌≡◌, Bool, true, not, ◌||◌, List, ◌++◌, ℕ, suc, ◌+◌, ◌-◌, ◌*◌, ◌≤◌, ◌<◌, eqb, Float, length, Ok, Err, Result}
 use Rattle.std.proofs.Common.{sym, ◌∙◌, le_of_lt, arith, take-take, get_or-take, length-take-le}
 use Rattle.std.proofs.Math.Path.{ap}
 use Rattle.base_terms.specs.Layout.{side, runs_at, marks_at, entries_at}
@@ -32,13 +32,11 @@ use Rattle.plan_tests.specs.Fitting.{Fitting}
 use Rattle.plan_tests.specs.PlanReady.{PlanReady}
 use Rattle.plan_tests.specs.Refusal as tests
 use Rattle.plan_tests.specs.declared.refusal.Refusal.{Refusal}
-use Rattle.plan_tests.specs.declared.refusal.Verdict.{Verdict}
-use Rattle.plan_tests.specs.declared.refusal.Verdict.TheVariants.{Fine, Fails}
 use Rattle.plan_division.specs.HeldLaws.{in_append}
 use Rattle.plan_path.specs.SearchLaws.{part_of}
 use Rattle.plan_pieces.specs.Output.{Output, Handed, handed_of}
-use Rattle.plan_pieces.specs.declared.answer.Answer.{Answer}
-use Rattle.plan_pieces.specs.declared.answer.Answer.TheVariants.{Planned, Refused}
+use Rattle.plan_pieces.specs.Answer.{Answer}
+use Rattle.plan_pieces.specs.declared.answer.Error.TheVariants.{Refused}
 use Rattle.plan_steps.specs.Held.{front_of, points_held, held_with, SpanHeld, SpanRoom}
 use Rattle.plan_modes.specs.Lengths.{AskedFor}
 use Rattle.plan_modes.specs.Plan.{plan_by}
@@ -169,7 +167,7 @@ module _ (r : Recording) (segment : SegmentConfig) (settings : PlanConfig) (valu
   -- ---- the ends of the work
 
   -- an empty span has the empty plan
-  pub planned_empty : empty_in r segment settings values flags ≡ true → (parents : ℕ) (out : Output) → handed_of (Planned 0) out ≡ planned_of r segment settings values flags levels parents out
+  pub planned_empty : empty_in r segment settings values flags ≡ true → (parents : ℕ) (out : Output) → handed_of (Ok 0) out ≡ planned_of r segment settings values flags levels parents out
   unfolding planned_of
   planned_empty e parents out = rw e
 
@@ -177,16 +175,16 @@ module _ (r : Recording) (segment : SegmentConfig) (settings : PlanConfig) (valu
 
   module _ (out : Output) (work : Work) (parent : List ℕ) where
     -- the first test that fails
-    abbrev verdict : Verdict
+    abbrev verdict : Result Unit Refusal
     verdict = tests.first_refusal_of r segment settings values flags levels (length work.u32s) (length work.u64s) (length work.f64s)
 
     -- a refusal before 14 leaves every list as it was
-    pub plan_refused : (x : Refusal) → Fails x ≡ verdict → end_of (Refused x) out work parent ≡ plan_of r segment settings values flags levels out work parent
+    pub plan_refused : (x : Refusal) → Err x ≡ verdict → end_of (Err (Refused x)) out work parent ≡ plan_of r segment settings values flags levels out work parent
     unfolding plan_of
     plan_refused x e = rw (← e)
 
     -- every later end, success too, leaves work memory zeroed
-    pub plan_planned : Fine ≡ verdict → (answer : Answer) (out' : Output) (work' : Work) (parent' : List ℕ)
+    pub plan_planned : Ok tt ≡ verdict → (answer : Answer) (out' : Output) (work' : Work) (parent' : List ℕ)
         → handed_of answer out' ≡ planned_of r segment settings values flags levels (length parent) out → work' ≡ cleared work → parent' ≡ filled 0 parent
         → end_of answer out' work' parent' ≡ plan_of r segment settings values flags levels out work parent
     unfolding plan_of

@@ -6,15 +6,14 @@ ghost use Rattle.plan_tests.specs.Fitting.{Fitting};
 ghost use Rattle.plan_tests.specs.PlanReady.{PlanReady};
 ghost use Rattle.planner.specs.Operation.{planned_of, end_of, plan_of};
 
-use base_code::{clear, work};
+use base_code::work;
 use candidate_finder::prepare;
-use candidate_finder::prepare::Prepared;
+use grid::Readings;
 use grid::validate::Recording;
 use plan_modes::span;
 use plan_pieces::answer::Answer;
 use plan_settings::config::PlanConfig;
 use plan_tests::refusal;
-use plan_tests::refusal::Verdict;
 use silence_list::config::SegmentConfig;
 
 // The plan of a recording that passes the tests up to 13. An empty span has the empty plan.
@@ -22,9 +21,7 @@ fn plan_recording(
     r: Recording,
     segment: SegmentConfig,
     settings: PlanConfig,
-    values: &[f32],
-    flags: &[u8],
-    levels: &[f64],
+    readings: &Readings,
     work_u32: &mut [u32],
     work_u64: &mut [u64],
     work_f64: &mut [f64],
@@ -32,26 +29,19 @@ fn plan_recording(
     pieces: &mut [u64],
     cuts: &mut [u64],
 ) -> Answer
-    requires { PlanReady r segment settings values.now flags.now levels.now
+    requires { PlanReady r segment settings
+        readings.now.values.now readings.now.flags.now readings.now.levels.now
         (length work_u32.old) (length work_u64.old) (length work_f64.old) }
     ensures { handed_of result (output_of pieces.new cuts.new)
-        ≡ planned_of r segment settings values.now flags.now levels.now
+        ≡ planned_of r segment settings
+        readings.now.values.now readings.now.flags.now readings.now.levels.now
         (length parent.old) (output_of pieces.old cuts.old) }
 {
-    let prepared = prepare::prepare(
-        r,
-        segment,
-        settings,
-        values,
-        flags,
-        levels,
-        &mut *work_u32,
-        &mut *work_f64,
-    );
+    let prepared = prepare::prepare(r, segment, settings, readings, work_u32, work_f64);
     match prepared {
-        Prepared::Empty => Answer::Planned(0),
-        Prepared::Ready(x, g, held) => span::plan_span(
-            x, g, settings, held, work_u32, work_u64, work_f64, parent, pieces, cuts,
+        None => Ok(0),
+        Some(p) => span::plan_span(
+            p.context, p.grid, settings, p.span, work_u32, work_u64, work_f64, parent, pieces, cuts,
         ),
     }
 }
@@ -62,9 +52,7 @@ pub fn plan(
     r: Recording,
     segment: SegmentConfig,
     settings: PlanConfig,
-    values: &[f32],
-    flags: &[u8],
-    levels: &[f64],
+    readings: &Readings,
     work_u32: &mut [u32],
     work_u64: &mut [u64],
     work_f64: &mut [f64],
@@ -74,33 +62,20 @@ pub fn plan(
 ) -> Answer
     ensures answer { end_of result (output_of pieces.new cuts.new)
         (work_of work_u32.new work_u64.new work_f64.new) parent.new
-        ≡ plan_of r segment settings values.now flags.now levels.now
+        ≡ plan_of r segment settings
+        readings.now.values.now readings.now.flags.now readings.now.levels.now
         (output_of pieces.old cuts.old)
         (work_of work_u32.old work_u64.old work_f64.old) parent.old }
-    ensures fitting { Fitting values.now levels.now }
+    ensures fitting { Fitting readings.now.values.now readings.now.levels.now }
 {
     let n32 = work_u32.len();
     let n64 = work_u64.len();
     let nf = work_f64.len();
-    let verdict = refusal::first_refusal(r, segment, settings, values, flags, levels, n32, n64, nf);
-    if let Verdict::Fails(refusal) = verdict {
-        return Answer::Refused(refusal);
-    }
+    refusal::first_refusal(r, segment, settings, readings, n32, n64, nf)?;
     let answer = plan_recording(
-        r,
-        segment,
-        settings,
-        values,
-        flags,
-        levels,
-        &mut *work_u32,
-        &mut *work_u64,
-        &mut *work_f64,
-        &mut *parent,
-        pieces,
-        cuts,
+        r, segment, settings, readings, work_u32, work_u64, work_f64, parent, pieces, cuts,
     );
     work::clear_work(work_u32, work_u64, work_f64);
-    clear::clear_u32(parent);
+    parent.fill(0);
     answer
 }

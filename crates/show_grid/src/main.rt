@@ -2,7 +2,10 @@
 // its grid.
 #![tactic(auto)]
 
+ghost use Rattle.std.specs.Prelude.{◌<◌};
+
 use capi::{convert, recording};
+use std::io;
 
 const SAMPLE_RATE: u32 = 1_000;
 
@@ -14,26 +17,22 @@ const FRAMES: usize = 7;
 
 const LEN: u64 = 700;
 
-// A number in decimal.
-fn number(n: u64) {
-    io::print_decimal(1, n);
+// The sample at which a frame begins, and the one before it ends.
+fn boundary(k: usize) -> u64 {
+    convert::buchawzer_boundary(SAMPLE_RATE, FRAME_RATE, HOP, LEN, FRAMES, k)
 }
 
 // From which sample to which a frame goes.
-fn show_frame(k: usize) {
-    io::write_all(1, b"frame ");
-    number(k as u64);
-    io::write_all(1, b": samples ");
-    number(convert::buchawzer_boundary(SAMPLE_RATE, FRAME_RATE, HOP, LEN, FRAMES, k));
-    io::write_all(1, b" up to ");
-    if k < FRAMES {
-        number(convert::buchawzer_boundary(SAMPLE_RATE, FRAME_RATE, HOP, LEN, FRAMES, k + 1));
-    }
-    io::write_all(1, b"\n");
+fn show_frame(rt: &impl Print, k: usize) -> io::Result<()>
+    requires { k < 7 }
+{
+    let start = boundary(k);
+    let end = boundary(k + 1);
+    println!(rt; "frame {k}: samples {start} up to {end}")
 }
 
 // Whether the seven frames cover a recording of this length.
-fn show_length(len: u64) {
+fn show_length(rt: &impl Print, len: u64) -> io::Result<()> {
     let scores = [1.0f32, 1.0, 0.0, 0.0, 0.0, 1.0, 1.0];
     let flags = [0u8; 7];
     let levels = [0.0f64; 0];
@@ -48,49 +47,34 @@ fn show_length(len: u64) {
         &flags,
         &levels,
     );
-    io::write_all(1, b"length ");
-    number(len);
     if refusal == 0 {
-        io::write_all(1, b": accepted\n");
+        println!(rt; "length {len}: accepted")
     } else {
-        io::write_all(1, b": refused ");
-        number(refusal as u64);
-        io::write_all(1, b"\n");
+        println!(rt; "length {len}: refused {refusal}")
     }
 }
 
 // A duration in samples and in frames, by each way of rounding.
-fn show_duration(millis: u64) {
-    if 86_400_000 < millis {
-        return;
-    }
-    let nanos = millis * 1_000_000;
-    number(millis);
-    io::write_all(1, b" ms: ");
-    number(convert::buchawzer_samples_floor(SAMPLE_RATE, nanos));
-    io::write_all(1, b" samples; frames half up ");
-    number(convert::buchawzer_frames_in(FRAME_RATE, HOP, nanos));
-    io::write_all(1, b", up ");
-    number(convert::buchawzer_frames_ceil(FRAME_RATE, HOP, nanos));
-    io::write_all(1, b", down ");
-    number(convert::buchawzer_frames_floor(FRAME_RATE, HOP, nanos));
-    io::write_all(1, b"\n");
+fn show_duration(rt: &impl Print, millis: u32) -> io::Result<()> {
+    let nanos = u64::from(millis) * 1_000_000;
+    let samples = convert::buchawzer_samples_floor(SAMPLE_RATE, nanos);
+    let half_up = convert::buchawzer_frames_in(FRAME_RATE, HOP, nanos);
+    let up = convert::buchawzer_frames_ceil(FRAME_RATE, HOP, nanos);
+    let down = convert::buchawzer_frames_floor(FRAME_RATE, HOP, nanos);
+    println!(rt; "{millis} ms: {samples} samples; frames half up {half_up}, up {up}, down {down}")
 }
 
 // All of it, a line for each.
-fn main() {
-    io::write_all(
-        1,
-        b"recording R: 1000 Hz, frame rate 10, hop 1, length 700, seven scores\n",
-    );
+fn main(rt: HostRuntime) -> io::Result<()> {
+    println!(rt; "recording R: 1000 Hz, frame rate 10, hop 1, length 700, seven scores")?;
     for k in 0..FRAMES {
-        show_frame(k);
+        show_frame(&rt, k)?;
     }
-    show_length(600);
-    show_length(601);
-    show_length(799);
-    show_length(800);
-    show_duration(100);
-    show_duration(150);
-    show_duration(250);
+    for len in [600, 601, 799, 800] {
+        show_length(&rt, len)?;
+    }
+    for millis in [100, 150, 250] {
+        show_duration(&rt, millis)?;
+    }
+    Ok(())
 }

@@ -3,6 +3,7 @@ use Rattle.std.specs.Prelude.{◌≡◌, refl, Bool, true, false, cond, List, []
 use Rattle.std.proofs.Math.Path.{sym}
 use Rattle.std.proofs.Common.{ap, ◌∙◌, inl, inr, append_assoc, append-nil, not-suc-le-zero, add-one, arith, length-set, length-append, length-drop, take-suc, drop-cons, take_at, length-take-le, lt-ltb, le-ltb, eq-eqb, ne_eqb}
 use Rattle.std.proofs.lemmas.List.{map-append, length-map, set_at}
+use Rattle.std.specs.List.{list_any}
 use Rattle.std.specs.Float.{binary32, nan}
 use Rattle.std.specs.Float.Ieee.{fits, to_bits, of_bits}
 use Rattle.std.specs.Float.Ieee.Bits.{of_bits-to_bits, to_bits-lt, to_bits-of_bits, of_bits-fits, is_true}
@@ -247,3 +248,9 @@ module _ {values : List Float} {flags keys₀ keys : List ℕ} {n : ℕ} (c : Co
     -- and its values are those with signal
     pub collected_values : map value_of (take n keys) ≡ with_signal values flags
     collected_values = rw collected-front (values_back (with_signal values flags) (with_signal-all (fits binary32) values flags f))
+
+-- a frame has signal where some flag is 0
+pub signal_is : (flags : List ℕ) → list_any (λ (flag : ℕ). eqb flag 0) flags ≡ any_signal flags
+unfolding any_signal all_of is_lost
+signal_is [] = refl
+signal_is (f ∷ fs) = elim (tested (eqb f 0)) [ inl e ↦ rw e | inr e ↦ rw e (signal_is fs) ]

@@ -17,7 +17,10 @@ levels_over domain threshold (v ∷ vs) = resolve_of domain threshold (percentil
 unfoldable pub levels_of : Domain → Threshold → List Float → List ℕ → Levels
 levels_of domain threshold values flags = levels_over domain threshold (with_signal values flags)
 
+-- the thresholds of some levels
+abbrev pub thresholds_in : Levels → Thresholds
+thresholds_in l = record { on = l.on; off = l.off }
+
 -- its thresholds alone
 unfoldable pub thresholds_of : Domain → Threshold → List Float → List ℕ → Thresholds
-thresholds_of domain threshold values flags =
-    record { on = (levels_of domain threshold values flags).on; off = (levels_of domain threshold values flags).off }
+thresholds_of domain threshold values flags = thresholds_in (levels_of domain threshold values flags)

@@ -11,14 +11,13 @@ use Rattle.grid.specs.Values.{is_finite}
 use Rattle.grid.specs.declared.validate.Domain.{Domain}
 use Rattle.silence_levels.specs.declared.threshold.Threshold.{Threshold}
 use Rattle.silence_levels.specs.declared.threshold.Levels.{Levels}
-use Rattle.silence_levels.specs.declared.threshold.Thresholds.{Thresholds}
 use Rattle.silence_levels.specs.Keys.{with_signal, any_signal}
 use Rattle.silence_levels.specs.KeysLaws.{with_signal-all, with_signal_same, signal_none, signal_some}
 use Rattle.silence_levels.specs.Percentile.{percentile_of}
 use Rattle.silence_levels.specs.PercentileLaws.{percentile_passes}
 use Rattle.silence_levels.specs.Threshold.{no_signal, resolve_of, threshold_ok, is_fixed}
 use Rattle.silence_levels.specs.ThresholdLaws.{resolve_floor, resolve_reference, resolve_numbers, fixed_same, fixed_order}
-use Rattle.silence_levels.specs.Levels.{levels_over, levels_of, thresholds_of}
+use Rattle.silence_levels.specs.Levels.{levels_over, levels_of, thresholds_in, thresholds_of}
 
 -- ---- by whether there is a value
 
@@ -94,10 +93,6 @@ module _ (domain : Domain) (threshold : Threshold) where
         (f.0 ∙ ap (λ (l : Levels). l.on) o, f.1 ∙ ap (λ (l : Levels). l.off) o))
 
 -- ---- the thresholds alone
-
--- those of some levels
-abbrev pub thresholds_in : Levels → Thresholds
-thresholds_in l = record { on = l.on; off = l.off }
 
 module _ (domain : Domain) (threshold : Threshold) (values : List Float) (flags : List ℕ) where
   -- they are those of the recording's levels

@@ -5,13 +5,16 @@ ghost use Rattle.base_terms.specs.Lists.{all_of};
 ghost use Rattle.grid.specs.Values.{is_finite};
 ghost use Rattle.silence_levels.specs.Keys.{key_of, value_of, Collected};
 
+use grid::Readings;
+
 // The key of x. Patterns with the sign clear come after all others; among those with it set the larger pattern comes
 // first.
+#[tactic(auto, unfolding(crate::specs::Keys::key_of, crate::specs::Keys::place_of))]
 fn key_of(x: f32) -> u32
     requires { T (not (is_nan x)) }
     ensures { result ≡ key_of x }
 {
-    let bits = f32::to_bits(x);
+    let bits = x.to_bits();
     if bits < 2_147_483_648 {
         bits + 2_147_483_648
     } else {
@@ -32,16 +35,16 @@ pub fn value_of(k: u32) -> f32
 }
 
 // Writes the keys of the frames with signal to the front of `keys`, in order. Returns how many there are.
-pub fn collect(values: &[f32], flags: &[u8], keys: &mut [u32]) -> usize
-    requires flags_len { length flags.now ≡ length values.now }
-    requires values_in_bounds { length values.now ≤ length keys.old }
-    requires values_finite { all_of is_finite values.now ≡ true }
-    ensures { Collected values.now flags.now keys.old keys.new result }
+pub fn collect(readings: &Readings, keys: &mut [u32]) -> usize
+    requires flags_len { length readings.now.flags.now ≡ length readings.now.values.now }
+    requires values_in_bounds { length readings.now.values.now ≤ length keys.old }
+    requires values_finite { all_of is_finite readings.now.values.now ≡ true }
+    ensures { Collected readings.now.values.now readings.now.flags.now keys.old keys.new result }
 {
     let mut n = 0;
-    for i in 0..values.len() {
-        if flags[i] == 0 {
-            keys[n] = key_of(values[i]);
+    for (value, flag) in readings.values.iter().zip(readings.flags) {
+        if *flag == 0 {
+            keys[n] = key_of(*value);
             n += 1;
         }
     }

@@ -1,5 +1,5 @@
 // The k-th smallest of a list of keys, found digit by digit from the top: three passes, none of which moves a key.
-ghost use Rattle.std.specs.Prelude.{◌≡◌, cond, ◌<◌, ◌+◌, length, get_or};
+ghost use Rattle.std.specs.Prelude.{◌≡◌, ◌<◌, ◌+◌, length, get_or};
 ghost use Rattle.silence_levels.specs.Select.{counts_of, hits, total_count, DigitFound, Narrowed};
 ghost use Rattle.silence_levels.specs.Sorted.{sorted};
 
@@ -17,67 +17,32 @@ pub struct Block {
     pub rank: usize,
 }
 
-// How many keys have each next digit, among those whose bits above it are `prefix`.
-// The branch is guessed right where almost all keys have that prefix, or almost none.
-fn histogram_branching(keys: &[u32], shift: u32, prefix: u32) -> [usize; 2048]
-    requires { shift < 32 }
-    ensures { result ≡ counts_of keys.now shift prefix }
-{
-    let mut counts = [0usize; 2048];
-    for i in 0..keys.len() {
-        let head = keys[i] >> shift;
-        if head / 2048 == prefix {
-            let digit = (head % 2048) as usize;
-            counts[digit] += 1;
-        }
-    }
-    counts
-}
-
-// What one key adds to a count.
-fn one_if(hit: bool) -> usize
-    ensures { result ≡ cond hit 1 0 }
-{
-    if hit { 1 } else { 0 }
-}
-
-// The same table with no branch, for keys of that prefix mixed with others: these add 0.
-fn histogram_adding(keys: &[u32], shift: u32, prefix: u32) -> [usize; 2048]
-    requires { shift < 32 }
-    ensures { result ≡ counts_of keys.now shift prefix }
-{
-    let mut counts = [0usize; 2048];
-    for i in 0..keys.len() {
-        let head = keys[i] >> shift;
-        let digit = (head % 2048) as usize;
-        counts[digit] += one_if(head / 2048 == prefix);
-    }
-    counts
-}
-
-// The table of a digit: all keys have the prefix at the first, often a part of them at the second, few at the last.
+// How many keys have each next digit, among those whose bits above it are `prefix`. Other keys add 0, with no branch.
 fn histogram(keys: &[u32], shift: u32, prefix: u32) -> [usize; 2048]
     requires { shift < 32 }
     ensures { result ≡ counts_of keys.now shift prefix }
 {
-    if shift == 11 {
-        return histogram_adding(keys, shift, prefix);
+    let mut counts = [0usize; 2048];
+    for key in keys {
+        let head = *key >> shift;
+        counts[(head % 2048) as usize] += usize::from(head / 2048 == prefix);
     }
-    histogram_branching(keys, shift, prefix)
+    counts
 }
 
 // The digit at which the counts passed rise above the rank.
-fn walk(counts: [usize; 2048], rank: usize) -> Place
-    requires { rank < total_count counts }
-    ensures { DigitFound counts rank result }
+fn walk(counts: &[usize; 2048], rank: usize) -> Place
+    requires { rank < total_count counts.now }
+    ensures { DigitFound counts.now rank result }
 {
-    let mut digit = 0;
     let mut left = rank;
-    while counts[digit] <= left {
-        left -= counts[digit];
-        digit += 1;
+    for (digit, count) in counts.iter().enumerate() {
+        if left < *count {
+            return Place { digit, rank: left };
+        }
+        left -= *count;
     }
-    Place { digit, rank: left }
+    unreachable!()
 }
 
 // One pass: the block of the next digit in which the rank falls.
@@ -86,7 +51,7 @@ fn narrow(keys: &[u32], shift: u32, block: Block) -> Block
     requires rank_bound { block.rank < hits keys.now (shift + 11) block.prefix }
     ensures { Narrowed keys.now shift block result }
 {
-    let place = walk(histogram(keys, shift, block.prefix), block.rank);
+    let place = walk(&histogram(keys, shift, block.prefix), block.rank);
     Block {
         prefix: block.prefix * 2048 + place.digit as u32,
         rank: place.rank,
@@ -101,9 +66,9 @@ pub fn first_digits(keys: &[u32]) -> [usize; 2048]
 }
 
 // The key at `rank` of the keys in order, counted from 0.
-pub fn select(keys: &[u32], first: [usize; 2048], rank: usize) -> u32
+pub fn select(keys: &[u32], first: &[usize; 2048], rank: usize) -> u32
     requires rank_in_bounds { rank < length keys.now }
-    requires first_value { first ≡ counts_of keys.now 22 0 }
+    requires first_value { first.now ≡ counts_of keys.now 22 0 }
     ensures { result ≡ get_or (sorted keys.now) rank 0 }
 {
     let place = walk(first, rank);

@@ -6,10 +6,5 @@ ghost use Rattle.silence_levels.specs.Keys.{any_signal};
 pub fn any_signal(flags: &[u8]) -> bool
     ensures { result ≡ any_signal flags.now }
 {
-    for i in 0..flags.len() {
-        if flags[i] == 0 {
-            return true;
-        }
-    }
-    false
+    flags.contains(&0)
 }

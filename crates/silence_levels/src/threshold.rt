@@ -1,6 +1,7 @@
 // Where a frame turns from silence to sound.
 ghost use Rattle.std.specs.Prelude.{◌≡◌};
-ghost use Rattle.silence_levels.specs.Threshold.{decibel_on, auto_of, resolve_of, no_signal, is_fixed, fixed_auto};
+ghost use Rattle.silence_levels.specs.Threshold.{decibel_on, auto_of, resolve_of, no_signal, is_fixed};
+ghost use Rattle.silence_levels.specs.Levels.{thresholds_in};
 
 use base_code::floats;
 use grid::validate::Domain;
@@ -36,6 +37,18 @@ pub struct Thresholds {
     pub off: f32,
 }
 
+// Those of some levels.
+impl From<Levels> for Thresholds {
+    ghost from_gives = { λ l t. t ≡ thresholds_in l };
+
+    fn from(l: Levels) -> Thresholds {
+        Thresholds {
+            on: l.on,
+            off: l.off,
+        }
+    }
+}
+
 // Without a frame with signal nothing reaches the threshold.
 pub fn no_signal() -> Levels
     ensures { result ≡ no_signal }
@@ -52,7 +65,7 @@ pub fn no_signal() -> Levels
 fn decibel_on(floor: f32, reference: f32) -> f32
     ensures { result ≡ decibel_on floor reference }
 {
-    let on = floats::max_f32(floor + 4.0, floats::min_f32(floor + 6.0, reference - 20.0));
+    let on = floats::max(floor + 4.0, floats::min(floor + 6.0, reference - 20.0));
     // A threshold above the reference cannot distinguish a steady sound from noise.
     // Keep steady input; an absolute threshold can reject noise at a known level.
     if on > reference { floor } else { on }
@@ -82,6 +95,7 @@ fn auto(domain: Domain, floor: f32, reference: f32) -> Levels
 }
 
 // The thresholds between which the recording's floor and reference put them.
+#[tactic(auto, unfolding(crate::specs::Threshold::resolve_of))]
 pub fn resolve(domain: Domain, threshold: Threshold, floor: f32, reference: f32) -> Levels
     ensures { result ≡ resolve_of domain threshold floor reference }
 {
@@ -102,22 +116,13 @@ pub fn resolve(domain: Domain, threshold: Threshold, floor: f32, reference: f32)
     }
 }
 
-// Whether the automatic thresholds are the same for all values.
-fn fixed_auto(domain: Domain) -> bool
-    ensures { result ≡ fixed_auto domain }
-{
-    match domain {
-        Domain::Decibels => false,
-        Domain::Scores => true,
-    }
-}
-
 // Whether the thresholds are the same for all values.
+#[tactic(auto, unfolding(crate::specs::Threshold::is_fixed))]
 pub fn is_fixed(domain: Domain, threshold: Threshold) -> bool
     ensures { result ≡ is_fixed domain threshold }
 {
     match threshold {
-        Threshold::Auto => fixed_auto(domain),
+        Threshold::Auto => matches!(domain, Domain::Scores),
         Threshold::Abs(_) => true,
         Threshold::BelowRef(_) => false,
     }

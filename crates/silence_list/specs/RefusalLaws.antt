@@ -1,8 +1,7 @@
--- The chain of the tests: which verdict each end gives, and what is left of a recording and its settings where none fails.
-use Rattle.std.specs.Prelude.{◌≡◌, refl, Bool, true, false, ◌&&◌, List, ℕ, ◌+◌, ◌≤◌, Float, length}
+-- The chain of the tests: what is left of a recording and its settings where none fails, and that no refusal has the number 0.
+use Rattle.std.specs.Prelude.{◌≡◌, refl, Bool, true, false, ◌&&◌, List, ℕ, ◌+◌, ◌≤◌, Float, length, Result, Ok, Err}
 use Rattle.std.proofs.Math.Path.{ap}
-use Rattle.std.proofs.Common.{◌∙◌, arith, leb→le, eqb→eq}
-use Rattle.std.proofs.Math.Bool.{cond}
+use Rattle.std.proofs.Common.{sym, ◌∙◌, arith, leb→le, eqb→eq}
 use Rattle.base_laws.specs.Tests.{holds, both, unmet}
 use Rattle.base_terms.specs.Lists.{all_of}
 use Rattle.base_terms.specs.Work.{work_ok}
@@ -11,17 +10,15 @@ use Rattle.grid.specs.Limits.{max_frame_rate, max_hop, max_frames, max_duration}
 use Rattle.grid.specs.Durations.{duration_ok, InFrames}
 use Rattle.grid.specs.Values.{is_finite}
 use Rattle.grid.specs.ValuesLaws.{values_finite}
-use Rattle.grid.specs.Validate.{validity_of, is_valid}
-use Rattle.grid.specs.ValidateLaws.{passed, frames_parts, lists_parts, within_most, within_pos, valid_is, refusal_none}
+use Rattle.grid.specs.Validate.{validity_of}
+use Rattle.grid.specs.ValidateLaws.{passed, frames_parts, lists_parts, within_most, within_pos, number_some}
 use Rattle.grid.specs.declared.validate.Recording.{Recording}
-use Rattle.grid.specs.declared.validate.Validity.TheVariants.{Valid}
+use Rattle.grid.specs.declared.validate.Refusal as recording_refusal
 use Rattle.silence_levels.specs.Threshold.{threshold_ok}
-use Rattle.silence_list.specs.Refusal.{durations_ok, first_refusal_of, number_of}
+use Rattle.silence_list.specs.Refusal.{durations_ok, or_recording, or_else, first_refusal_of, number_of}
 use Rattle.silence_list.specs.declared.config.SegmentConfig.{SegmentConfig}
 use Rattle.silence_list.specs.declared.refusal.Refusal.{Refusal}
 use Rattle.silence_list.specs.declared.refusal.Refusal.TheVariants.{BadRecording, LongDuration, BadThreshold, ShortWork}
-use Rattle.silence_list.specs.declared.refusal.Verdict.{Verdict}
-use Rattle.silence_list.specs.declared.refusal.Verdict.TheVariants.{Fine, Fails}
 
 -- test 7, taken apart
 pub durations_parts : (c : SegmentConfig) → durations_ok c ≡ true
@@ -47,7 +44,7 @@ pub record SoundReady (r : Recording) (c : SegmentConfig) (values : List Float) 
 
 -- a recording that 1 to 6 accept is ready, with settings that 7 accepts
 pub sound_ready : (r : Recording) (c : SegmentConfig) (values : List Float) (flags : List ℕ) (levels : List Float)
-    → validity_of r values flags levels ≡ Valid → durations_ok c ≡ true → SoundReady r c values flags
+    → validity_of r values flags levels ≡ Ok tt → durations_ok c ≡ true → SoundReady r c values flags
 sound_ready r c values flags levels v d =
     let p = passed r values flags levels v in
     let f = frames_parts r.sample_rate r.frame_rate r.hop p.frames in
@@ -59,66 +56,53 @@ sound_ready r c values flags levels v d =
     let finite = values_finite r.domain values flags levels p.within in
     search (leb→le (length values) max_frames (holds l.0), eqb→eq (length flags) (length values) (holds l.1))
 
--- a chain without refusal has passed its first test, and its rest has none
-step : (b : Bool) (refusal : Refusal) (rest : Verdict) → cond b rest (Fails refusal) ≡ Fine → (b ≡ true) × (rest ≡ Fine)
+-- "refused" is not "accepted"
+refused_accepted : {A : Type 0} {x : A} → ◌≡◌ {A = Result Unit A} (Err x) (Ok tt) → ⊥
+refused_accepted e = let z : ◌≡◌ {A = ℕ} 0 1 = cc in omega arith
+
+-- a chain without refusal has accepted the recording, and its rest has none
+recording_step : (v : Result Unit recording_refusal.Refusal) (rest : Result Unit Refusal) → or_recording v rest ≡ Ok tt → (v ≡ Ok tt) × (rest ≡ Ok tt)
+recording_step (Ok u) rest e = (refl, e)
+recording_step (Err x) rest e = absurd (refused_accepted e)
+
+-- and has passed its first test
+step : (b : Bool) (refusal : Refusal) (rest : Result Unit Refusal) → or_else b refusal rest ≡ Ok tt → (b ≡ true) × (rest ≡ Ok tt)
 step true refusal rest e = (refl, e)
-step false refusal rest e = let z : ◌≡◌ {A = ℕ} 0 1 = cc in absurd (omega arith)
+step false refusal rest e = absurd (refused_accepted e)
+
+-- no refusal of a recording has the number 0; where the rest of the chain gives none of that number, the chain doesn't
+other_recording : (v : Result Unit recording_refusal.Refusal) (rest : Result Unit Refusal) (x : Refusal) → (rest ≡ Err x → number_of x ≡ 0 → ⊥)
+    → or_recording v rest ≡ Err x → number_of x ≡ 0 → ⊥
+other_recording (Ok u) rest x g e z = g e z
+other_recording (Err y) rest x g e z = let q : BadRecording y ≡ x = cc in number_some y (ap number_of q ∙ z)
 
 -- what holds of a chain's first refusal, and of the refusals in its rest, holds of the one that is given
-other : (b : Bool) (refusal : Refusal) (rest : Verdict) (x : Refusal) → (number_of refusal ≡ 0 → b ≡ true) → (rest ≡ Fails x → number_of x ≡ 0 → ⊥)
-    → cond b rest (Fails refusal) ≡ Fails x → number_of x ≡ 0 → ⊥
+other : (b : Bool) (refusal : Refusal) (rest : Result Unit Refusal) (x : Refusal) → (number_of refusal ≡ 0 → b ≡ true) → (rest ≡ Err x → number_of x ≡ 0 → ⊥)
+    → or_else b refusal rest ≡ Err x → number_of x ≡ 0 → ⊥
 other true refusal rest x f g e z = g e z
 other false refusal rest x f g e z = let q : refusal ≡ x = cc in unmet (f (ap number_of q ∙ z))
 
-fine_no_refusal : (x : Refusal) → Fine ≡ Fails x → ⊥
-fine_no_refusal x e = let z : ◌≡◌ {A = ℕ} 0 1 = cc in omega arith
-
--- ---- the five ends of the chain, each under what has passed before it
+-- ---- a chain in which no test fails, and one that gives a refusal
 
 module _ (r : Recording) (c : SegmentConfig) (values : List Float) (flags : List ℕ) (levels : List Float) (n32 n64 nf : ℕ) where
-  pub fails_recording : is_valid (validity_of r values flags levels) ≡ false → Fails (BadRecording (validity_of r values flags levels)) ≡ first_refusal_of r c values flags levels n32 n64 nf
-  unfolding first_refusal_of
-  fails_recording n = rw n
-
-  module _ (v : is_valid (validity_of r values flags levels) ≡ true) where
-    pub fails_duration : durations_ok c ≡ false → Fails LongDuration ≡ first_refusal_of r c values flags levels n32 n64 nf
-    unfolding first_refusal_of
-    fails_duration n = rw (v, n)
-
-    module _ (d : durations_ok c ≡ true) where
-      pub fails_threshold : threshold_ok c.threshold ≡ false → Fails BadThreshold ≡ first_refusal_of r c values flags levels n32 n64 nf
-      unfolding first_refusal_of
-      fails_threshold n = rw (v, d, n)
-
-      module _ (t : threshold_ok c.threshold ≡ true) where
-        pub fails_work : work_ok (length values + 1) n32 n64 nf ≡ false → Fails ShortWork ≡ first_refusal_of r c values flags levels n32 n64 nf
-        unfolding first_refusal_of
-        fails_work n = rw (v, d, t, n)
-
-        pub passes : work_ok (length values + 1) n32 n64 nf ≡ true → Fine ≡ first_refusal_of r c values flags levels n32 n64 nf
-        unfolding first_refusal_of
-        passes n = rw (v, d, t, n)
-
-  -- ---- and back
-
   -- without a refusal the recording is ready, and the work lists are long enough
-  pub fine_ready : first_refusal_of r c values flags levels n32 n64 nf ≡ Fine → SoundReady r c values flags × WorkIn (length values + 1) n32 n64 nf
+  pub fine_ready : first_refusal_of r c values flags levels n32 n64 nf ≡ Ok tt → SoundReady r c values flags × WorkIn (length values + 1) n32 n64 nf
   unfolding first_refusal_of
   fine_ready e =
-      let last = cond (work_ok (length values + 1) n32 n64 nf) Fine (Fails ShortWork) in
-      let third = cond (threshold_ok c.threshold) last (Fails BadThreshold) in
-      let second = cond (durations_ok c) third (Fails LongDuration) in
-      let a = step (is_valid (validity_of r values flags levels)) (BadRecording (validity_of r values flags levels)) second e in
+      let last = or_else (work_ok (length values + 1) n32 n64 nf) ShortWork (Ok tt) in
+      let third = or_else (threshold_ok c.threshold) BadThreshold last in
+      let second = or_else (durations_ok c) LongDuration third in
+      let a = recording_step (validity_of r values flags levels) second e in
       let b = step (durations_ok c) LongDuration third a.1 in
       let t = step (threshold_ok c.threshold) BadThreshold last b.1 in
-      let w = step (work_ok (length values + 1) n32 n64 nf) ShortWork Fine t.1 in
-      (sound_ready r c values flags levels (valid_is (validity_of r values flags levels) a.0) b.0, work_parts (length values + 1) n32 n64 nf w.0)
+      let w = step (work_ok (length values + 1) n32 n64 nf) ShortWork (Ok tt) t.1 in
+      (sound_ready r c values flags levels a.0 b.0, work_parts (length values + 1) n32 n64 nf w.0)
 
   -- no refusal that is given has the number 0
-  pub fails_some : (x : Refusal) → first_refusal_of r c values flags levels n32 n64 nf ≡ Fails x → number_of x ≡ 0 → ⊥
+  pub fails_some : (x : Refusal) → first_refusal_of r c values flags levels n32 n64 nf ≡ Err x → number_of x ≡ 0 → ⊥
   unfolding first_refusal_of
   fails_some x =
-      other (is_valid (validity_of r values flags levels)) (BadRecording (validity_of r values flags levels)) _ x (λ z. ap is_valid ((refusal_none (validity_of r values flags levels)).0 z))
+      other_recording (validity_of r values flags levels) _ x
       (other (durations_ok c) LongDuration _ x (λ z. absurd (omega arith))
       (other (threshold_ok c.threshold) BadThreshold _ x (λ z. absurd (omega arith))
-      (other (work_ok (length values + 1) n32 n64 nf) ShortWork Fine x (λ z. absurd (omega arith)) (λ e z. fine_no_refusal x e))))
+      (other (work_ok (length values + 1) n32 n64 nf) ShortWork (Ok tt) x (λ z. absurd (omega arith)) (λ e z. refused_accepted (sym e)))))

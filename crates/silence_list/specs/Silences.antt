@@ -1,6 +1,6 @@
 -- Document 01's operation "silence list": its answer, and what each lent list holds afterwards.
 -- `silence_list_of` is what the entry point's contract cites; SilencesLaws has a law for each of its ends, Theorems what the list is.
-use Rattle.std.specs.Prelude.{ℕ, ◌/◌, cond, List, leb, Float, length}
+use Rattle.std.specs.Prelude.{ℕ, ◌/◌, cond, List, leb, Float, length, Result, Ok, Err}
 use Rattle.base_terms.specs.Lists.{onto}
 use Rattle.base_terms.specs.Work.{Work, cleared}
 use Rattle.grid.specs.Durations.{frames_in}
@@ -10,10 +10,9 @@ use Rattle.silence_runs.specs.Sounds.{sounds_of}
 use Rattle.silence_runs.specs.Silences.{silences_of}
 use Rattle.silence_list.specs.Refusal as tests
 use Rattle.silence_list.specs.declared.config.SegmentConfig.{SegmentConfig}
-use Rattle.silence_list.specs.declared.refusal.Verdict.{Verdict}
-use Rattle.silence_list.specs.declared.refusal.Verdict.TheVariants.{Fine, Fails}
-use Rattle.silence_list.specs.declared.list.Answer.{Answer}
-use Rattle.silence_list.specs.declared.list.Answer.TheVariants.{Found, Refused, ShortOutput}
+use Rattle.silence_list.specs.declared.refusal.Refusal.{Refusal}
+use Rattle.silence_list.specs.declared.list.Error.{Error}
+use Rattle.silence_list.specs.declared.list.Error.TheVariants.{Refused, ShortOutput}
 
 -- the sound flags of the frames: thresholds from the recording, minimum lengths in frames rounded half up
 unfoldable pub sounds_in : Recording → SegmentConfig → List Float → List ℕ → List ℕ
@@ -27,11 +26,15 @@ sounds_in r c values flags =
 unfoldable pub silences_in : Recording → SegmentConfig → List Float → List ℕ → List ℕ
 silences_in r c values flags = silences_of (sounds_in r c values flags)
 
+-- what the operation answers: how many silences there are, or why none are written
+abbrev pub Answer : Type 0
+Answer = Result ℕ Error
+
 -- document 01's number for each case; 0 where the list was made
 abbrev pub number_of : Answer → ℕ
-number_of (Found n) = 0
-number_of (Refused r) = tests.number_of r
-number_of ShortOutput = 12
+number_of (Ok n) = 0
+number_of (Err (Refused r)) = tests.number_of r
+number_of (Err ShortOutput) = 12
 
 -- what a call leaves: its answer, and every list that was lent to be written
 pub record End : Type 0 where
@@ -47,13 +50,13 @@ end_of answer out work = record { answer = answer; out = out; work = work }
 unfoldable pub silences_handed_out : List ℕ → List ℕ → Work → End
 silences_handed_out silences out work =
     cond (leb (length silences) (length out))
-    (end_of (Found (length silences / 2)) (onto silences out) (cleared work))
-    (end_of ShortOutput out (cleared work))
+    (end_of (Ok (length silences / 2)) (onto silences out) (cleared work))
+    (end_of (Err ShortOutput) out (cleared work))
 
 -- a refusal before 12 leaves every list as it was; else the silences are handed out
-abbrev pub end_after : Verdict → List ℕ → List ℕ → Work → End
-end_after Fine silences out work = silences_handed_out silences out work
-end_after (Fails r) silences out work = end_of (Refused r) out work
+abbrev pub end_after : Result Unit Refusal → List ℕ → List ℕ → Work → End
+end_after (Ok u) silences out work = silences_handed_out silences out work
+end_after (Err r) silences out work = end_of (Err (Refused r)) out work
 
 -- document 01's "silence list": what a call of it leaves
 unfoldable pub silence_list_of : Recording → SegmentConfig → List Float → List ℕ → List Float → List ℕ → Work → End

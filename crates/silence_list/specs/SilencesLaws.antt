@@ -1,5 +1,5 @@
 -- One law for each end of the operation "silence list", and how the code comes to its silences.
-use Rattle.std.specs.Prelude.{◌≡◌, List, ℕ, ◌/◌, ◌≤◌, ◌<◌, Float, length, take}
+use Rattle.std.specs.Prelude.{◌≡◌, List, ℕ, ◌/◌, ◌≤◌, ◌<◌, Float, length, take, Ok, Err}
 use Rattle.std.proofs.Common.{ap, ◌∙◌, arith, length-take, le-leb}
 use Rattle.std.proofs.lemmas.Bool.{lt-leb}
 use Rattle.base_terms.specs.Lists.{onto, filled}
@@ -14,21 +14,19 @@ use Rattle.silence_runs.specs.Silences.{silences_of}
 use Rattle.silence_list.specs.Refusal.{first_refusal_of}
 use Rattle.silence_list.specs.Silences.{sounds_in, silences_in, end_of, silences_handed_out, silence_list_of}
 use Rattle.silence_list.specs.declared.config.SegmentConfig.{SegmentConfig}
-use Rattle.silence_list.specs.declared.refusal.Refusal.{Refusal}
-use Rattle.silence_list.specs.declared.refusal.Verdict.TheVariants.{Fine, Fails}
-use Rattle.silence_list.specs.declared.list.Answer.TheVariants.{Found, Refused, ShortOutput}
+use Rattle.silence_list.specs.declared.list.Error.TheVariants.{ShortOutput}
 
 -- ---- handed out
 
 module _ (silences out : List ℕ) (work after : Work) (e : after ≡ cleared work) where
   -- the output is too short
-  pub handed-short : length out < length silences → end_of ShortOutput out after ≡ silences_handed_out silences out work
+  pub handed-short : length out < length silences → end_of (Err ShortOutput) out after ≡ silences_handed_out silences out work
   unfolding silences_handed_out
   handed-short h = rw (lt-leb (length silences) (length out) h, e)
 
   -- it has room
   pub handed-found : (n : ℕ) (written : List ℕ) → length silences ≡ n → n ≤ length out → written ≡ onto silences out
-      → end_of (Found (n / 2)) written after ≡ silences_handed_out silences out work
+      → end_of (Ok (n / 2)) written after ≡ silences_handed_out silences out work
   unfolding silences_handed_out
   handed-found n written l h w = rw (le-leb (length silences) (length out) (omega arith), e, w, ← l)
 
@@ -56,21 +54,15 @@ front_fits n list silences l e = omega (arith, length-take n list, ap length e)
 -- ---- the operation
 
 module _ (r : Recording) (c : SegmentConfig) (values : List Float) (flags : List ℕ) (levels : List Float) (out : List ℕ) (work : Work) where
-  -- where a test before 12 fails, every list is as it was
-  pub list_refused : (x : Refusal) → Fails x ≡ first_refusal_of r c values flags levels (length work.u32s) (length work.u64s) (length work.f64s)
-      → end_of (Refused x) out work ≡ silence_list_of r c values flags levels out work
-  unfolding silence_list_of
-  list_refused x e = rw (← e)
-
-  -- where none fails, the silences are handed out
-  pub list_handed : Fine ≡ first_refusal_of r c values flags levels (length work.u32s) (length work.u64s) (length work.f64s)
+  -- where no test before 12 fails, the silences are handed out
+  pub list_handed : Ok tt ≡ first_refusal_of r c values flags levels (length work.u32s) (length work.u64s) (length work.f64s)
       → silences_handed_out (silences_in r c values flags) out work ≡ silence_list_of r c values flags levels out work
   unfolding silence_list_of
   list_handed e = rw (← e)
 
   -- the silences at the front of the first work list, of which only the length counts beside them
   pub list_front : (front : List ℕ) (n : ℕ) → length front ≡ length work.u32s → take n front ≡ silences_in r c values flags
-      → Fine ≡ first_refusal_of r c values flags levels (length work.u32s) (length work.u64s) (length work.f64s)
+      → Ok tt ≡ first_refusal_of r c values flags levels (length work.u32s) (length work.u64s) (length work.f64s)
       → silences_handed_out (take n front) out (work_of front work.u64s work.f64s) ≡ silence_list_of r c values flags levels out work
   unfolding silences_handed_out filled
   list_front front n l e f = rw (l, e) (list_handed f)

@@ -1,7 +1,7 @@
 -- What the operation "silence list" promises of its answer: the definitions of the silences give it, and the output is theirs at its front.
 use Rattle.std.proofs.Math.Path.{◌≡◌, refl, ap}
 use Rattle.std.proofs.Common.{sym, ◌∙◌, arith, leb-true, eq-eqb, eqb-true}
-use Rattle.std.specs.Prelude.{◌↔◌, Bool, true, false, cond, List, ℕ, ◌+◌, ◌*◌, ◌/◌, ◌≤◌, ◌<◌, leb, Float, get_or}
+use Rattle.std.specs.Prelude.{◌↔◌, Bool, true, false, cond, List, ℕ, ◌+◌, ◌*◌, ◌/◌, ◌≤◌, ◌<◌, leb, Float, get_or, Result, Ok, Err}
 use Rattle.std.proofs.Math.ListN.{length}
 use Rattle.base_terms.specs.Lists.{onto}
 use Rattle.base_terms.specs.Work.{Work, cleared}
@@ -15,9 +15,7 @@ use Rattle.silence_list.specs.RefusalLaws.{fine_ready, fails_some}
 use Rattle.silence_list.specs.Silences.{sounds_in, silences_in, number_of, end_of, silences_handed_out, end_after, silence_list_of}
 use Rattle.silence_list.specs.declared.config.SegmentConfig.{SegmentConfig}
 use Rattle.silence_list.specs.declared.refusal.Refusal.{Refusal}
-use Rattle.silence_list.specs.declared.refusal.Verdict.{Verdict}
-use Rattle.silence_list.specs.declared.refusal.Verdict.TheVariants.{Fine, Fails}
-use Rattle.silence_list.specs.declared.list.Answer.TheVariants.{Found, ShortOutput}
+use Rattle.silence_list.specs.declared.list.Error.TheVariants.{ShortOutput}
 
 -- n silences at the front of a list, of so many frames with these sound flags: document 01's "for each silence its first frame and the frame after its last"
 pub record ListsSilences (frames : ℕ) (sounds : List ℕ) (n : ℕ) (out : List ℕ) : Type 0 where
@@ -77,42 +75,42 @@ module _ (frames : ℕ) (sounds : List ℕ) (n : ℕ) (ss out : List ℕ) (e : l
 -- ---- of the answer
 
 -- what "found" says: no test failed, and the output had room for the silences at its front
-record Handed (v : Verdict) (silences out after : List ℕ) (n : ℕ) : Type 0 where
-  fine : v ≡ Fine
+record Handed (v : Result Unit Refusal) (silences out after : List ℕ) (n : ℕ) : Type 0 where
+  fine : v ≡ Ok tt
   number : n ≡ length silences / 2
   room : length silences ≤ length out
   front : after ≡ onto silences out
 
 module _ (silences out : List ℕ) (work : Work) where
   handed_by_lem : (b : Bool) → leb (length silences) (length out) ≡ b → (n : ℕ)
-      → (cond b (end_of (Found (length silences / 2)) (onto silences out) (cleared work)) (end_of ShortOutput out (cleared work))).answer ≡ Found n
-      → Handed Fine silences out (cond b (end_of (Found (length silences / 2)) (onto silences out) (cleared work)) (end_of ShortOutput out (cleared work))).out n
+      → (cond b (end_of (Ok (length silences / 2)) (onto silences out) (cleared work)) (end_of (Err ShortOutput) out (cleared work))).answer ≡ Ok n
+      → Handed (Ok tt) silences out (cond b (end_of (Ok (length silences / 2)) (onto silences out) (cleared work)) (end_of (Err ShortOutput) out (cleared work))).out n
   handed_by_lem true t n e = record { fine = refl; number = cc; room = leb-true (length silences) (length out) t; front = refl }
   handed_by_lem false t n e = let z : ◌≡◌ {A = ℕ} 0 1 = cc in absurd (omega arith)
 
-  found_by : (v : Verdict) (n : ℕ) → (end_after v silences out work).answer ≡ Found n → Handed v silences out (end_after v silences out work).out n
+  found_by : (v : Result Unit Refusal) (n : ℕ) → (end_after v silences out work).answer ≡ Ok n → Handed v silences out (end_after v silences out work).out n
   unfolding silences_handed_out
-  found_by Fine n e = handed_by_lem (leb (length silences) (length out)) refl n e
-  found_by (Fails x) n e = let z : ◌≡◌ {A = ℕ} 0 1 = cc in absurd (omega arith)
+  found_by (Ok u) n e = handed_by_lem (leb (length silences) (length out)) refl n e
+  found_by (Err x) n e = let z : ◌≡◌ {A = ℕ} 0 1 = cc in absurd (omega arith)
 
-  zero_by : (b : Bool) → number_of (cond b (end_of (Found (length silences / 2)) (onto silences out) (cleared work)) (end_of ShortOutput out (cleared work))).answer ≡ 0
-      → (n : ℕ) × ((cond b (end_of (Found (length silences / 2)) (onto silences out) (cleared work)) (end_of ShortOutput out (cleared work))).answer ≡ Found n)
+  zero_by : (b : Bool) → number_of (cond b (end_of (Ok (length silences / 2)) (onto silences out) (cleared work)) (end_of (Err ShortOutput) out (cleared work))).answer ≡ 0
+      → (n : ℕ) × ((cond b (end_of (Ok (length silences / 2)) (onto silences out) (cleared work)) (end_of (Err ShortOutput) out (cleared work))).answer ≡ Ok n)
   zero_by true z = (length silences / 2, refl)
   zero_by false z = absurd (omega arith)
 
-  made_by : (v : Verdict) → ((x : Refusal) → v ≡ Fails x → tests.number_of x ≡ 0 → ⊥) → number_of (end_after v silences out work).answer ≡ 0
-      → (n : ℕ) × ((end_after v silences out work).answer ≡ Found n)
+  made_by : (v : Result Unit Refusal) → ((x : Refusal) → v ≡ Err x → tests.number_of x ≡ 0 → ⊥) → number_of (end_after v silences out work).answer ≡ 0
+      → (n : ℕ) × ((end_after v silences out work).answer ≡ Ok n)
   unfolding silences_handed_out
-  made_by Fine f z = zero_by (leb (length silences) (length out)) z
-  made_by (Fails x) f z = absurd (f x refl z)
+  made_by (Ok u) f z = zero_by (leb (length silences) (length out)) z
+  made_by (Err x) f z = absurd (f x refl z)
 
 module _ (r : Recording) (c : SegmentConfig) (values : List Float) (flags : List ℕ) (levels : List Float) (out : List ℕ) (work : Work) where
   flags_each : length flags ≡ length values → length (sounds_in r c values flags) ≡ length values
   unfolding sounds_in
   flags_each f = sounds_length _ _ _ _ values flags f
 
-  -- from `Found n` alone: the n silences at the front of the output are in order, apart and within the frames, and hold exactly the silent frames
-  pub silences-found : (n : ℕ) → (silence_list_of r c values flags levels out work).answer ≡ Found n
+  -- from `Ok n` alone: the n silences at the front of the output are in order, apart and within the frames, and hold exactly the silent frames
+  pub silences-found : (n : ℕ) → (silence_list_of r c values flags levels out work).answer ≡ Ok n
       → ListsSilences (length values) (sounds_in r c values flags) n (silence_list_of r c values flags levels out work).out
   unfolding silence_list_of silences_in
   silences-found n e =
@@ -124,7 +122,7 @@ module _ (r : Recording) (c : SegmentConfig) (values : List Float) (flags : List
       rw (h.front, ← flags_each ready.flagged) (fronted (length sounds) sounds n (silences_of sounds) out even h.room (own sounds n even))
 
   -- the number is 0 exactly where the list was made
-  pub list_zero : (number_of (silence_list_of r c values flags levels out work).answer ≡ 0) ↔ ((n : ℕ) × ((silence_list_of r c values flags levels out work).answer ≡ Found n))
+  pub list_zero : (number_of (silence_list_of r c values flags levels out work).answer ≡ 0) ↔ ((n : ℕ) × ((silence_list_of r c values flags levels out work).answer ≡ Ok n))
   unfolding silence_list_of
   list_zero = (
     made_by (silences_in r c values flags) out work (tests.first_refusal_of r c values flags levels (length work.u32s) (length work.u64s) (length work.f64s))

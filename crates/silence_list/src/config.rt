@@ -20,22 +20,18 @@ pub struct SegmentConfig {
 }
 
 // Test 7.
+#[tactic(auto, unfolding(crate::specs::Refusal::durations_ok))]
 pub fn durations_ok(c: SegmentConfig) -> bool
     ensures { result ≡ durations_ok c }
 {
-    if !durations::duration_ok(c.min_silence) {
-        return false;
-    }
-    if !durations::duration_ok(c.min_sound) {
-        return false;
-    }
-    if !durations::duration_ok(c.pre) {
-        return false;
-    }
-    durations::duration_ok(c.tail)
+    durations::duration_ok(c.min_silence)
+        && durations::duration_ok(c.min_sound)
+        && durations::duration_ok(c.pre)
+        && durations::duration_ok(c.tail)
 }
 
 // Test 11.
+#[tactic(auto, unfolding(silence_levels::specs::Threshold::threshold_ok))]
 pub fn threshold_ok(t: Threshold) -> bool
     ensures { result ≡ threshold_ok t }
 {

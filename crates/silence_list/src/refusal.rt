@@ -1,67 +1,68 @@
 // The tests before 12, and the chain of them. None touches work memory.
 ghost use Rattle.std.specs.Prelude.{◌≡◌};
 ghost use Rattle.silence_list.specs.Refusal.{first_refusal_of, number_of};
+ghost use Rattle.silence_list.specs.declared.refusal.Refusal.TheVariants.{BadRecording};
 
 use crate::config;
 use crate::config::SegmentConfig;
 use base_code::work;
-use grid::validate;
-use grid::validate::{Recording, Validity};
+use grid::validate::Recording;
+use grid::{Readings, validate};
 
 // Why a test fails.
-#[derive(Clone, Copy)]
+#[derive(Clone, Copy, Debug, PartialEq, Eq)]
 pub enum Refusal {
-    BadRecording(Validity),
+    BadRecording(validate::Refusal),
     LongDuration,
     BadThreshold,
     ShortWork,
 }
 
-// What the tests say: that none fails, or the first that does.
-#[derive(Clone, Copy)]
-pub enum Verdict {
-    Fine,
-    Fails(Refusal),
+// A recording that is refused makes the first test fail.
+impl From<validate::Refusal> for Refusal {
+    ghost from_gives = { λ x r. r ≡ BadRecording x };
+
+    fn from(x: validate::Refusal) -> Refusal {
+        Refusal::BadRecording(x)
+    }
 }
 
 // Document 01's number for each case.
-pub fn number(r: Refusal) -> u32
-    ensures { result ≡ number_of r }
-{
-    match r {
-        Refusal::BadRecording(v) => validate::refusal(v),
-        Refusal::LongDuration => 7,
-        Refusal::BadThreshold => 11,
-        Refusal::ShortWork => 13,
+impl From<Refusal> for u32 {
+    ghost from_gives = { λ r n. n ≡ number_of r };
+
+    fn from(r: Refusal) -> u32 {
+        match r {
+            Refusal::BadRecording(x) => u32::from(x),
+            Refusal::LongDuration => 7,
+            Refusal::BadThreshold => 11,
+            Refusal::ShortWork => 13,
+        }
     }
 }
 
 // The tests in document 01's order. It reads the recording alone, and of work memory its lengths.
+#[tactic(auto, unfolding(crate::specs::Refusal::first_refusal_of))]
 pub fn first_refusal(
     r: Recording,
     c: SegmentConfig,
-    values: &[f32],
-    flags: &[u8],
-    levels: &[f64],
+    readings: &Readings,
     n32: usize,
     n64: usize,
     nf: usize,
-) -> Verdict
-    ensures { result ≡ first_refusal_of r c values.now flags.now levels.now n32 n64 nf }
+) -> Result<(), Refusal>
+    ensures { result ≡ first_refusal_of r c
+        readings.now.values.now readings.now.flags.now readings.now.levels.now n32 n64 nf }
 {
-    let validity = r.validate(values, flags, levels);
-    if !validate::is_valid(validity) {
-        return Verdict::Fails(Refusal::BadRecording(validity));
-    }
+    r.validate(readings)?;
     if !config::durations_ok(c) {
-        return Verdict::Fails(Refusal::LongDuration);
+        return Err(Refusal::LongDuration);
     }
-    let threshold = c.threshold;
-    if !config::threshold_ok(threshold) {
-        return Verdict::Fails(Refusal::BadThreshold);
+    if !config::threshold_ok(c.threshold) {
+        return Err(Refusal::BadThreshold);
     }
-    if !work::work_ok(values.len() + 1, n32, n64, nf) {
-        return Verdict::Fails(Refusal::ShortWork);
+    if !work::work_ok(readings.values.len() + 1, n32, n64, nf) {
+        return Err(Refusal::ShortWork);
     }
-    Verdict::Fine
+    Ok(())
 }

@@ -1,11 +1,15 @@
 -- The silences as one pass over the frames finds them, with no list of sound flags: a sound that is long enough ends the silence before it.
 -- OnePassLaws shows that they are the silences of `sounds_of`.
-use Rattle.std.specs.Prelude.{ℕ, suc, ◌-◌, Bool, ◌&&◌, cond, List, [], ◌∷◌, ◌++◌, eqb, ltb, leb, Float}
+use Rattle.std.specs.Prelude.{ℕ, suc, ◌-◌, Bool, not, ◌&&◌, cond, List, [], ◌∷◌, ◌++◌, eqb, ltb, leb, Float}
 use Rattle.silence_runs.specs.Hysteresis.{reached}
 
 -- whether a frame sounds by one threshold
 unfoldable pub sound_by : Float → Float → ℕ → ℕ
 sound_by threshold value flag = cond (eqb flag 1) 0 (reached threshold value)
+
+-- whether a frame's sound flag is another
+unfoldable pub is_other : Float → ℕ → Float × ℕ → Bool
+is_other threshold sound frame = not (eqb (sound_by threshold frame.0 frame.1) sound)
 
 -- how many frames in front have one and the same sound flag
 unfoldable pub stay : Float → ℕ → List Float → List ℕ → ℕ

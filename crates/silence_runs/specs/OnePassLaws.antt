@@ -8,20 +8,19 @@ use mathlib.Core.List.{List, [], ◌∷◌, ◌++◌, append-nil}
 use Prim.Native.Nat.{ℕ, zero, suc, ◌+◌, ◌-◌, ◌≤◌, ◌<◌}
 use Rattle.std.proofs.Math.Nat.{add-zero, add-sub_cancel, add-sub_cancel_left}
 use Rattle.std.proofs.Math.Dec.{eqb-suc-zero}
-use Rattle.std.specs.Float.Ieee.{le}
 use Rattle.std.proofs.Math.ListN.{replicate}
 use borrow.Author.Tests.{ne_eqb, lt-ltb, le-ltb, le-leb, lt-leb}
 use Rattle.base_laws.specs.Tests.{lt_or_le, holds, tested}
 use Rattle.base_terms.specs.Lists.{all_of}
 use Rattle.silence_runs.specs.RunsLaws.{NotFirst, longer, by_runs}
-use Rattle.silence_runs.specs.Hysteresis.{reached, hysteresis}
+use Rattle.silence_runs.specs.Hysteresis.{hysteresis}
 use Rattle.silence_runs.specs.HysteresisLaws.{hysteresis-flags}
 use Rattle.silence_runs.specs.FillLaws.{fill_flags, fill_none, fill_other, fill_run}
 use Rattle.silence_runs.specs.Fill.{filled_as, fill_short}
 use Rattle.silence_runs.specs.Sounds.{is_silent, any_sound, fill_silence, sounds_of}
 use Rattle.silence_runs.specs.Silences.{silences_of}
 use Rattle.silence_runs.specs.SilencesLaws.{is_edge, edges, one_on, silences-edges}
-use Rattle.silence_runs.specs.OnePass.{sound_by, lasts, silence_between, last_silence, silences_from}
+use Rattle.silence_runs.specs.OnePass.{lasts, silence_between, last_silence, silences_from}
 
 -- ---- runs that last
 
@@ -55,11 +54,6 @@ between_is min first end e = rw e
 pub between_not : (min first end : ℕ) → lasts min (end - first) ≡ false → silence_between min first end ≡ []
 unfolding silence_between
 between_not min first end e = rw e
-
--- below the threshold no frame sounds
-pub sound_below : (threshold value : Float) (flag : ℕ) → le threshold value ≡ false → 0 ≡ sound_by threshold value flag
-unfolding sound_by reached
-sound_below threshold value flag e = rw e (elim (tested (eqb flag 1)) [ inl t ↦ rw t | inr t ↦ rw t ])
 
 -- ---- the pass, run by run
 

@@ -1,16 +1,18 @@
 -- What holds while a loop lists the silences in one pass: at each turn the frames ahead are silent frames, a run of sound, and the rest.
-use Rattle.std.specs.Prelude.{◌≡◌, true, false, cond, eqb, Float, get_or}
+use Rattle.std.specs.Prelude.{◌≡◌, Bool, true, false, cond, eqb, ltb, Float, get_or, Option, Some, None}
+use Rattle.std.proofs.lemmas.Slice.Zip.{length-zip}
 use Rattle.std.proofs.Math.Path.{refl, sym, ap, subst}
-use Rattle.std.proofs.Common.{◌∙◌, add-one, length-append, length-drop, take-append-drop, drop-drop, take_at, drop_at, length-take-le}
+use Rattle.std.proofs.Common.{◌∙◌, nltb→le, length-append, length-drop, take-append-drop, drop-drop, take_at, drop_at, take_all, length-take-le}
 use Rattle.std.proofs.Math.Logic.{inl, inr}
 use mathlib.Core.List.{List, [], ◌∷◌, ◌++◌, append-nil, append_assoc}
 use Prim.Native.Nat.{ℕ, zero, suc, ◌+◌, ◌-◌, ◌≤◌, ◌<◌, min}
 use native.Mathlib.Omega.{arith}
 use Rattle.std.specs.Float.Ieee.{nan}
+use Rattle.std.specs.List.{position_or_len, position, zip}
 use Rattle.std.proofs.Math.ListN.{length, take, drop, replicate, drop_of_length-le}
 use Rattle.std.proofs.lemmas.List.Edits.{sets, sets-eq}
-use Rattle.std.proofs.Math.Seq.{length-sets, drop-cons}
-use borrow.Author.Tests.{lt-ltb, le-ltb, eq-eqb, ne_eqb, eqb-true, eqb-false}
+use Rattle.std.proofs.Math.Seq.{length-sets}
+use borrow.Author.Tests.{lt-ltb, le-ltb, eqb-true, eqb-false}
 use Rattle.base_laws.specs.Tests.{lt_or_le, tested}
 use Rattle.base_terms.specs.Lists.{onto}
 use Rattle.silence_runs.specs.RunsLaws.{NotFirst}
@@ -18,46 +20,37 @@ use Rattle.silence_runs.specs.Hysteresis.{sound_at, sounds_after, hysteresis}
 use Rattle.silence_runs.specs.HysteresisLaws.{sound_small, after_cons}
 use Rattle.silence_runs.specs.Sounds.{sounds_of}
 use Rattle.silence_runs.specs.Silences.{silences_of}
-use Rattle.silence_runs.specs.OnePass.{sound_by, stay, lasts, silence_between, last_silence, silences_from, next_frame}
+use Rattle.silence_runs.specs.OnePass.{sound_by, is_other, stay, lasts, silence_between, last_silence, silences_from, next_frame}
 use Rattle.silence_runs.specs.OnePassLaws.{from_zeros, from-run, from_silent, from_end, one_pass_filled, between_small, lasts_some}
+
+-- the part of a list that is lent from a place on
+abbrev behind : {A : Type 0} → List A → ℕ → List A
+behind xs from = take (length xs - from) (drop from xs)
+
+behind_drop : {A : Type 0} (xs : List A) (from : ℕ) → behind xs from ≡ drop from xs
+behind_drop xs from = take_all (length xs - from) (drop from xs) (omega (arith, length-drop from xs))
+
+-- what an answer by a test holds where it holds something, and that the test fails where it does not
+some_at : (b : Bool) (m n : ℕ) → cond b (Some m) None ≡ Some n → n ≡ m
+some_at true m n e = cc
+some_at false m n e = let z : ◌≡◌ {A = ℕ} 0 1 = cc in absurd (omega arith)
+
+none_at : (b : Bool) (m : ℕ) → ◌≡◌ {A = Option ℕ} (cond b (Some m) None) None → b ≡ false
+none_at true m e = let z : ◌≡◌ {A = ℕ} 0 1 = cc in absurd (omega arith)
+none_at false m e = refl
 
 -- ---- the next change
 
 module _ (threshold : Float) (sound : ℕ) where
-  stay_cons : (values : List Float) (flags : List ℕ) (i : ℕ) → i < length values → length flags ≡ length values
-      → stay threshold sound (drop i values) (drop i flags)
-      ≡ cond (eqb (sound_by threshold (get_or values i nan) (get_or flags i 0)) sound) (suc (stay threshold sound (drop (suc i) values) (drop (suc i) flags))) 0
-  unfolding stay
-  stay_cons values flags i l e = rw (drop-cons values i nan l, drop-cons flags i 0 (omega arith))
-
-  -- what holds while a loop that ends at `end` seeks the change
-  pub record ChangeSought (values : List Float) (flags : List ℕ) (from end i : ℕ) : Type 0 where
-    pub within : i ≤ length values
-    pub ends : end ≡ length values
-    pub flagged : length flags ≡ length values
-    pub left : i + stay threshold sound (drop i values) (drop i flags) ≡ from + stay threshold sound (drop from values) (drop from flags)
-
-  module _ (values : List Float) (flags : List ℕ) (from end i : ℕ) (w : ChangeSought values flags from end i) where
-    -- frame i is as those before it
-    pub change_next : i < end → sound_by threshold (get_or values i nan) (get_or flags i 0) ≡ sound → ChangeSought values flags from end (i + 1)
-    change_next l e =
-        let s = stay_cons values flags i (omega (arith, w.ends)) w.flagged in
-        let t : stay threshold sound (drop i values) (drop i flags) ≡ suc (stay threshold sound (drop (suc i) values) (drop (suc i) flags)) = (rw (eq-eqb (sound_by threshold (get_or values i nan) (get_or flags i 0)) sound e) at s) in
-        record { within = omega (arith, w.ends); ends = w.ends; flagged = w.flagged; left = rw (add-one i) (omega (arith, w.left, t)) }
-
-    -- frame i is another: the change is there
-    pub change_found : i < end → (sound_by threshold (get_or values i nan) (get_or flags i 0) ≡ sound → ⊥) → i ≡ from + stay threshold sound (drop from values) (drop from flags)
-    change_found l h =
-        let s = stay_cons values flags i (omega (arith, w.ends)) w.flagged in
-        let t : stay threshold sound (drop i values) (drop i flags) ≡ 0 = (rw (ne_eqb (sound_by threshold (get_or values i nan) (get_or flags i 0)) sound h) at s) in
-        omega (arith, w.left, t)
-
-    -- no frame is left: the change is the end
-    pub change_done : end ≤ i → end ≡ from + stay threshold sound (drop from values) (drop from flags)
-    unfolding stay
-    change_done l =
-        let t : stay threshold sound (drop i values) (drop i flags) ≡ 0 = rw (drop_of_length-le values {i = i} (omega (arith, w.ends))) in
-        omega (arith, w.left, w.within, w.ends, t)
+  -- the frames in front that keep the flag are those before the first with another
+  pub stay_position : (values : List Float) (flags : List ℕ) → stay threshold sound values flags ≡ position_or_len (is_other threshold sound) (zip values flags)
+  unfolding stay is_other
+  stay_position [] flags = refl
+  stay_position (v ∷ values) [] = refl
+  stay_position (v ∷ values) (f ∷ flags) = elim (tested (eqb (sound_by threshold v f) sound)) [
+    | inl e ↦ rw e (omega (arith, stay_position values flags))
+    | inr e ↦ rw e
+  ]
 
   stay-within : (values : List Float) (flags : List ℕ) → stay threshold sound values flags ≤ length values
   unfolding stay
@@ -71,6 +64,23 @@ module _ (threshold : Float) (sound : ℕ) where
   -- the change lies within the frames
   pub stay-to : (values : List Float) (flags : List ℕ) (from : ℕ) → from ≤ length values → from + stay threshold sound (drop from values) (drop from flags) ≤ length values
   stay-to values flags from l = omega (arith, stay-within (drop from values) (drop from flags), length-drop from values)
+
+  -- the place of another flag is where the frames that keep it end
+  pub found_other : (values : List Float) (flags : List ℕ) (from n : ℕ) → position (is_other threshold sound) (zip (behind values from) (behind flags from)) ≡ Some n
+      → from + n ≡ from + stay threshold sound (drop from values) (drop from flags)
+  found_other values flags from n e =
+      rw (stay_position (drop from values) (drop from flags), some_at _ _ n e, behind_drop values from, behind_drop flags from)
+
+  -- where there is none, they end with the frames
+  pub found_none : (values : List Float) (flags : List ℕ) (from : ℕ) → length flags ≡ length values → from ≤ length values
+      → position (is_other threshold sound) (zip (behind values from) (behind flags from)) ≡ None → length values ≡ from + stay threshold sound (drop from values) (drop from flags)
+  found_none values flags from f l e =
+      let vs = drop from values in
+      let fs = drop from flags in
+      let none : position (is_other threshold sound) (zip vs fs) ≡ None = rw (behind_drop values from, behind_drop flags from) at e in
+      let fails : ltb (position_or_len (is_other threshold sound) (zip vs fs)) (length (zip vs fs)) ≡ false = none_at _ _ none in
+      let most : length (zip vs fs) ≤ position_or_len (is_other threshold sound) (zip vs fs) = nltb→le _ _ (rw fails tt) in
+      omega (arith, most, stay_position vs fs, stay-within vs fs, length-zip vs fs, length-drop from values, length-drop from flags, f)
 
 -- ---- the frames ahead
 

@@ -18,10 +18,6 @@ pub record BelowWritten (off : Float) (values : List Float) (flags : List ℕ) (
   pub left : take i below ++ below_off off (drop i values) (drop i flags) ≡ below_off off values flags
 
 module _ (off : Float) (values : List Float) (flags : List ℕ) where
-  -- no frame is written yet
-  pub below_start : (below : List ℕ) → length flags ≡ length values → length below ≡ length values → BelowWritten off values flags (length values) below 0
-  below_start below f s = record { within = omega arith; ends = refl; flagged = f; same = s; left = refl }
-
   -- frame i is written
   pub below_next : (end : ℕ) (below : List ℕ) (i s : ℕ) → i < end → s ≡ below_at off (get_or values i nan) (get_or flags i 0) → BelowWritten off values flags end below i
       → BelowWritten off values flags end (set below i s) (i + 1)

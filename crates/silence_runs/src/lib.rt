@@ -4,6 +4,5 @@
 // stand beside them.
 #![tactic(auto)]
 
-pub mod fill;
 pub mod one_pass;
 pub mod quiet;

@@ -1,6 +1,6 @@
 -- Document 01's ten starred trials in one table, each worked out by computation from the definitions: eight of the path, with the score of each, and two of the silences.
 -- Beyond them it shows that no test refuses L or R, so that the domain of every theorem has a member, and what a whole call of either operation leaves.
-use Rattle.std.specs.Prelude.{◌≡◌, refl, false, List, [], ◌∷◌, ℕ, pos, negsuc, Float, length, replicate}
+use Rattle.std.specs.Prelude.{◌≡◌, refl, false, List, [], ◌∷◌, Result, Ok, Err, ℕ, pos, negsuc, Float, length, replicate}
 use Rattle.std.specs.Float.{fin, binary32, binary64}
 use Rattle.std.specs.Float.Ieee.{of_bits, span, climb, size, odd, units, round, sum, add, neg, sub, mul, div, lt, eq, le, of_int}
 use Rattle.base_terms.specs.Lengths.{square, off_of, short, length_cost}
@@ -11,8 +11,8 @@ use Rattle.grid.specs.Boundary.{start_of, covers}
 use Rattle.grid.specs.Values.{is_score, is_unflagged}
 use Rattle.grid.specs.Validate.{frames_ok, values_ok, length_ok, validity_of}
 use Rattle.grid.specs.Validate as grid
-use Rattle.grid.specs.declared.validate.Validity.{Validity}
-use Rattle.grid.specs.declared.validate.Validity.TheVariants.{Valid, BadSampleRate, NotCovered}
+use Rattle.grid.specs.declared.validate.Refusal.{Refusal}
+use Rattle.grid.specs.declared.validate.Refusal.TheVariants.{BadSampleRate, NotCovered}
 use Rattle.grid.specs.declared.validate.Recording.{Recording}
 use Rattle.grid.specs.declared.validate.Domain.TheVariants.{Scores}
 use Rattle.silence_levels.specs.declared.threshold.Threshold.TheVariants.{Auto}
@@ -28,7 +28,6 @@ use Rattle.silence_list.specs.Refusal.{durations_ok}
 use Rattle.silence_list.specs.Refusal as silenceTests
 use Rattle.silence_list.specs.Silences.{sounds_in, silences_in, silences_handed_out, silence_list_of}
 use Rattle.silence_list.specs.Silences as silenceList
-use Rattle.silence_list.specs.declared.list.Answer.TheVariants as silences
 use Rattle.silence_list.specs.declared.config.SegmentConfig.{SegmentConfig}
 use Rattle.path_pieces.specs.declared.lengths.Lengths.{Lengths}
 use Rattle.path_pieces.specs.declared.mode.Mode.{Mode}
@@ -41,10 +40,9 @@ use Rattle.path_by_count.specs.Table.{best_with, parent_with, way_with, best_pat
 use Rattle.path_tests.specs.Ends.{lists_ok, end_ok, ends_from, ends_ok}
 use Rattle.path_tests.specs.Costs.{is_cost, is_target, is_min, lengths_ok}
 use Rattle.path_tests.specs.Refusal.{is_count, count_ok, first_refusal_of}
-use Rattle.path_tests.specs.declared.refusal.Verdict.TheVariants.{Fine}
+use Rattle.path_list.specs.Answer.{Answer}
 use Rattle.path_list.specs.Operation.{handed_out_of, sought_of, end_of, path_of}
-use Rattle.path_list.specs.declared.search.Answer.{Answer}
-use Rattle.path_list.specs.declared.search.Answer.TheVariants.{Found, ShortPath}
+use Rattle.path_list.specs.declared.search.Error.TheVariants.{ShortPath}
 
 -- ---- the path
 
@@ -82,7 +80,7 @@ cuts = whole 0 ∷ halves 1 ∷ halves 1 ∷ whole 0 ∷ []
 abbrev PathCall : Mode → List ℕ → List ℕ → ℕ → Float → Type 0
 PathCall mode parent path over cost = (p a b : ℕ) (x : Float)
     → path_of (within 200) ends ends cuts mode (replicate 5 p) (work_of (replicate 64 a) (replicate 64 b) (replicate 64 x)) parent
-    ≡ end_of (Found (record { score = record { over = over; cost = cost }; len = length path })) (onto path (replicate 5 p))
+    ≡ end_of (Ok (record { score = record { over = over; cost = cost }; len = length path })) (onto path (replicate 5 p))
     (work_of (replicate 64 0) (replicate 64 0) (replicate 64 (of_bits binary64 0))) (filled 0 parent)
 
 -- ---- the silences
@@ -139,9 +137,9 @@ pub record Trials (first last : Float) : Type 0 where
   -- "1 1 0 0 1 1: none"
   pub no_silence : SilencesAre 600 (one ∷ one ∷ none ∷ none ∷ one ∷ one ∷ []) 6 []
   -- L passes the tests of its operation, 15 to 17 and the others
-  pub lists_pass : first_refusal_of ends ends cuts (within 200) mode.ByLength 64 64 64 ≡ Fine
+  pub lists_pass : first_refusal_of ends ends cuts (within 200) mode.ByLength 64 64 64 ≡ Ok tt
   -- R passes 1 to 6
-  pub recording_passes : validity_of (recording 700) scores (replicate 7 0) [] ≡ Valid
+  pub recording_passes : validity_of (recording 700) scores (replicate 7 0) [] ≡ Ok tt
   -- whole calls: L by length
   pub call_by_length : PathCall mode.ByLength [] (0 ∷ 1 ∷ 2 ∷ 3 ∷ []) 0 (whole 1)
   -- L by count 2
@@ -149,7 +147,7 @@ pub record Trials (first last : Float) : Type 0 where
   -- and R's silence list
   pub call_silences : (p a b : ℕ) (x : Float)
       → silence_list_of (recording 700) defaults scores (replicate 7 0) [] (replicate 3 p) (work_of (replicate 128 a) (replicate 128 b) (replicate 128 x))
-      ≡ silenceList.end_of (silences.Found 1) (2 ∷ 5 ∷ p ∷ []) (work_of (replicate 128 0) (replicate 128 0) (replicate 128 (of_bits binary64 0)))
+      ≡ silenceList.end_of (Ok 1) (2 ∷ 5 ∷ p ∷ []) (work_of (replicate 128 0) (replicate 128 0) (replicate 128 (of_bits binary64 0)))
 
 -- all of them hold, whatever the costs at the two ends
 pub trials : (first last : Float) → Trials first last
@@ -193,8 +191,8 @@ RoomForThree limit answer = (p a b : ℕ) (x : Float)
     → (path_of (within limit) near near dear mode.ByLength (replicate 3 p) (work_of (replicate 80 a) (replicate 80 b) (replicate 80 x)) []).answer ≡ answer
 
 -- limit 75: three candidates at 2.125. Limit 100: four at 1.125, which cost less and do not fit; counted against 75 their piece of 100 would be over-long, and the path after raising worse
-pub longer_limit : RoomForThree 75 (Found (record { score = record { over = 0; cost = fin false 17 (negsuc 2) }; len = 3 }))
-    × RoomForThree 100 ShortPath
+pub longer_limit : RoomForThree 75 (Ok (record { score = record { over = 0; cost = fin false 17 (negsuc 2) }; len = 3 }))
+    × RoomForThree 100 (Err ShortPath)
     × ByLength 75 near dear (0 ∷ 2 ∷ 4 ∷ []) 0 (fin false 17 (negsuc 2))
     × ByLength 100 near dear (0 ∷ 1 ∷ 3 ∷ 4 ∷ []) 0 (fin false 9 (negsuc 2))
 unfolding best_path way_back parent_of best_score table_of next_score predecessor_of with_cut_at is_within may_start lowest_least with_piece with_cut over_of piece_length length_cost_of length_cost square off_of short span climb size odd units round sum add neg sub mul div lt eq le of_int first_refusal_of lists_ok ends_ok ends_from end_ok is_cost lengths_ok is_target is_min count_ok work_ok path_of sought_of handed_out_of onto all_of filled of_bits
@@ -203,11 +201,11 @@ longer_limit = (λ p a b x. refl, λ p a b x. refl, (refl, refl), (refl, refl))
 -- ---- document 02, S-10: the rates of bat recorders
 
 -- what the tests 1 to 6 answer to R at another sample rate and length
-abbrev RatedAs : ℕ → ℕ → Validity → Type 0
+abbrev RatedAs : ℕ → ℕ → Result Unit Refusal → Type 0
 RatedAs rate len answer = validity_of (recording_at rate len) scores (replicate 7 0) [] ≡ answer
 
 -- "the trial with 192,001 becomes one with 768,001"; 192,001 is refused for R's length, and 768,000 is accepted with one that its frames cover
-pub rates : RatedAs 768001 700 BadSampleRate × RatedAs 192001 700 NotCovered × RatedAs 768000 537600 Valid
+pub rates : RatedAs 768001 700 (Err BadSampleRate) × RatedAs 192001 700 (Err NotCovered) × RatedAs 768000 537600 (Ok tt)
 unfolding span climb size odd units round lt eq le of_bits all_of validity_of grid.is_up_to frames_ok grid.lists_ok values_ok length_ok grid.frame_step_ok covers start_of is_score is_unflagged
 rates = (refl, refl, refl)
 

@@ -15,8 +15,8 @@ slice_bounds-over_keys-end-2 c = sym (length-take-le _ _ (collected_count c.coll
 pub over_keys-requires : goal.over_keys-requires
 over_keys-requires c = let few = collected_few c.collect-with_signal.ensures in
     let most = c.requires.values_len_bound in
-    record { keys_len_bound = omega arith; keys_valid = collected_keys c.collect-with_signal.ensures (fits_all c.args.values.now c.type_inv.values) c.requires.values_finite }
+    record { keys_len_bound = omega arith; keys_valid = collected_keys c.collect-with_signal.ensures (fits_all c.args.readings.now.values.now c.args.readings.now.values_fit) c.requires.values_finite }
 
 pub returns : goal.returns
 unfolding levels_of
-returns c = record { result = rw (c.over_keys.ensures, collected_values c.collect-with_signal.ensures (fits_all c.args.values.now c.type_inv.values)); list = c.collect-with_signal.ensures.list }
+returns c = record { result = rw (c.over_keys.ensures, collected_values c.collect-with_signal.ensures (fits_all c.args.readings.now.values.now c.args.readings.now.values_fit)); list = c.collect-with_signal.ensures.list }

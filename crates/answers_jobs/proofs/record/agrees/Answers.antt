@@ -7,4 +7,4 @@ use Rattle.answers_jobs.proofs.record.agrees.Goals as goal
 
 pub returns : goal.returns
 returns c =
-    rw (← printed-front c.args.job.now (replicate 53702 0) _ _ (omega (arith, length-replicate {A = ℕ} 53702 0)) c.plan_job-n.ensures.out_after) c.same_bytes.ensures
+    rw (← printed-front c.args.job.now (replicate 53702 0) _ _ (omega (arith, length-replicate {A = ℕ} 53702 0)) c.plan_job-n.ensures.out_after) c.eq.ensures

@@ -1,12 +1,8 @@
--- `front::put_front` copies one number after another.
-use Rattle.base_code.specs.Copying.{copying_start, copying_next, copying_done}
+-- What is copied stands before the rest.
+use Rattle.std.proofs.Common.{rules}
+use Rattle.base_terms.specs.Lists.{onto}
 use Rattle.base_code.proofs.front.put_front.Goals as goal
 
-pub loop-i-init : goal.loop-i-init
-loop-i-init c = copying_start _ _ c.requires
-
-pub loop-i-preserved : goal.loop-i-preserved
-loop-i-preserved c = copying_next _ _ _ _ _ c.loop-i.invariant 0 c.loop-i-test.true
-
 pub returns : goal.returns
-returns c = copying_done _ _ _ _ _ c.loop-i.invariant c.loop-i-test.false
+unfolding onto
+returns c = search rules

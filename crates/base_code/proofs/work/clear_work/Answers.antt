@@ -1,5 +1,8 @@
--- `work::clear_work`: each list by its own function.
+-- Every element of each list is replaced.
+use Rattle.std.proofs.Common.{rules}
+use Rattle.base_terms.specs.Lists.{filled}
 use Rattle.base_code.proofs.work.clear_work.Goals as goal
 
 pub returns : goal.returns
-returns c = cc
+unfolding filled
+returns c = search rules

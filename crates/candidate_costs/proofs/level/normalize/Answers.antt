@@ -17,10 +17,10 @@ float_to_float-above c =
 
 pub returns-in-Scores : goal.returns-in-Scores
 unfolding normalize_of of_bits
-returns-in-Scores c = let d : ◌≡◌ {A = Domain} c.args.domain Scores = cc in rw d c.clamp_f64.ensures
+returns-in-Scores c = let d : ◌≡◌ {A = Domain} c.args.domain Scores = cc in rw d c.clamp.ensures
 
 pub returns-in-Decibels : goal.returns-in-Decibels
 unfolding normalize_of of_bits
 returns-in-Decibels c =
     let d : ◌≡◌ {A = Domain} c.args.domain Decibels = cc in
-    rw (d, ← c.range.ensures) c.clamp_f64-in-Decibels.ensures
+    rw (d, ← c.range.ensures) c.clamp-in-Decibels.ensures

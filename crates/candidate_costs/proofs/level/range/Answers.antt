@@ -14,4 +14,4 @@ float_to_float-scale c =
 
 pub returns : goal.returns
 unfolding range_of of_bits of_int round
-returns c = c.max_f64.ensures
+returns c = c.max.ensures

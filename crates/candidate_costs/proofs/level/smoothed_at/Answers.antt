@@ -11,10 +11,10 @@ use Rattle.candidate_costs.proofs.level.smoothed_at.Goals as goal
 pub mean_at-requires : goal.mean_at-requires
 mean_at-requires c = record { windowed = c.requires.measured.windows; i_in_bounds = c.requires.i_in_bounds }
 
-pub bounds-levels-i : goal.bounds-levels-i
-bounds-levels-i c =
+pub bounds-readings-i : goal.bounds-readings-i
+bounds-readings-i c =
     let d : ◌≡◌ {A = Domain} c.args.domain Decibels = cc in
-    let l : length c.args.levels.now ≡ length c.args.values.now = lent_each c.args.domain c.args.width c.args.values.now c.args.levels.now d c.requires.measured in
+    let l : length c.args.readings.now.levels.now ≡ length c.args.readings.now.values.now = lent_each c.args.domain c.args.width c.args.readings.now.values.now c.args.readings.now.levels.now d c.requires.measured in
     omega (arith, l, c.requires.i_in_bounds)
 
 pub returns-in-Scores : goal.returns-in-Scores

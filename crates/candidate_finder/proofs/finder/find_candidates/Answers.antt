@@ -7,15 +7,15 @@ use Rattle.candidate_finder.proofs.finder.find_candidates.Goals as goal
 
 pub collect-requires : goal.collect-requires
 collect-requires c =
-    let q = (subst (PreparedIs c.args.r c.args.segment c.args.settings c.args.values.now c.args.flags.now c.args.levels.now _ _) c.in-Ready.is c.prepare-prepared.ensures).says in
-    found_collectable c.args.r c.args.segment c.args.settings c.args.values.now c.args.flags.now c.args.levels.now (length c.args.work_u32.now) (length c.args.work_f64.now) c.requires _ _ _ _ _ q c.work_u32-1.given c.work_f64-1.given
+    let q = (subst (PreparedIs c.args.r c.args.segment c.args.settings c.args.readings.now.values.now c.args.readings.now.flags.now c.args.readings.now.levels.now _ _) c.in-Some.is c.prepare-prepared.ensures).says in
+    found_collectable c.args.r c.args.segment c.args.settings c.args.readings.now.values.now c.args.readings.now.flags.now c.args.readings.now.levels.now (length c.args.work_u32.now) (length c.args.work_f64.now) c.requires _ _ _ _ _ q c.work_u32-1.given c.work_f64-1.given
 
-pub returns-in-Empty : goal.returns-in-Empty
-returns-in-Empty c =
-    let e = (subst (PreparedIs c.args.r c.args.segment c.args.settings c.args.values.now c.args.flags.now c.args.levels.now _ _) c.in-Empty.is c.prepare-prepared.ensures).says in
-    found_none c.args.r c.args.segment c.args.settings c.args.values.now c.args.flags.now c.args.levels.now _ _ e
+pub returns-in-None : goal.returns-in-None
+returns-in-None c =
+    let e = (subst (PreparedIs c.args.r c.args.segment c.args.settings c.args.readings.now.values.now c.args.readings.now.flags.now c.args.readings.now.levels.now _ _) c.in-None.is c.prepare-prepared.ensures).says in
+    found_none c.args.r c.args.segment c.args.settings c.args.readings.now.values.now c.args.readings.now.flags.now c.args.readings.now.levels.now _ _ e
 
-pub returns-in-Ready : goal.returns-in-Ready
-returns-in-Ready c =
-    let q = (subst (PreparedIs c.args.r c.args.segment c.args.settings c.args.values.now c.args.flags.now c.args.levels.now _ _) c.in-Ready.is c.prepare-prepared.ensures).says in
-    found-stands c.args.r c.args.segment c.args.settings c.args.values.now c.args.flags.now c.args.levels.now (length c.args.work_u32.now) (length c.args.work_f64.now) c.requires _ _ _ _ _ q c.work_u32-1.given c.work_f64-1.given _ _ _ c.collect.ensures.value c.collect.ensures.work_u32_after c.collect.ensures.work_f64_after c.work_u32-in-Ready-1.given c.work_f64-in-Ready-1.given
+pub returns-in-Some : goal.returns-in-Some
+returns-in-Some c =
+    let q = (subst (PreparedIs c.args.r c.args.segment c.args.settings c.args.readings.now.values.now c.args.readings.now.flags.now c.args.readings.now.levels.now _ _) c.in-Some.is c.prepare-prepared.ensures).says in
+    found-stands c.args.r c.args.segment c.args.settings c.args.readings.now.values.now c.args.readings.now.flags.now c.args.readings.now.levels.now (length c.args.work_u32.now) (length c.args.work_f64.now) c.requires _ _ _ _ _ q c.work_u32-1.given c.work_f64-1.given _ _ _ c.collect.ensures.value c.collect.ensures.work_u32_after c.collect.ensures.work_f64_after c.work_u32-in-Some-1.given c.work_f64-in-Some-1.given

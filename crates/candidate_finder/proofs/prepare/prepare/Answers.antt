@@ -16,32 +16,26 @@ pub hold-silences-requires : goal.hold-silences-requires
 hold-silences-requires c = record { measurable = c.requires.measurable; values_nonzero = omega (arith, c.if-n-eq0.false) }
 
 pub spacing_of-s-requires : goal.spacing_of-s-requires
-spacing_of-s-requires c = let e = sym c.grid-g.ensures in
+spacing_of-s-requires c = let e = sym c.grid-grid.ensures in
     record { max_spaced = subst (λ (g : FrameGrid). Spaced g c.args.settings.max) e c.requires.max_spaced; pre_spaced = subst (λ (g : FrameGrid). Spaced g c.args.segment.pre) e c.requires.pre_spaced; tail_spaced = subst (λ (g : FrameGrid). Spaced g c.args.segment.tail) e c.requires.tail_spaced }
 
 pub overflow_mul-silences : goal.overflow_mul-silences
-overflow_mul-silences c = omega (arith, (measured_fit c.args.r c.args.segment c.args.settings c.args.values.now c.args.flags.now c.args.levels.now (length c.args.work_u32.now) (length c.args.work_f64.now) c.requires _ _ _ c.hold-silences.ensures c.work_u32-1.given c.work_f64-1.given).1)
+overflow_mul-silences c = omega (arith, (measured_fit c.args.r c.args.segment c.args.settings c.args.readings.now.values.now c.args.readings.now.flags.now c.args.readings.now.levels.now (length c.args.work_u32.now) (length c.args.work_f64.now) c.requires _ _ _ c.hold-silences.ensures c.work_u32-1.given c.work_f64-1.given).1)
 
 pub slice_bounds-ends-end : goal.slice_bounds-ends-end
-slice_bounds-ends-end c = (measured_fit c.args.r c.args.segment c.args.settings c.args.values.now c.args.flags.now c.args.levels.now (length c.args.work_u32.now) (length c.args.work_f64.now) c.requires _ _ _ c.hold-silences.ensures c.work_u32-1.given c.work_f64-1.given).0
+slice_bounds-ends-end c = (measured_fit c.args.r c.args.segment c.args.settings c.args.readings.now.values.now c.args.readings.now.flags.now c.args.readings.now.levels.now (length c.args.work_u32.now) (length c.args.work_f64.now) c.requires _ _ _ c.hold-silences.ensures c.work_u32-1.given c.work_f64-1.given).0
 
 pub slice_bounds-ends-end-2 : goal.slice_bounds-ends-end-2
-slice_bounds-ends-end-2 c = sym (length-take-le (2 * c.hold-silences.result) _ (measured_fit c.args.r c.args.segment c.args.settings c.args.values.now c.args.flags.now c.args.levels.now (length c.args.work_u32.now) (length c.args.work_f64.now) c.requires _ _ _ c.hold-silences.ensures c.work_u32-1.given c.work_f64-1.given).0)
+slice_bounds-ends-end-2 c = sym (length-take-le (2 * c.hold-silences.result) _ (measured_fit c.args.r c.args.segment c.args.settings c.args.readings.now.values.now c.args.readings.now.flags.now c.args.readings.now.levels.now (length c.args.work_u32.now) (length c.args.work_f64.now) c.requires _ _ _ c.hold-silences.ensures c.work_u32-1.given c.work_f64-1.given).0)
 
 pub mark_grid_points-requires : goal.mark_grid_points-requires
 mark_grid_points-requires c =
-    measured_markable c.args.r c.args.segment c.args.settings c.args.values.now c.args.flags.now c.args.levels.now (length c.args.work_u32.now) (length c.args.work_f64.now) c.requires _ _ _ c.hold-silences.ensures c.work_u32-1.given c.work_f64-1.given _ _ c.grid-g.ensures c.spacing_of-s.ensures _ _ (sym c.in-Between.is ∙ c.ends-found.ensures)
+    measured_markable c.args.r c.args.segment c.args.settings c.args.readings.now.values.now c.args.readings.now.flags.now c.args.readings.now.levels.now (length c.args.work_u32.now) (length c.args.work_f64.now) c.requires _ _ _ c.hold-silences.ensures c.work_u32-1.given c.work_f64-1.given _ _ c.grid-grid.ensures c.spacing_of-s.ensures _ (sym c.in_ok-ends.was ∙ c.ends.ensures)
 
-pub returns-in-Empty : goal.returns-in-Empty
-returns-in-Empty c =
-    record { says = measured_empty c.args.r c.args.segment c.args.settings c.args.values.now c.args.flags.now c.args.levels.now (length c.args.work_u32.now) (length c.args.work_f64.now) c.requires _ _ _ c.hold-silences.ensures c.work_u32-1.given c.work_f64-1.given _ _ c.grid-g.ensures c.spacing_of-s.ensures (sym c.in-Empty.is ∙ c.ends-found.ensures) }
+pub returns-in_err-ends : goal.returns-in_err-ends
+returns-in_err-ends c =
+    rw c.from_residual.ensures (record { says = measured_empty c.args.r c.args.segment c.args.settings c.args.readings.now.values.now c.args.readings.now.flags.now c.args.readings.now.levels.now (length c.args.work_u32.now) (length c.args.work_f64.now) c.requires _ _ _ c.hold-silences.ensures c.work_u32-1.given c.work_f64-1.given _ _ c.grid-grid.ensures c.spacing_of-s.ensures (sym c.in_err-ends.was ∙ c.ends.ensures) })
 
-pub shape_of-work_u32-in-Between : goal.shape_of-work_u32-in-Between
-shape_of-work_u32-in-Between c = c.work_u32-in-Between-1.given ∙ c.work_u32-1.given
-
-pub shape_of-work_f64-in-Between : goal.shape_of-work_f64-in-Between
-shape_of-work_f64-in-Between c = c.work_f64-1.given
-
-pub returns-in-Between : goal.returns-in-Between
-returns-in-Between c =
-    record { says = measured_ready c.args.r c.args.segment c.args.settings c.args.values.now c.args.flags.now c.args.levels.now (length c.args.work_u32.now) (length c.args.work_f64.now) c.requires _ _ _ c.hold-silences.ensures c.work_u32-1.given c.work_f64-1.given _ _ c.grid-g.ensures c.spacing_of-s.ensures _ _ (sym c.in-Between.is ∙ c.ends-found.ensures) _ c.mark_grid_points.ensures _ c.context_with-x.ensures }
+pub returns : goal.returns
+returns c =
+    record { says = measured_ready c.args.r c.args.segment c.args.settings c.args.readings.now.values.now c.args.readings.now.flags.now c.args.readings.now.levels.now (length c.args.work_u32.now) (length c.args.work_f64.now) c.requires _ _ _ c.hold-silences.ensures c.work_u32-1.given c.work_f64-1.given _ _ c.grid-grid.ensures c.spacing_of-s.ensures _ (sym c.in_ok-ends.was ∙ c.ends.ensures) _ c.mark_grid_points.ensures _ c.context_with.ensures }

@@ -9,4 +9,4 @@ needed_levels-l-requires c = record { values_len_bound = c.requires.sound_ready.
 
 pub returns : goal.returns
 unfolding onto
-returns c = let rest = silences-front c.args.r c.args.segment c.args.values.now c.args.flags.now c.needed_levels-l.result _ _ c.needed_levels-l.ensures c.frames_in-min_sound.ensures c.frames_in-min_silence.ensures _ _ _ c.list_silences-numbers.ensures.value c.list_silences-numbers.ensures.out_after in record { levels_value = c.needed_levels-l.ensures; silences_value = rest.0; list_after = rest.1 }
+returns c = let rest = silences-front c.args.r c.args.segment c.args.readings.now.values.now c.args.readings.now.flags.now c.needed_levels-l.result _ _ c.needed_levels-l.ensures c.frames_in-min_sound.ensures c.frames_in-min_silence.ensures _ _ _ c.list_silences-numbers.ensures.value c.list_silences-numbers.ensures.out_after in record { levels_value = c.needed_levels-l.ensures; silences_value = rest.0; list_after = rest.1 }

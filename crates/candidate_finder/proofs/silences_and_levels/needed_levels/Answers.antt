@@ -13,4 +13,4 @@ returns-in-Decibels c =
 pub returns-in-Scores : goal.returns-in-Scores
 returns-in-Scores c =
     let d : ◌≡◌ {A = Domain} c.args.domain Scores = cc in
-    needed_scores c.args.domain c.args.threshold c.args.values.now c.args.flags.now c.thresholds-t.result d c.thresholds-t.ensures
+    needed_scores c.args.domain c.args.threshold c.args.readings.now.values.now c.args.readings.now.flags.now c.thresholds-t.result d c.thresholds-t.ensures

@@ -4,10 +4,7 @@ use Rattle.std.proofs.Common.{arith}
 use mathlib.Core.Path.{sym, ◌∙◌}
 use Rattle.candidate_points.specs.BlockedWalk.{shut_crossed, shut_whole, shut_inside, shut_room}
 use Rattle.candidate_points.proofs.blocked.mark_silence.Goals as goal
-
-pub returns-then-b : goal.returns-then-b
-returns-then-b c =
-    shut_crossed _ _ _ _ _ c.args.flags.now _ c.silence_bounds-b.result c.silence_bounds-b.ensures c.fill_range.ensures c.if-b.true
+use Rattle.candidate_points.proofs.blocked.mark_silence.Goals.{else-b-via-then-b+else-gets_grid, else-b-via-else-b}
 
 pub overflow_add-b : goal.overflow_add-b
 overflow_add-b c =
@@ -22,7 +19,11 @@ returns-then-gets_grid c =
     shut_inside _ _ _ _ _ c.args.flags.now _ c.silence_bounds-b.result c.silence_bounds-b.ensures c.fill_range.ensures (search rules)
     (sym c.gets_grid.ensures ∙ c.if-gets_grid.true) _ c.fill_range-then-gets_grid.ensures
 
-pub returns-else-gets_grid : goal.returns-else-gets_grid
-returns-else-gets_grid c =
-    shut_whole _ _ _ _ _ c.args.flags.now _ c.silence_bounds-b.result c.silence_bounds-b.ensures c.fill_range.ensures (search rules)
-    (sym c.gets_grid.ensures ∙ c.if-gets_grid.false)
+pub returns-else-b : goal.returns-else-b
+returns-else-b c =
+    elim c.else-b.branch [
+      | else-b-via-then-b+else-gets_grid w ↦
+          shut_whole _ _ _ _ _ c.args.flags.now _ c.silence_bounds-b.result c.silence_bounds-b.ensures c.fill_range.ensures w.if-b.true
+          (sym w.gets_grid.ensures ∙ w.if-gets_grid.false)
+      | else-b-via-else-b w ↦ shut_crossed _ _ _ _ _ c.args.flags.now _ c.silence_bounds-b.result c.silence_bounds-b.ensures c.fill_range.ensures w.if-b.false
+    ]

@@ -2,8 +2,10 @@
 use Rattle.capi.specs.Paths.{path_called_of}
 use Rattle.capi.proofs.best_path.buchawzer_path.Goals as goal
 
-pub returns : goal.returns
+pub returns-in-Ok : goal.returns-in-Ok
 unfolding path_called_of
-returns c =
-    rw (← c.length_weights.ensures, ← c.mode_of.ensures, ← c.best_path-answer.ensures)
-    (rw (c.number.ensures, c.cost_after.ensures, c.over_after.ensures, c.length_after.ensures))
+returns-in-Ok c = rw (← c.length_weights.ensures, ← c.mode_of.ensures, ← c.in-Ok.ensures)
+
+pub returns-in-Err : goal.returns-in-Err
+unfolding path_called_of
+returns-in-Err c = rw (← c.length_weights.ensures, ← c.mode_of.ensures, ← c.in-Err.ensures, c.from.ensures)

@@ -3,11 +3,11 @@ use mathlib.Core.Path.{sym, ◌∙◌}
 use Rattle.capi.specs.GridLaws.{grid_args_lem}
 use Rattle.capi.proofs.convert.buchawzer_covers.Goals as goal
 
-pub returns-then-not-grid_args : goal.returns-then-not-grid_args
-returns-then-not-grid_args c = rw (← c.grid_args.ensures, c.if-not-grid_args.true)
+pub returns-else-grid_args : goal.returns-else-grid_args
+returns-else-grid_args c = rw (← c.grid_args.ensures, c.if-grid_args.false)
 
 pub covered-requires : goal.covered-requires
-covered-requires c = grid_args_lem _ (sym c.grid_args.ensures ∙ c.if-not-grid_args.false)
+covered-requires c = grid_args_lem _ (sym c.grid_args.ensures ∙ c.if-grid_args.true)
 
-pub returns : goal.returns
-returns c = rw (← c.grid_args.ensures, c.if-not-grid_args.false) c.covered.ensures
+pub returns-then-grid_args : goal.returns-then-grid_args
+returns-then-grid_args c = rw (← c.grid_args.ensures, c.if-grid_args.true) c.covered.ensures

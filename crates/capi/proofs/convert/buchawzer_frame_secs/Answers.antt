@@ -2,9 +2,9 @@
 use lib.Ieee.{of_bits, neg}
 use Rattle.capi.proofs.convert.buchawzer_frame_secs.Goals as goal
 
-pub returns-then-not-frames_args : goal.returns-then-not-frames_args
+pub returns-else-frames_args : goal.returns-else-frames_args
 unfolding of_bits neg
-returns-then-not-frames_args c = rw (← c.frames_args.ensures, c.if-not-frames_args.true)
+returns-else-frames_args c = rw (← c.frames_args.ensures, c.if-frames_args.false)
 
-pub returns : goal.returns
-returns c = rw (← c.frames_args.ensures, c.if-not-frames_args.false) c.frame_secs.ensures
+pub returns-then-frames_args : goal.returns-then-frames_args
+returns-then-frames_args c = rw (← c.frames_args.ensures, c.if-frames_args.true) c.frame_secs.ensures

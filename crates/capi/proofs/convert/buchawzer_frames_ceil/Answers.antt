@@ -3,11 +3,11 @@ use mathlib.Core.Path.{sym, ◌∙◌}
 use Rattle.capi.specs.GridLaws.{frames_args_lem}
 use Rattle.capi.proofs.convert.buchawzer_frames_ceil.Goals as goal
 
-pub returns-then-not-frames_args : goal.returns-then-not-frames_args
-returns-then-not-frames_args c = rw (← c.frames_args.ensures, c.if-not-frames_args.true)
+pub returns-else-frames_args : goal.returns-else-frames_args
+returns-else-frames_args c = rw (← c.frames_args.ensures, c.if-frames_args.false)
 
 pub frames_ceil-requires : goal.frames_ceil-requires
-frames_ceil-requires c = frames_args_lem _ _ _ (sym c.frames_args.ensures ∙ c.if-not-frames_args.false)
+frames_ceil-requires c = frames_args_lem _ _ _ (sym c.frames_args.ensures ∙ c.if-frames_args.true)
 
-pub returns : goal.returns
-returns c = rw (← c.frames_args.ensures, c.if-not-frames_args.false) c.frames_ceil.ensures
+pub returns-then-frames_args : goal.returns-then-frames_args
+returns-then-frames_args c = rw (← c.frames_args.ensures, c.if-frames_args.true) c.frames_ceil.ensures

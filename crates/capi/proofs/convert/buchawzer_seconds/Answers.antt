@@ -2,9 +2,9 @@
 use lib.Ieee.{of_bits, neg}
 use Rattle.capi.proofs.convert.buchawzer_seconds.Goals as goal
 
-pub returns-then-not-samples_args : goal.returns-then-not-samples_args
+pub returns-else-samples_args : goal.returns-else-samples_args
 unfolding of_bits neg
-returns-then-not-samples_args c = rw (← c.samples_args.ensures, c.if-not-samples_args.true)
+returns-else-samples_args c = rw (← c.samples_args.ensures, c.if-samples_args.false)
 
-pub returns : goal.returns
-returns c = rw (← c.samples_args.ensures, c.if-not-samples_args.false) c.as_secs_f64.ensures
+pub returns-then-samples_args : goal.returns-then-samples_args
+returns-then-samples_args c = rw (← c.samples_args.ensures, c.if-samples_args.true) c.as_secs_f64.ensures

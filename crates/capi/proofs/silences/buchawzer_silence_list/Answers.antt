@@ -2,8 +2,10 @@
 use Rattle.capi.specs.Silences.{silences_called_of}
 use Rattle.capi.proofs.silences.buchawzer_silence_list.Goals as goal
 
-pub returns : goal.returns
+pub returns-in-Ok : goal.returns-in-Ok
 unfolding silences_called_of
-returns c =
-    rw (← c.recording_of-r.ensures, ← c.segment_of-c.ensures, ← c.silence_list-answer.ensures)
-    (rw (c.number.ensures, c.count_after.ensures))
+returns-in-Ok c = rw (← c.recording_of-r.ensures, ← c.segment_of-c.ensures, ← c.in-Ok.ensures)
+
+pub returns-in-Err : goal.returns-in-Err
+unfolding silences_called_of
+returns-in-Err c = rw (← c.recording_of-r.ensures, ← c.segment_of-c.ensures, ← c.in-Err.ensures, c.from.ensures)

@@ -21,23 +21,23 @@ shape_of-work-then-next-end c = c.loop-g.invariant.size
 pub returns-then-next-end : goal.returns-then-next-end
 returns-then-next-end c =
     bridging_end c.args.g c.args.base c.args.from c.args.end c.args.limit c.args.work.now c.requires c.loop-g.at c.loop-g.work c.loop-g.invariant (omega (arith, c.loop-g-test.true, c.position-stop.ensures, c.position.ensures))
-    c.larger-next.result (on_to_lem c.args.g c.args.limit c.args.end c.loop-g.at c.reachable.result c.larger-next.result c.reachable.ensures c.larger-next.ensures) c.if-next-end.true
+    c.max-next.result (on_to_lem c.args.g c.args.limit c.args.end c.loop-g.at c.reachable.result c.max-next.result c.reachable.ensures c.max-next.ensures) c.if-next-end.true
 
 pub mark_cut-requires : goal.mark_cut-requires
 mark_cut-requires c =
     bridging_room c.args.g c.args.base c.args.from c.args.end c.args.limit c.args.work.now c.requires c.loop-g.at c.loop-g.work c.loop-g.invariant (omega (arith, c.loop-g-test.true, c.position-stop.ensures, c.position.ensures))
-    c.larger-next.result (on_to_lem c.args.g c.args.limit c.args.end c.loop-g.at c.reachable.result c.larger-next.result c.reachable.ensures c.larger-next.ensures) c.if-next-end.false
+    c.max-next.result (on_to_lem c.args.g c.args.limit c.args.end c.loop-g.at c.reachable.result c.max-next.result c.reachable.ensures c.max-next.ensures) c.if-next-end.false
 
 pub loop-g-smaller : goal.loop-g-smaller
 loop-g-smaller c =
     let on = bridging_on c.args.g c.args.base c.args.from c.args.end c.args.limit c.args.work.now c.requires c.loop-g.at c.loop-g.work c.loop-g.invariant (omega (arith, c.loop-g-test.true, c.position-stop.ensures, c.position.ensures))
-    c.larger-next.result (on_to_lem c.args.g c.args.limit c.args.end c.loop-g.at c.reachable.result c.larger-next.result c.reachable.ensures c.larger-next.ensures) c.if-next-end.false in
+    c.max-next.result (on_to_lem c.args.g c.args.limit c.args.end c.loop-g.at c.reachable.result c.max-next.result c.reachable.ensures c.max-next.ensures) c.if-next-end.false in
     omega (arith, on.0, on.1)
 
 pub loop-g-preserved : goal.loop-g-preserved
 loop-g-preserved c =
     bridging_next c.args.g c.args.base c.args.from c.args.end c.args.limit c.args.work.now c.requires c.loop-g.at c.loop-g.work c.loop-g.invariant (omega (arith, c.loop-g-test.true, c.position-stop.ensures, c.position.ensures))
-    c.larger-next.result (on_to_lem c.args.g c.args.limit c.args.end c.loop-g.at c.reachable.result c.larger-next.result c.reachable.ensures c.larger-next.ensures) c.if-next-end.false
+    c.max-next.result (on_to_lem c.args.g c.args.limit c.args.end c.loop-g.at c.reachable.result c.max-next.result c.reachable.ensures c.max-next.ensures) c.if-next-end.false
     _ c.mark_cut.ensures
 
 pub shape_of-work : goal.shape_of-work

@@ -2,8 +2,8 @@
 use borrow.Author.Tests.{eq-eqb, ne_eqb}
 use Rattle.completion.proofs.far.mark_cut.Goals as goal
 
-pub returns-then-left-right : goal.returns-then-left-right
-returns-then-left-right c = rw (eq-eqb c.args.left c.args.right c.if-left-right.true)
+pub returns-then-cut : goal.returns-then-cut
+returns-then-cut c = rw (eq-eqb c.args.cut.left c.args.cut.right c.if-cut.true)
 
-pub returns-else-left-right : goal.returns-else-left-right
-returns-else-left-right c = rw (ne_eqb c.args.left c.args.right c.if-left-right.false)
+pub returns-else-cut : goal.returns-else-cut
+returns-else-cut c = rw (ne_eqb c.args.cut.left c.args.cut.right c.if-cut.false)

@@ -1,6 +1,6 @@
 -- `shares::pass_gaps`: the gaps of the silences before i move the boundary on by what was removed, and a gap that is ahead, or none, ends it.
 use Rattle.std.proofs.Common.{arith}
-use Rattle.completion.specs.CountedLaws.{counting_next, counting_width, counted_all, counted_here}
+use Rattle.completion.specs.CountedLaws.{counting_next, counting_width, counted_none, counted_here}
 use Rattle.completion.proofs.shares.pass_gaps.Goals as goal
 
 pub loop-i-init : goal.loop-i-init
@@ -34,4 +34,4 @@ loop-i-preserved c =
 
 pub returns : goal.returns
 returns c =
-    record { counting = c.loop-i.invariant; here = counted_all c.args.p c.args.silences.now c.args.at c.loop-i.i c.loop-i.removed c.loop-i.invariant c.loop-i-test.false }
+    counted_none c.args.p c.args.silences.now c.args.at c.loop-i.i c.loop-i.removed c.loop-i.invariant c.loop-i-test.false

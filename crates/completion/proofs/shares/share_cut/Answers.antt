@@ -7,8 +7,8 @@ use Rattle.completion.proofs.shares.share_cut.Goals as goal
 pub pass-now-requires : goal.pass-now-requires
 pass-now-requires c = record { counting = c.requires.counting; silences_bound = c.requires.room }
 
-pub overflow_add-k : goal.overflow_add-k
-overflow_add-k c =
+pub overflow_add-at : goal.overflow_add-at
+overflow_add-at c =
     omega (arith, c.requires.room, counting_less c.args.x.gap c.args.x.padding c.args.silences.now c.args.at c.pass-now.result c.pass-now.ensures.counting)
 
 pub place_at-requires : goal.place_at-requires

@@ -13,4 +13,4 @@ returns-then-k-at c =
 pub returns : goal.returns
 returns c =
     next_to c.args.x.grid _ c.args.limit c.args.at c.reachable-k.result c.reachable-k.ensures c.if-k-x.false c.if-k-at.false
-    c.place_at-cut.result c.place_at-cut.ensures
+    c.place_at.result c.place_at.ensures

@@ -14,8 +14,8 @@ use Rattle.completion_reach.proofs.reach.reach.Goals as goal
 pub returns-then-fits : goal.returns-then-fits
 returns-then-fits c =
     let s = span_in c.args.x.gap c.args.x.padding c.args.x.span c.args.silences.now in
-    let pieces = c.lesser-pieces.result in
-    let asked = asked_pieces s c.args.count c.kept_frames-frames.result pieces c.kept_frames-frames.ensures c.lesser-pieces.ensures in
+    let pieces = c.min-pieces.result in
+    let asked = asked_pieces s c.args.count c.kept_frames-frames.result pieces c.kept_frames-frames.ensures c.min-pieces.ensures in
     reach_of_lem c.args.x.grid s c.requires.founded.spread c.args.count c.requires.count_nonzero c.args.maximum c.args.maximum
     (reach-maximum c.args.x.grid s c.args.count c.args.maximum
     (told_feasible c.args.x.grid c.requires.founded.accepted s c.requires.founded.spread c.args.maximum c.args.count pieces asked c.fits.result c.fits.ensures c.if-fits.true))
@@ -27,8 +27,8 @@ overflow_sub-whole c =
 
 pub bisect-requires : goal.bisect-requires
 bisect-requires c = let s = span_in c.args.x.gap c.args.x.padding c.args.x.span c.args.silences.now in
-    let pieces = c.lesser-pieces.result in
-    let asked = asked_pieces s c.args.count c.kept_frames-frames.result pieces c.kept_frames-frames.ensures c.lesser-pieces.ensures in
+    let pieces = c.min-pieces.result in
+    let asked = asked_pieces s c.args.count c.kept_frames-frames.result pieces c.kept_frames-frames.ensures c.min-pieces.ensures in
     let never = told_infeasible c.args.x.grid c.requires.founded.accepted s c.requires.founded.spread c.args.maximum c.args.count pieces asked c.fits.result c.fits.ensures c.if-fits.false in
     let enough = span_feasible c.args.x.grid s c.requires.founded.spread c.args.count c.requires.count_nonzero (c.position.result - c.position-2.result) (omega (arith, c.position.ensures, c.position-2.ensures)) in
     record { founded = c.requires.founded; pieces_value = asked; bracket = bracket_start c.args.x.grid s c.args.count c.args.maximum _ never enough }

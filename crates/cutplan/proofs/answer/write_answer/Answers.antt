@@ -1,20 +1,21 @@
 -- A plan lies in its lists and has a listing of its own, every other answer the line of its number.
-use Rattle.std.proofs.Common.{arith}
+use Rattle.std.proofs.Common.{arith, ◌∙◌}
 use mathlib.Core.Path.{sym, ap}
 use Rattle.plan_pieces.specs.Answer.{number_of}
 use Rattle.plan_pieces.specs.Output.{output_of}
-use Rattle.cutplan.specs.RoomyLaws.{planned_roomy, planned_lines, refused_lines}
+use Rattle.cutplan.specs.RoomyLaws.{planned_roomy, planned_lines, error_lines}
 use Rattle.cutplan.proofs.answer.write_answer.Goals as goal
 
 pub write_plan-size-requires : goal.write_plan-size-requires
-write_plan-size-requires c = let h = planned_roomy c.args.answer c.in-Planned.n _ _ c.in-Planned.is c.requires.roomy in
+write_plan-size-requires c = let h = planned_roomy c.args.answer c.in-Ok.n _ _ c.in-Ok.is c.requires.roomy in
     record { pieces_in_bounds = h.0; cuts_in_bounds = h.1; out_in_bounds = omega (arith, h.2, c.requires.longest_listing_in_bounds) }
 
-pub returns-in-Planned : goal.returns-in-Planned
-returns-in-Planned c = let e = planned_lines c.args.answer _ (output_of c.args.pieces.now c.args.cuts.now) c.in-Planned.is in
-    let number = sym (ap number_of c.in-Planned.is) in
+pub returns-in-Ok : goal.returns-in-Ok
+returns-in-Ok c = let e = planned_lines c.args.answer _ (output_of c.args.pieces.now c.args.cuts.now) c.in-Ok.is in
+    let number = sym (ap number_of c.in-Ok.is) in
     rw (← e) (record { size_value = c.write_plan-size.ensures.value; refused_value = number; out_after = c.write_plan-size.ensures.out_after })
 
-pub returns : goal.returns
-returns c = let e = refused_lines c.args.answer (output_of c.args.pieces.now c.args.cuts.now) c.in_default.not-Planned in
-    rw (← e, ← c.number.ensures) c.write_number.ensures
+pub returns-in-Err : goal.returns-in-Err
+returns-in-Err c = let e = error_lines c.args.answer c.in-Err.error (output_of c.args.pieces.now c.args.cuts.now) c.in-Err.is in
+    let written = c.write_number.ensures in
+    rw (← e.0, ← c.from.ensures) (record { size_value = written.size_value; refused_value = rw written.refused_value (c.from.ensures ∙ e.1); out_after = written.out_after })

@@ -8,10 +8,10 @@ use Rattle.listing.proofs.FitsLaws.{plan_fits}
 use Rattle.listing.specs.WrittenLaws.{written-front}
 use Rattle.cutplan.proofs.answer.write_empty.Goals as goal
 
-pub put_plan-size-requires : goal.put_plan-size-requires
-put_plan-size-requires c = record { enough = omega (arith, plan_fits 0 0 (omega arith) (omega arith)) }
+pub put_plan-requires : goal.put_plan-requires
+put_plan-requires c = record { enough = omega (arith, plan_fits 0 0 (omega arith) (omega arith)) }
 
 pub returns : goal.returns
-returns c = let written = c.put_plan-size.ensures in
+returns c = let written = c.put_plan.ensures in
     let room : Room (length (plan_line 0 0)) c.args.out.now 0 = record { enough = omega (arith, plan_fits 0 0 (omega arith) (omega arith)) } in
     record { size_value = omega (arith, written.behind); refused_value = refl; out_after = written-front room written }

@@ -6,18 +6,21 @@ use Rattle.cutplan.proofs.plan.list_job.Goals as goal
 
 pub returns-then-job-eq0 : goal.returns-then-job-eq0
 returns-then-job-eq0 c = let none = c.if-job-eq0.true in
-    rw (← empty_printed c.args.job.now none, ← empty_refused c.args.job.now none) c.write_empty.ensures
+    let written = c.write_empty.ensures in
+    rw (← empty_printed c.args.job.now none, ← empty_refused c.args.job.now none)
+    (record { size_value = written.size_value; refused_value = rw written.refused_value; out_after = written.out_after })
 
 pub plan_read-requires : goal.plan_read-requires
-plan_read-requires c = record { within = read_within c.args.job.now _ (sym c.read.ensures ∙ c.in-Job.is); longest_listing_in_bounds = c.requires }
+plan_read-requires c = record { within = read_within c.args.job.now _ (sym c.read.ensures ∙ c.in-Ok.is); longest_listing_in_bounds = c.requires }
 
-pub returns-in-Job : goal.returns-in-Job
-returns-in-Job c = let some = c.if-job-eq0.false in
-    let read = sym c.read.ensures ∙ c.in-Job.is in
+pub returns-in-Ok : goal.returns-in-Ok
+returns-in-Ok c = let some = c.if-job-eq0.false in
+    let read = sym c.read.ensures ∙ c.in-Ok.is in
     rw (← job_printed c.args.job.now some _ read) (record { size_value = c.plan_read.ensures.size_value; refused_value = c.plan_read.ensures.refused_value ∙ job_refused c.args.job.now some _ read; out_after = c.plan_read.ensures.out_after })
 
-pub returns-in-Refused : goal.returns-in-Refused
-returns-in-Refused c = let some = c.if-job-eq0.false in
-    let read = sym c.read.ensures ∙ c.in-Refused.is in
-    rw (← fault_printed c.args.job.now some _ _ read, ← fault_refused c.args.job.now some _ _ read, ← c.number.ensures)
-    c.write_number.ensures
+pub returns-in-Err : goal.returns-in-Err
+returns-in-Err c = let some = c.if-job-eq0.false in
+    let read = sym c.read.ensures ∙ c.in-Err.is in
+    let written = c.write_number.ensures in
+    rw (← fault_printed c.args.job.now some _ read, ← fault_refused c.args.job.now some _ read, ← c.from.ensures)
+    (record { size_value = written.size_value; refused_value = rw written.refused_value; out_after = written.out_after })

@@ -7,12 +7,12 @@ use Rattle.cutplan_program.proofs.program.list_input.Goals as goal
 
 pub slice_bounds-list_job-end : goal.slice_bounds-list_job-end
 slice_bounds-list_job-end c =
-    sym (length-take-le _ _ (read_inside c.args.got _ _ c.in-Read.is c.requires.fits_in))
+    sym (length-take-le _ _ (read_inside c.args.got _ _ c.in-Ok.is c.requires.fits_in))
 
-pub returns-in-Read : goal.returns-in-Read
-returns-in-Read c = let after = after_read c.args.got _ c.args.job.now c.in-Read.is in
+pub returns-in-Ok : goal.returns-in-Ok
+returns-in-Ok c = let after = after_read c.args.got _ c.args.job.now c.in-Ok.is in
     rw (← after.0) (record { refused_value = c.list_job.ensures.refused_value ∙ after.1; size_value = c.list_job.ensures.size_value; out_after = c.list_job.ensures.out_after; prefix_len = front_counts _ c.args.out.now _ _ c.list_job.ensures.size_value c.list_job.ensures.out_after })
 
-pub returns-in-Failed : goal.returns-in-Failed
-returns-in-Failed c = let after = after_failed c.args.got c.args.job.now c.in-Failed.is in
-    rw (← after.0) (record { refused_value = c.write_number.ensures.refused_value ∙ after.1; size_value = c.write_number.ensures.size_value; out_after = c.write_number.ensures.out_after; prefix_len = front_counts _ c.args.out.now _ _ c.write_number.ensures.size_value c.write_number.ensures.out_after })
+pub returns-in-Err : goal.returns-in-Err
+returns-in-Err c = let after = after_failed c.args.got _ c.args.job.now c.in-Err.is in
+    rw (← after.0) (record { refused_value = rw c.write_number.ensures.refused_value after.1; size_value = c.write_number.ensures.size_value; out_after = c.write_number.ensures.out_after; prefix_len = front_counts _ c.args.out.now _ _ c.write_number.ensures.size_value c.write_number.ensures.out_after })

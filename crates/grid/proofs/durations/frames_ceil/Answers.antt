@@ -1,12 +1,11 @@
--- Product and divisor fit in 64 bits together, and the divisor is not 0.
-use Rattle.grid.specs.Durations.{frames_ceil}
-use Rattle.grid.specs.FitLaws.{frames_fit}
-use Rattle.std.proofs.Common.{arith}
+-- std rounds up by what is left over.
+use Rattle.std.proofs.Common.{arith, ◌∙◌}
+use Rattle.grid.specs.Durations.{frames_ceil, frames_den}
+use Rattle.grid.specs.FitLaws.{rounded_up}
 use Rattle.grid.proofs.durations.frames_ceil.Goals as goal
-
-pub overflow_add-result : goal.overflow_add-result
-overflow_add-result c = omega (arith, frames_fit c.args.frame_rate c.args.hop c.args.nanos c.requires)
 
 pub returns : goal.returns
 unfolding frames_ceil
-returns c = cc
+returns c =
+    rw (← c.product.ensures)
+    (c.div_ceil.ensures ∙ rounded_up c.product.result (frames_den c.args.hop) (omega (arith, c.requires.step)))

@@ -1,21 +1,13 @@
 -- The tests of the recording's own domain.
-use mathlib.Core.Path.{◌≡◌}
-use Rattle.grid.specs.declared.validate.Domain.{Domain}
-use Rattle.grid.specs.declared.validate.Domain.TheVariants.{Scores}
+use Rattle.std.proofs.Common.{rules}
 use Rattle.grid.specs.Validate.{values_ok}
+use Rattle.grid.specs.Values.{is_score}
 use Rattle.grid.proofs.validate.values_ok.Goals as goal
 
-pub returns-in-Decibels : goal.returns-in-Decibels
-returns-in-Decibels c = cc
-
-pub returns-then-are_scores : goal.returns-then-are_scores
+pub returns-then-every : goal.returns-then-every
 unfolding values_ok
-returns-then-are_scores c =
-    let d : ◌≡◌ {A = Domain} c.args.domain Scores = cc in
-    rw (d, ← c.are_scores.ensures, c.if-are_scores.true) c.are_unflagged.ensures
+returns-then-every c = let scores = c.every.ensures is_score (λ x r k. k) in rw c.in-Scores.is (search rules)
 
-pub returns-else-are_scores : goal.returns-else-are_scores
+pub returns-else-every : goal.returns-else-every
 unfolding values_ok
-returns-else-are_scores c =
-    let d : ◌≡◌ {A = Domain} c.args.domain Scores = cc in
-    rw (d, ← c.are_scores.ensures, c.if-are_scores.false)
+returns-else-every c = let scores = c.every.ensures is_score (λ x r k. k) in rw c.in-Scores.is (search rules)

@@ -1,12 +1,12 @@
 -- A count that is present takes four bytes.
-use Rattle.std.proofs.Common.{arith}
 use Rattle.job.specs.Settings.{mode_at}
+use Rattle.job.specs.ReadsLaws.{same_job}
 use Rattle.job.proofs.settings.mode_at.Goals as goal
 
-pub returns-then-by_count : goal.returns-then-by_count
+pub returns-then-not-has-clause-read : goal.returns-then-not-has-clause-read
 unfolding mode_at
-returns-then-by_count c = record { next_bound = omega arith; value = rw (c.mode_of-mode.ensures, c.u32_at.ensures, ← c.stands-by_count.ensures, c.if-by_count.true) }
+returns-then-not-has-clause-read c = record { part_is = rw (← c.has.ensures, c.if-not-has.true); same = same_job }
 
-pub returns : goal.returns
+pub returns-clause-read : goal.returns-clause-read
 unfolding mode_at
-returns c = record { next_bound = omega arith; value = rw (c.mode_of-mode.ensures, c.u32_at.ensures, ← c.stands-by_count.ensures, c.if-by_count.false) }
+returns-clause-read c = record { part_is = rw (← c.has.ensures, c.if-not-has.false, c.next.ensures.value, c.next.ensures.next); same = c.next.ensures.same }

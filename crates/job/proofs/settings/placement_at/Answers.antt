@@ -1,16 +1,18 @@
 -- The kind, and its number if it has one.
-use Rattle.std.proofs.Common.{arith}
+use Rattle.std.proofs.lemmas.Result.{err_from_is_err_and}
 use Rattle.job.specs.Settings.{placement_at}
+use Rattle.job.specs.ReadsLaws.{same_then}
 use Rattle.job.proofs.settings.placement_at.Goals as goal
 
-pub returns : goal.returns
+pub returns-in_err-kind-clause-read : goal.returns-in_err-kind-clause-read
 unfolding placement_at
-returns c = record {
-  next_bound = omega arith;
-  value = rw (
-    c.placement_of.ensures,
-    c.f32_field-ratio.ensures.value,
-    c.kind_field-kind.ensures.value,
-    c.stands.ensures,
-  );
-}
+returns-in_err-kind-clause-read c =
+    let p = err_from_is_err_and c.from_residual.result c.from_residual.ensures.1 in
+    rw (p.1, p.2) (rw (← c.has-present.ensures, c.in_err-kind.ensures.read))
+
+pub returns-clause-read : goal.returns-clause-read
+unfolding placement_at
+returns-clause-read c =
+    let kind = c.in_ok-kind.ensures.read in
+    let ratio = c.f32_if-ratio.ensures.read in
+    (rw (← c.has-present.ensures, kind.0, ← kind.1.same_bytes, ratio.part_is, c.placement_of.ensures), same_then kind.1 ratio.same)

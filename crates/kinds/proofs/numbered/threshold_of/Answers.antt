@@ -1,21 +1,21 @@
--- The three kinds, in order; 0 / 0 is the NaN.
-use borrow.Author.Tests.{eq-eqb, ne_eqb}
-use lib.Ieee.{of_bits, div}
+-- The three kinds, in order, and any other number.
+use Rattle.std.proofs.Common.{tests, rules}
+use lib.Ieee.{of_bits}
 use Rattle.kinds.specs.Numbered.{threshold_of}
 use Rattle.kinds.proofs.numbered.threshold_of.Goals as goal
 
-pub returns-then-kind-eq0 : goal.returns-then-kind-eq0
+pub returns-in-0 : goal.returns-in-0
 unfolding threshold_of
-returns-then-kind-eq0 c = rw (eq-eqb _ _ c.if-kind-eq0.true)
+returns-in-0 c = rw c.in-0.is
 
-pub returns-then-kind-eq1 : goal.returns-then-kind-eq1
+pub returns-in-1 : goal.returns-in-1
 unfolding threshold_of
-returns-then-kind-eq1 c = rw (ne_eqb _ _ c.if-kind-eq0.false, eq-eqb _ _ c.if-kind-eq1.true)
+returns-in-1 c = rw c.in-1.is
 
-pub returns-then-kind-eq2 : goal.returns-then-kind-eq2
+pub returns-in-2 : goal.returns-in-2
 unfolding threshold_of
-returns-then-kind-eq2 c = rw (ne_eqb _ _ c.if-kind-eq0.false, ne_eqb _ _ c.if-kind-eq1.false, eq-eqb _ _ c.if-kind-eq2.true)
+returns-in-2 c = rw c.in-2.is
 
-pub returns : goal.returns
-unfolding threshold_of of_bits div
-returns c = rw (ne_eqb _ _ c.if-kind-eq0.false, ne_eqb _ _ c.if-kind-eq1.false, ne_eqb _ _ c.if-kind-eq2.false)
+pub returns-in_default : goal.returns-in_default
+unfolding threshold_of of_bits
+returns-in_default c = search (tests, rules)

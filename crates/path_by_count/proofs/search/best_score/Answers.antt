@@ -10,4 +10,4 @@ fill_rows-requires c = record { laid = room_laid c.first_starts.new.first c.requ
 
 pub returns : goal.returns
 returns c =
-    rows_sought {cut = behind (length c.args.left.now) c.args.cost.now} c.fill_rows.ensures c.requires.pieces_nonzero.1 (omega (arith, c.parent-1.given, c.requires.left_in_bounds))
+    rows_sought {cut = behind (length c.args.ends.now.left.now) c.args.cost.now} c.fill_rows.ensures c.requires.pieces_nonzero.1 (omega (arith, c.parent-1.given, c.requires.left_in_bounds))

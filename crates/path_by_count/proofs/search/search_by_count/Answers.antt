@@ -5,12 +5,12 @@ use Rattle.path_by_count.proofs.search.search_by_count.Goals as goal
 
 pub returns-then-pieces-eq0 : goal.returns-then-pieces-eq0
 returns-then-pieces-eq0 c =
-    let e = c.lesser-pieces.ensures in
-    none_solved c.lesser-pieces.result e c.if-pieces-eq0.true (omega (arith, e, c.if-pieces-eq0.true, c.requires.count_nonzero)) (omega (arith, c.requires.count_in_bounds))
+    let e = c.min-pieces.ensures in
+    none_solved c.min-pieces.result e c.if-pieces-eq0.true (omega (arith, e, c.if-pieces-eq0.true, c.requires.count_nonzero)) (omega (arith, c.requires.count_in_bounds))
 
 pub best_score-score-requires : goal.best_score-score-requires
-best_score-score-requires c = let e = c.lesser-pieces.ensures in
+best_score-score-requires c = let e = c.min-pieces.ensures in
     record { tree_room = c.requires.tree_room; pieces_nonzero = (omega (arith, c.if-pieces-eq0.false), omega (arith, e, c.requires.tree_room.domain.candidates.some)); left_in_bounds = rw e c.requires.left_in_bounds }
 
 pub returns : goal.returns
-returns c = sought_solved c.lesser-pieces.result c.lesser-pieces.ensures c.best_score-score.ensures c.walk.ensures
+returns c = sought_solved c.min-pieces.result c.min-pieces.ensures c.best_score-score.ensures c.walk.ensures

@@ -4,7 +4,4 @@ use lib.ListN.{length}
 use Rattle.path_by_count.proofs.walk.walk.Given as goal
 
 abbrev pub invariant-loop-k : goal.invariant-loop-k
-invariant-loop-k l = (length l.path ≡ length l.initial.path) × Walking l.parent l.n l.pieces l.initial.path l.path l.start l.k l.j
-
-abbrev pub decreases-loop-k : goal.decreases-loop-k
-decreases-loop-k l = l.k
+invariant-loop-k l = (length l.path ≡ length l.initial.path) × Walking l.parent l.n l.pieces l.initial.path l.path l.k l.j

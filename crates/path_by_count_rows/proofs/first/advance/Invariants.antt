@@ -6,7 +6,4 @@ use Rattle.path_by_count_rows.proofs.first.advance.Given as goal
 
 abbrev pub invariant-loop-i : goal.invariant-loop-i
 invariant-loop-i l =
-    (l.i ≤ l.last) × (l.last ≡ l.j - 1) × (first_passing (is_within l.limit l.left l.right l.j) l.i (l.last - l.i) ≡ first_passing (is_within l.limit l.left l.right l.j) l.p (l.last - l.p))
-
-abbrev pub decreases-loop-i : goal.decreases-loop-i
-decreases-loop-i l = l.last - l.i
+    (l.i ≤ l.last) × (l.last ≡ l.j - 1) × (first_passing (is_within l.limit l.ends.left.now l.ends.right.now l.j) l.i (l.last - l.i) ≡ first_passing (is_within l.limit l.ends.left.now l.ends.right.now l.j) l.p (l.last - l.p))

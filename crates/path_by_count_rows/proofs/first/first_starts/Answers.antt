@@ -11,7 +11,7 @@ pub overflow_cast-first : goal.overflow_cast-first
 overflow_cast-first c =
     let limit = c.args.limit in
     let found = starting_found {limit = limit} c.requires.candidates (omega arith) c.loop-j.invariant.1 in
-    omega (arith, c.advance-p.ensures, found, first_start_high limit c.args.left.now c.args.right.now c.loop-j.j, c.requires.candidates.few)
+    omega (arith, c.advance-p.ensures, found, first_start_high limit c.args.ends.now.left.now c.args.ends.now.right.now c.loop-j.j, c.requires.candidates.few)
 
 pub loop-j-preserved : goal.loop-j-preserved
 loop-j-preserved c =

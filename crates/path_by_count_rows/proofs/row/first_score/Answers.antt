@@ -9,16 +9,16 @@ use mathlib.Core.Path.{◌∙◌}
 use Rattle.path_by_count_rows.proofs.row.first_score.Goals as goal
 
 pub returns-then-j-eq0 : goal.returns-then-j-eq0
-returns-then-j-eq0 c = rw (nought_is binary64) (first-none c.args.lengths c.args.left.now c.args.right.now c.args.cut.now c.args.j c.if-j-eq0.true)
+returns-then-j-eq0 c = rw (nought_is binary64) (first-none c.args.lengths c.args.ends.now.left.now c.args.ends.now.right.now c.args.cut.now c.args.j c.if-j-eq0.true)
 
-pub overflow_sub-left : goal.overflow_sub-left
-overflow_sub-left c = ends_rise c.requires.searchable.candidates 0 c.args.j (omega (arith, c.if-j-eq0.false)) c.requires.j_in_bounds
+pub overflow_sub-ends : goal.overflow_sub-ends
+overflow_sub-ends c = ends_rise c.requires.searchable.candidates 0 c.args.j (omega (arith, c.if-j-eq0.false)) c.requires.j_in_bounds
 
-pub piece_score-score-requires : goal.piece_score-score-requires
-piece_score-score-requires c = record { over_le_max_index = omega arith; len_le_max_len = omega (arith, left_bounded c.requires.searchable.candidates c.args.j c.requires.j_in_bounds) }
+pub with_piece-score-requires : goal.with_piece-score-requires
+with_piece-score-requires c = record { over_le_max_index = omega arith; len_le_max_len = omega (arith, left_bounded c.requires.searchable.candidates c.args.j c.requires.j_in_bounds) }
 
 pub returns : goal.returns
 unfolding piece_length
 returns c =
-    rw (← nought_is binary64, ← c.piece_score-score.ensures) c.add_cut_at.ensures
-    ∙ first_one c.args.lengths c.args.left.now c.args.right.now c.args.cut.now c.args.j (omega (arith, c.if-j-eq0.false))
+    rw (← nought_is binary64, ← c.with_piece-score.ensures) c.with_cut_at.ensures
+    ∙ first_one c.args.lengths c.args.ends.now.left.now c.args.ends.now.right.now c.args.cut.now c.args.j (omega (arith, c.if-j-eq0.false))

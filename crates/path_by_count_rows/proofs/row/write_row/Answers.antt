@@ -13,15 +13,15 @@ loop-j-init c =
 pub predecessor-best-requires : goal.predecessor-best-requires
 predecessor-best-requires c = record { row_ready = written_ready c.requires.planted c.requires.k_nonzero.0 c.loop-j.invariant.0 c.loop-j.invariant.6 (c.loop-j.j - 1) (omega arith) (omega arith) (omega (arith, c.loop-j.invariant.2)); firsts_value = c.behind_tree-from.ensures }
 
-pub slice_bounds-add_cut_at-end : goal.slice_bounds-add_cut_at-end
-slice_bounds-add_cut_at-end c =
+pub slice_bounds-with_cut_at-end : goal.slice_bounds-with_cut_at-end
+slice_bounds-with_cut_at-end c =
     let laid = c.requires.planted.laid in
     omega (arith, laid.costs, c.loop-j.invariant.4, c.behind_tree-from.ensures, c.end_by_count-to.ensures)
 
-pub add_cut_at-score-requires : goal.add_cut_at-score-requires
-add_cut_at-score-requires c =
+pub with_cut_at-score-requires : goal.with_cut_at-score-requires
+with_cut_at-score-requires c =
     let laid = c.requires.planted.laid in
-    let n = length c.args.left.now in
+    let n = length c.args.ends.now.left.now in
     let e = behind_part n c.behind_tree-from.ensures c.end_by_count-to.ensures c.loop-j.cost in
     rw (e, behind-length n c.loop-j.cost (omega (arith, laid.costs, c.loop-j.invariant.4))) (omega (arith, c.loop-j.invariant.1, c.loop-j.invariant.2))
 
@@ -63,11 +63,11 @@ loop-j-preserved c =
       simp length-set c.loop-j.invariant.3,
       simp length-set c.loop-j.invariant.4,
       simp length-set c.loop-j.invariant.5,
-      next_more c.requires.planted c.requires.k_nonzero.0 c.loop-j.invariant.0 c.loop-j.invariant.6 (c.loop-j.j - 1) c.predecessor-best.result c.add_cut_at-score.result
+      next_more c.requires.planted c.requires.k_nonzero.0 c.loop-j.invariant.0 c.loop-j.invariant.6 (c.loop-j.j - 1) c.predecessor-best.result c.with_cut_at-score.result
           (omega arith) (omega arith) (omega (arith, c.loop-j.invariant.2)) (omega (arith, laid.overs, tree_size laid, laid.tree.enough, c.loop-j.invariant.2, c.loop-j.invariant.3))
           (omega (arith, laid.costs, tree_size laid, laid.tree.enough, c.loop-j.invariant.2, c.loop-j.invariant.4)) (omega (arith, c.loop-j.invariant.2, c.loop-j.invariant.5))
           c.predecessor-best.ensures
-          (rw (behind_part (length c.args.left.now) c.behind_tree-from.ensures c.end_by_count-to.ensures c.loop-j.cost, written-cuts c.requires.planted c.requires.k_nonzero.0 c.loop-j.invariant.0 c.loop-j.invariant.6) at c.add_cut_at-score.ensures),
+          (rw (behind_part (length c.args.ends.now.left.now) c.behind_tree-from.ensures c.end_by_count-to.ensures c.loop-j.cost, written-cuts c.requires.planted c.requires.k_nonzero.0 c.loop-j.invariant.0 c.loop-j.invariant.6) at c.with_cut_at-score.ensures),
     )
 
 pub shape_of-over : goal.shape_of-over

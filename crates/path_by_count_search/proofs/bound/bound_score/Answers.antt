@@ -5,8 +5,8 @@ use Rattle.std.proofs.Common.{arith}
 use Rattle.path_by_count_search.proofs.bound.bound_score.Goals as goal
 
 pub overflow_add-result : goal.overflow_add-result
-overflow_add-result c = omega (arith, c.is_over.ensures, over-one c.args.lengths.limit c.args.shortest)
+overflow_add-result c = omega (arith, c.over.ensures, over-one c.args.lengths.limit c.args.shortest)
 
 pub returns : goal.returns
 unfolding with_bound
-returns c = rw (c.is_over.ensures, c.length_bound.ensures)
+returns c = rw (c.over.ensures, c.length_bound.ensures)

@@ -17,8 +17,8 @@ int_to_float-max c = le→leb c.args.longest (2 ^ 53) (omega arith)
 
 pub returns-then-max-lengths : goal.returns-then-max-lengths
 unfolding length_bound_of length_bound square off_of short
-returns-then-max-lengths c = rw (← c.clamp_f64-closest.ensures, c.if-max-lengths.true)
+returns-then-max-lengths c = rw (← c.clamp-closest.ensures, c.if-max-lengths.true)
 
 pub returns-else-max-lengths : goal.returns-else-max-lengths
 unfolding length_bound_of length_bound square off_of short
-returns-else-max-lengths c = rw (← c.clamp_f64-closest.ensures, c.if-max-lengths.false)
+returns-else-max-lengths c = rw (← c.clamp-closest.ensures, c.if-max-lengths.false)

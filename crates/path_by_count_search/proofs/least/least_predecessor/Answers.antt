@@ -18,19 +18,19 @@ pub returns-then-to-from-le16 : goal.returns-then-to-from-le16
 returns-then-to-from-le16 c = c.scan_least.ensures
 
 pub overflow_add-leaves : goal.overflow_add-leaves
-overflow_add-leaves c = omega (arith, c.requires.starts.overs, c.well_formed, c.lesser-at.ensures)
+overflow_add-leaves c = omega (arith, c.requires.starts.overs, c.well_formed, c.min-at.ensures)
 
 pub score_from-score-requires : goal.score_from-score-requires
-score_from-score-requires c = start_at_lem c.requires.starts c.lesser-at.result (omega (arith, c.lesser-at.ensures, c.requires.from_lt_to))
+score_from-score-requires c = start_at_lem c.requires.starts c.min-at.result (omega (arith, c.min-at.ensures, c.requires.from_lt_to))
 
 pub search-requires : goal.search-requires
-search-requires c = let inside = arrival-nonneg c.requires.starts c.lesser-at.result (omega (arith, c.lesser-at.ensures, c.requires.from_lt_to)) in
+search-requires c = let inside = arrival-nonneg c.requires.starts c.min-at.result (omega (arith, c.min-at.ensures, c.requires.from_lt_to)) in
     record { starts = starts_held c.requires.starts; covers = c.requires.covers; to_le_leaves = c.requires.to_le_leaves; nonneg = subst (λ (s : Score). T (nonneg s.cost)) (sym c.score_from-score.ensures) inside }
 
 pub returns : goal.returns
 unfolding with_piece length_cost_of
 returns c =
     visit_is_least (arrival_at c.args.lengths c.args.right.now c.args.over.now c.args.cost.now c.args.leaves c.args.end)
-    c.args.leaves c.args.from c.args.to c.lesser-at.result c.score_from-score.result c.search.result (arrival-nonneg c.requires.starts)
-    (omega (arith, c.lesser-at.ensures, c.larger.ensures, c.requires.from_lt_to)) (omega (arith, c.lesser-at.ensures, c.requires.from_lt_to))
+    c.args.leaves c.args.from c.args.to c.min-at.result c.score_from-score.result c.search.result (arrival-nonneg c.requires.starts)
+    (omega (arith, c.min-at.ensures, c.max.ensures, c.requires.from_lt_to)) (omega (arith, c.min-at.ensures, c.requires.from_lt_to))
     c.requires.to_le_leaves c.score_from-score.ensures c.search.ensures

@@ -18,12 +18,6 @@ narrower-next-requires c = let x = c.loop-place.invariant in
 pub visit-requires : goal.visit-requires
 visit-requires c = record { starts = c.requires.starts; covers = c.loop-place.invariant.covers; nonneg = c.requires.nonneg }
 
-pub returns-then-next-place : goal.returns-then-next-place
-returns-then-next-place c =
-    let q = c.args.query in
-    let x = c.loop-place.invariant in
-    whole-first (through q c.args.right.now c.args.over.now c.args.cost.now) q.leaves x.low x.high c.requires.to_le_leaves c.visit.ensures
-
 pub loop-place-smaller : goal.loop-place-smaller
 loop-place-smaller c =
     let q = c.args.query in
@@ -33,11 +27,8 @@ pub loop-place-preserved : goal.loop-place-preserved
 loop-place-preserved c =
     encloses_narrower c.loop-place.invariant (omega (arith, c.loop-place-test.true)) c.narrower-next.ensures
 
-pub visit-requires-2 : goal.visit-requires-2
-visit-requires-2 c = record { starts = c.requires.starts; covers = c.loop-place.invariant.covers; nonneg = c.requires.nonneg }
-
 pub returns : goal.returns
 returns c =
     let q = c.args.query in
     let x = c.loop-place.invariant in
-    whole-first (through q c.args.right.now c.args.over.now c.args.cost.now) q.leaves x.low x.high c.requires.to_le_leaves c.visit-2.ensures
+    whole-first (through q c.args.right.now c.args.over.now c.args.cost.now) q.leaves x.low x.high c.requires.to_le_leaves c.visit.ensures

@@ -1,18 +1,13 @@
--- `tree::leaves_for` doubles a power of two until it is enough, so the one before was not.
-use Rattle.path_by_count_tree.specs.TreeLaws.{power_positive}
-use Rattle.path_by_count_tree.specs.Tree.{Power}
+-- `tree::leaves_for` asks std for the least power of two that is enough, whose half is not.
 use Rattle.std.proofs.Common.{arith}
-use mathlib.Core.Path.{refl}
+use Rattle.path_by_count_tree.specs.TreeLaws.{power_of}
 use Rattle.path_by_count_tree.proofs.tree.leaves_for.Goals as goal
 
-pub loop-leaves-init : goal.loop-leaves-init
-loop-leaves-init c = (Power.one, omega arith)
-
-pub loop-leaves-smaller : goal.loop-leaves-smaller
-loop-leaves-smaller c = omega (arith, power_positive c.loop-leaves.invariant.0)
-
-pub loop-leaves-preserved : goal.loop-leaves-preserved
-loop-leaves-preserved c = (Power.twice c.loop-leaves.invariant.0 refl, omega arith)
-
 pub returns : goal.returns
-returns c = record { power = c.loop-leaves.invariant.0; enough = c.loop-leaves-test.false; least = c.loop-leaves.invariant.1 }
+returns c =
+    let power = c.next_power_of_two.ensures.power in
+    record {
+      power = power_of power.0 power.1;
+      enough = c.next_power_of_two.ensures.lower_bound;
+      least = omega (arith, c.next_power_of_two.ensures.upper_bound);
+    }

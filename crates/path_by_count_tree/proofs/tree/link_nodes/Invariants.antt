@@ -8,6 +8,3 @@ abbrev pub invariant-loop-node : goal.invariant-loop-node
 invariant-loop-node l =
     (l.node ≤ l.leaves) × (length l.tree_over ≡ length l.initial.tree_over) × (length l.tree_cost ≡ length l.initial.tree_cost)
     × Linked l.initial.tree_over l.initial.tree_cost l.leaves l.tree_over l.tree_cost l.node
-
-abbrev pub decreases-loop-node : goal.decreases-loop-node
-decreases-loop-node l = l.node

@@ -33,5 +33,5 @@ shape_of-cost c = c.loop-j.invariant.2.costs ∙ simp length-set
 
 pub returns : goal.returns
 returns c =
-    let e : c.loop-j.j ≡ length c.args.left.now = omega (arith, c.loop-j.invariant.1, c.loop-j-test.false) in
+    let e : c.loop-j.j ≡ length c.args.ends.now.left.now = omega (arith, c.loop-j.invariant.1, c.loop-j-test.false) in
     rw (← e) (filled-over c.requires (of_bits binary64 0) (nought_is binary64) c.behind_table.ensures c.loop-j.invariant.2)

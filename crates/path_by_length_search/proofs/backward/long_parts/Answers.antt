@@ -8,32 +8,33 @@ use Rattle.path_pieces.specs.Pieces.{piece_length}
 use Rattle.path_pieces.specs.DomainLaws.{ends_rise, piece_bounded}
 use Rattle.path_pieces.specs.PredecessorLaws.{within_yes}
 use Rattle.path_by_length_search.specs.BackwardLaws.{walked_stop, walked_done, walked_beyond, walked_from, long_part}
+use Rattle.path_by_length_search.proofs.backward.long_parts.Goals.{then-table-len-via-then-table-len, then-table-len-via-else-table-len+then-none_better}
 use Rattle.path_by_length_search.proofs.backward.long_parts.Goals as goal
 
 pub loop-i-init : goal.loop-i-init
 loop-i-init c = (c.requires.walked.so_far.0, c.requires.walked, c.requires.long)
 
-pub overflow_sub-len : goal.overflow_sub-len
-overflow_sub-len c = ends_rise c.requires.scored.candidates (c.loop-i.i - 1) c.args.j (omega arith) c.requires.scored.inside
+pub overflow_sub-len-in-loop-i : goal.overflow_sub-len-in-loop-i
+overflow_sub-len-in-loop-i c = ends_rise c.requires.scored.candidates (c.loop-i.i - 1) c.args.j (omega arith) c.requires.scored.inside
 
-pub returns-then-limit-len : goal.returns-then-limit-len
+pub returns-then-table-len : goal.returns-then-table-len
 unfolding piece_length
-returns-then-limit-len c =
-    walked_stop c.requires.scored c.requires.costed c.loop-i.invariant.1 c.requires.from_le_j c.loop-i-test.true c.if-limit-len.true
+returns-then-table-len c =
+    let k = c.loop-i.i - 1 in
+    let stop = c.loop-i.invariant.1 in
+    elim c.then-table-len.branch [
+      | then-table-len-via-then-table-len x ↦ walked_stop c.requires.scored c.requires.costed stop c.requires.from_le_j c.loop-i-test.true x.if-table-len.true
+      | then-table-len-via-else-table-len+then-none_better x ↦
+          let t = within_yes c.args.table.lengths.limit c.args.table.ends.left.now c.args.table.ends.right.now c.args.j k x.if-table-len.false in
+          walked_beyond c.requires.scored c.requires.costed stop c.requires.from_le_j c.loop-i-test.true (c.loop-i.invariant.2.none_short k (omega arith) (omega arith) t)
+          (sym x.none_better.ensures ∙ x.if-none_better.true)
+    ]
 
 pub none_better-requires : goal.none_better-requires
 unfolding piece_length
 none_better-requires c = let k = c.loop-i.i - 1 in
-    let t = within_yes c.args.lengths.limit c.args.left.now c.args.right.now c.args.j k c.if-limit-len.false in
+    let t = within_yes c.args.table.lengths.limit c.args.table.ends.left.now c.args.table.ends.right.now c.args.j k c.if-table-len.false in
     record { len_le_max_len = piece_bounded c.requires.scored.candidates k c.args.j c.requires.scored.inside; not_short = c.loop-i.invariant.2.none_short k (omega arith) (omega arith) t }
-
-pub returns-then-none_better : goal.returns-then-none_better
-unfolding piece_length
-returns-then-none_better c =
-    let k = c.loop-i.i - 1 in
-    let t = within_yes c.args.lengths.limit c.args.left.now c.args.right.now c.args.j k c.if-limit-len.false in
-    walked_beyond c.requires.scored c.requires.costed c.loop-i.invariant.1 c.requires.from_le_j c.loop-i-test.true (c.loop-i.invariant.2.none_short k (omega arith) (omega arith) t)
-    (sym c.none_better.ensures ∙ c.if-none_better.true)
 
 pub long_pieces-best-requires : goal.long_pieces-best-requires
 long_pieces-best-requires c = let to = c.part_start-to.result in

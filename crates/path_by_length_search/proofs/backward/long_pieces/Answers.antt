@@ -9,36 +9,36 @@ use Rattle.path_pieces.specs.PredecessorLaws.{within_yes}
 use Rattle.path_by_length_search.specs.BackwardLaws.{score-number, walked_next, walked_stop, walked_done, long_part}
 use Rattle.path_by_length_search.proofs.backward.long_pieces.Goals as goal
 
-pub loop-i-init : goal.loop-i-init
-loop-i-init c = (c.requires.walked.so_far.0, c.requires.walked, c.requires.long)
+pub loop-k-init : goal.loop-k-init
+loop-k-init c = (c.requires.walked.so_far.0, c.requires.walked, c.requires.long)
 
 pub overflow_sub-len : goal.overflow_sub-len
-overflow_sub-len c = ends_rise c.requires.scored.candidates (c.loop-i.i - 1) c.args.j (omega arith) c.requires.scored.inside
+overflow_sub-len c = ends_rise c.requires.scored.candidates (c.loop-k.k - 1) c.args.j (omega arith) c.requires.scored.inside
 
-pub returns-then-limit-len : goal.returns-then-limit-len
+pub returns-then-table-len : goal.returns-then-table-len
 unfolding piece_length
-returns-then-limit-len c =
-    walked_stop c.requires.scored c.requires.costed c.loop-i.invariant.1 c.requires.from_le_j c.loop-i-test.true c.if-limit-len.true
+returns-then-table-len c =
+    walked_stop c.requires.scored c.requires.costed c.loop-k.invariant.1 c.requires.from_le_j c.loop-k-test.true c.if-table-len.true
 
-pub long_score-requires : goal.long_score-requires
+pub with_long_piece-requires : goal.with_long_piece-requires
 unfolding piece_length
-long_score-requires c = let ok = c.requires.scored in
-    let k = c.loop-i.i - 1 in
-    let t = within_yes c.args.lengths.limit c.args.left.now c.args.right.now c.args.j k c.if-limit-len.false in
-    record { over_le_max_index = omega (arith, ok.few k (omega arith), ok.candidates.few); len_le_max_len = piece_bounded ok.candidates k c.args.j ok.inside; not_short = c.loop-i.invariant.2.none_short k (omega arith) (omega arith) t }
+with_long_piece-requires c = let ok = c.requires.scored in
+    let k = c.loop-k.k - 1 in
+    let t = within_yes c.args.table.lengths.limit c.args.table.ends.left.now c.args.table.ends.right.now c.args.j k c.if-table-len.false in
+    record { over_le_max_index = omega (arith, ok.few k (omega arith), ok.candidates.few); len_le_max_len = piece_bounded ok.candidates k c.args.j ok.inside; not_short = c.loop-k.invariant.2.none_short k (omega arith) (omega arith) t }
 
 pub or_better-best-requires : goal.or_better-best-requires
 unfolding piece_length
-or_better-best-requires c = record { score_nonneg = rw c.long_score.ensures (score-number c.requires.scored c.requires.costed (c.loop-i.i - 1) (omega arith)); best_nonneg = c.loop-i.invariant.1.number }
+or_better-best-requires c = record { first_nonneg = rw c.with_long_piece.ensures (score-number c.requires.scored c.requires.costed (c.loop-k.k - 1) (omega arith)); second_nonneg = c.loop-k.invariant.1.number }
 
-pub loop-i-preserved : goal.loop-i-preserved
+pub loop-k-preserved : goal.loop-k-preserved
 unfolding piece_length
-loop-i-preserved c = (
+loop-k-preserved c = (
   omega arith,
-  walked_next c.requires.scored c.requires.costed c.loop-i.invariant.1 _ c.loop-i-test.true c.if-limit-len.false
-      (rw c.long_score.ensures at c.or_better-best.ensures.value) c.or_better-best.ensures.nonneg,
-  long_part c.args.from (c.loop-i.i - 1) (le_refl c.args.from) (omega arith) c.loop-i.invariant.2,
+  walked_next c.requires.scored c.requires.costed c.loop-k.invariant.1 _ c.loop-k-test.true c.if-table-len.false
+      (rw c.with_long_piece.ensures at c.or_better-best.ensures.value) c.or_better-best.ensures.nonneg,
+  long_part c.args.from (c.loop-k.k - 1) (le_refl c.args.from) (omega arith) c.loop-k.invariant.2,
 )
 
 pub returns : goal.returns
-returns c = walked_done c.requires.scored c.requires.costed c.loop-i.invariant.1 c.requires.from_le_j c.loop-i-test.false
+returns c = walked_done c.requires.scored c.requires.costed c.loop-k.invariant.1 c.requires.from_le_j c.loop-k-test.false

@@ -1,16 +1,13 @@
--- `costs::costs_ok` tests one cost after another, and stops at the first that fails.
-use Rattle.std.proofs.Common.{rules}
-use mathlib.Core.Path.{sym, ◌∙◌}
-use lib.Ieee.{nan}
-use Rattle.base_code.specs.ListsLaws.{testing_next, testing_fails, testing_done}
+-- `costs::costs_ok`: what `all` answers is the test of every cost.
+use borrow.Author.Tests.{tests}
+use Rattle.std.proofs.Common.{rules, ◌≡◌, true, false}
+use Rattle.std.proofs.lemmas.Iterator.{cases_from_all, YieldsList-from_slice}
 use Rattle.path_tests.specs.Costs.{is_cost}
+use Rattle.path_tests.proofs.Told.{told_all}
 use Rattle.path_tests.proofs.costs.costs_ok.Goals as goal
 
-pub returns-then-not-is_cost : goal.returns-then-not-is_cost
-returns-then-not-is_cost c = testing_fails is_cost _ _ _ nan (search rules) (sym c.is_cost.ensures ∙ c.if-not-is_cost.true) c.loop-i.invariant
-
-pub loop-i-preserved : goal.loop-i-preserved
-loop-i-preserved c = testing_next is_cost _ _ _ nan (search rules) (sym c.is_cost.ensures ∙ c.if-not-is_cost.false) c.loop-i.invariant
-
 pub returns : goal.returns
-returns c = testing_done is_cost _ _ _ (search rules) c.loop-i.invariant
+returns c =
+    told_all is_cost _ _
+    (cases_from_all _ _ _ (λ x. is_cost x ≡ true) (λ x. is_cost x ≡ false) c.all.ensures.ran (YieldsList-from_slice c.args.cost.now cc)
+    (λ x q k. search (rules, tests)) (λ x q k. search (rules, tests)))

@@ -3,54 +3,50 @@ use Rattle.std.proofs.Common.{arith}
 use mathlib.Core.Path.{refl}
 use Prim.Native.Nat.{◌+◌, ◌-◌, ◌≤◌, ◌<◌}
 use lib.ListN.{length, drop, length-set, length-take}
-use Rattle.plan_lists.specs.BackLaws.{within_start, within-room, within_inside, within_next, within_read, within_falls, within_done}
+use Rattle.plan_lists.specs.BackLaws.{within_start, within-room, within_inside, within_later, within_next, within_read, within_done}
 use Rattle.plan_lists.proofs.back.backtrack_within.Goals as goal
-use Rattle.plan_lists.proofs.back.backtrack_within.Goals.{At-loop-j}
+use Rattle.plan_lists.proofs.back.backtrack_within.Goals.{At-loop-k}
 
 -- there is a place for the candidate, and its parent stands before the path
-places : (c : At-loop-j) → (0 < c.loop-j.k) × (c.args.at + c.loop-j.k ≤ length c.loop-j.work)
-places c = within-room c.args.parents c.args.n c.args.at c.requires c.loop-j.invariant.1
+places : (c : At-loop-k) → (0 < c.loop-k.k) × (c.args.at + c.loop-k.k ≤ length c.loop-k.work)
+places c = within-room c.args.parents c.args.n c.args.at c.requires c.loop-k.invariant.1
 
-inside : (c : At-loop-j) → (c.loop-j.j < c.args.n) × (c.args.parents + c.loop-j.j < c.args.at)
-inside c = within_inside c.args.parents c.args.n c.args.at c.requires c.loop-j.invariant.1
+inside : (c : At-loop-k) → (c.loop-k.j < c.args.n) × (c.args.parents + c.loop-k.j < c.args.at)
+inside c = within_inside c.args.parents c.args.n c.args.at c.requires c.loop-k.invariant.1
 
 pub overflow_sub-j : goal.overflow_sub-j
 overflow_sub-j c = omega (arith, c.requires.leads.inside, length-take c.args.n (drop c.args.parents c.args.work.now))
 
-pub loop-j-init : goal.loop-j-init
-loop-j-init c = (refl, within_start c.args.parents c.args.n c.args.at c.requires)
+pub loop-k-init : goal.loop-k-init
+loop-k-init c = (refl, within_start c.args.parents c.args.n c.args.at c.requires)
 
-pub overflow_sub-k : goal.overflow_sub-k
-overflow_sub-k c = omega (arith, places (goal.at.overflow_sub-k c).At-loop-j)
+pub overflow_cast-work : goal.overflow_cast-work
+overflow_cast-work c = omega (arith, inside (goal.at.overflow_cast-work c).At-loop-k, c.requires.leads.few)
 
 pub overflow_add-work : goal.overflow_add-work
-overflow_add-work c = omega (arith, places (goal.at.overflow_add-work c).At-loop-j, c.well_formed)
+overflow_add-work c = omega (arith, places (goal.at.overflow_add-work c).At-loop-k, c.well_formed)
 
 pub offset_bounds-work-at : goal.offset_bounds-work-at
-offset_bounds-work-at c = omega (arith, places (goal.at.offset_bounds-work-at c).At-loop-j, c.well_formed)
+offset_bounds-work-at c = omega (arith, places (goal.at.offset_bounds-work-at c).At-loop-k, c.well_formed)
 
 pub bounds-work-at : goal.bounds-work-at
-bounds-work-at c = omega (arith, places (goal.at.bounds-work-at c).At-loop-j)
+bounds-work-at c = omega (arith, places (goal.at.bounds-work-at c).At-loop-k)
 
 pub bounds-work-parents : goal.bounds-work-parents
-bounds-work-parents c = omega (arith, inside (goal.at.bounds-work-parents c).At-loop-j, places (goal.at.bounds-work-parents c).At-loop-j, length-set c.loop-j.work (c.args.at + (c.loop-j.k - 1)) c.loop-j.j)
+bounds-work-parents c = omega (arith, inside (goal.at.bounds-work-parents c).At-loop-k, places (goal.at.bounds-work-parents c).At-loop-k, length-set c.loop-k.work (c.args.at + (c.loop-k.k - 1)) c.loop-k.j)
 
 pub overflow_cast-j : goal.overflow_cast-j
-overflow_cast-j c = omega (arith, c.type_inv.work (c.args.parents + c.loop-j.j))
+overflow_cast-j c = omega (arith, c.type_inv.work (c.args.parents + c.loop-k.j))
 
-pub loop-j-smaller : goal.loop-j-smaller
-loop-j-smaller c =
-    rw (within_read c.args.parents c.args.n c.args.at c.requires c.loop-j.invariant.1 (c.loop-j.k - 1))
-    (within_falls c.args.parents c.args.n c.args.at c.requires c.loop-j.invariant.1 c.loop-j-test.true)
-
-pub loop-j-preserved : goal.loop-j-preserved
-loop-j-preserved c =
-    let next = within_next c.args.parents c.args.n c.args.at c.requires c.loop-j.invariant.1 (c.loop-j.k - 1) refl c.loop-j-test.true in
-    rw (within_read c.args.parents c.args.n c.args.at c.requires c.loop-j.invariant.1 (c.loop-j.k - 1)) (next.same, next)
+pub loop-k-preserved : goal.loop-k-preserved
+loop-k-preserved c =
+    let next = within_next c.args.parents c.args.n c.args.at c.requires c.loop-k.invariant.1 (c.loop-k.k - 1) refl
+    (within_later c.args.parents c.args.n c.args.at c.requires c.loop-k.invariant.1 c.loop-k-test.true) in
+    rw (within_read c.args.parents c.args.n c.args.at c.requires c.loop-k.invariant.1 (c.loop-k.k - 1)) (next.same, next)
 
 pub bounds-work-at-2 : goal.bounds-work-at-2
-bounds-work-at-2 c = omega (arith, places (goal.at.bounds-work-at-2 c).At-loop-j)
+bounds-work-at-2 c = omega (arith, places (goal.at.bounds-work-at-2 c).At-loop-k)
 
 pub returns : goal.returns
 returns c =
-    within_done c.args.parents c.args.n c.args.at c.requires c.loop-j.invariant.1 c.loop-j-test.false
+    within_done c.args.parents c.args.n c.args.at c.requires c.loop-k.invariant.1 c.loop-k-test.false

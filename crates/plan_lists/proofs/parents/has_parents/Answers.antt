@@ -7,10 +7,10 @@ use Rattle.plan_lists.proofs.parents.has_parents.Goals as goal
 
 pub overflow_mul-result : goal.overflow_mul-result
 overflow_mul-result c =
-    let a : c.lesser.result ≤ 1048576 = omega (arith, c.lesser.ensures, c.requires.1) in
+    let a : c.min.result ≤ 1048576 = omega (arith, c.min.ensures, c.requires.1) in
     let b : c.args.candidates ≤ 1048577 = omega (arith, c.requires.1) in
     omega (arith, mul-le-mul a b)
 
 pub returns : goal.returns
 unfolding has_parents
-returns c = rw c.lesser.ensures
+returns c = rw c.min.ensures

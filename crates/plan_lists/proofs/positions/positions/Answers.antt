@@ -4,17 +4,11 @@ use mathlib.Core.Path.{sym}
 use Rattle.plan_lists.specs.WrittenLaws.{lent-front, lent-room, positions_written}
 use Rattle.plan_lists.proofs.positions.positions.Goals as goal
 
-pub entries_at-first-requires : goal.entries_at-first-requires
-entries_at-first-requires c = omega (arith, c.requires.bounded.frames)
-
 pub slice_bounds-ends-end-2 : goal.slice_bounds-ends-end-2
 slice_bounds-ends-end-2 c = sym (lent-front c.args.g c.args.candidates c.args.work_u32.now c.args.work_u64.now c.requires.positions_room)
 
 pub ends-requires : goal.ends-requires
 ends-requires c = record { bounded = c.requires.bounded; entries_room = rw c.entries_at-first.ensures (lent-room c.args.g c.args.candidates c.args.work_u32.now c.args.work_u64.now c.requires.positions_room _ 0 (lent-front c.args.g c.args.candidates c.args.work_u32.now c.args.work_u64.now c.requires.positions_room) (omega arith)) }
-
-pub rights_at-rights-requires : goal.rights_at-rights-requires
-rights_at-rights-requires c = omega (arith, c.requires.bounded.frames)
 
 pub returns : goal.returns
 returns c =

@@ -7,13 +7,13 @@ use Rattle.plan_path.proofs.by_count.path_by_count.Goals as goal
 
 pub returns-then-pieces-eq0 : goal.returns-then-pieces-eq0
 returns-then-pieces-eq0 c =
-    let e = c.lesser-pieces.ensures in
+    let e = c.min-pieces.ensures in
     set-held c.args.search c.args.at c.args.work.now c.requires.search_le_at.0
-    (none_solved c.lesser-pieces.result e c.if-pieces-eq0.true (omega (arith, e, c.if-pieces-eq0.true, c.requires.count_nonzero.0))
+    (none_solved c.min-pieces.result e c.if-pieces-eq0.true (omega (arith, e, c.if-pieces-eq0.true, c.requires.count_nonzero.0))
     (omega (arith, c.requires.tree_room.domain.candidates.some, c.requires.search_le_at.1, length-drop c.args.at c.args.work.now)))
 
 pub best_score-score-requires : goal.best_score-score-requires
-best_score-score-requires c = let e = c.lesser-pieces.ensures in
+best_score-score-requires c = let e = c.min-pieces.ensures in
     record { tree_room = c.requires.tree_room; pieces_nonzero = (omega (arith, c.if-pieces-eq0.false), omega (arith, e, c.requires.tree_room.domain.candidates.some)); left_in_bounds = rw e c.requires.count_nonzero.1 }
 
 pub walk-requires : goal.walk-requires
@@ -23,7 +23,7 @@ walk-requires c = record {
     arith,
     c.requires.search_le_at,
     c.requires.tree_room.domain.candidates.some,
-    c.lesser-pieces.ensures,
+    c.min-pieces.ensures,
     rest_long c.args.search c.args.at c.args.work.now c.best_score-score.new.over c.requires.search_le_at.0
         (omega (arith, c.requires.search_le_at.1)) c.work-1.given.1,
   );
@@ -33,4 +33,4 @@ pub returns : goal.returns
 returns c =
     rest-held c.args.search c.args.at c.args.work.now c.best_score-score.new.over c.requires.search_le_at.0
     (omega (arith, c.requires.search_le_at.1)) c.work-1.given.1 _ c.work-2-1.given.1
-    (sought_solved c.lesser-pieces.result c.lesser-pieces.ensures c.best_score-score.ensures c.walk.ensures)
+    (sought_solved c.min-pieces.result c.min-pieces.ensures c.best_score-score.ensures c.walk.ensures)

@@ -10,17 +10,17 @@ overflow_cast-from c = omega (arith, c.shared_slice_known-1.given c.args.i)
 pub overflow_cast-to : goal.overflow_cast-to
 overflow_cast-to c = omega (arith, c.shared_slice_known-2-1.given (c.args.i + 1))
 
-pub offset_bounds-right-from : goal.offset_bounds-right-from
-offset_bounds-right-from c = omega (arith, c.shared_slice_known-1.given c.args.i)
+pub offset_bounds-ends-from : goal.offset_bounds-ends-from
+offset_bounds-ends-from c = omega (arith, c.shared_slice_known-1.given c.args.i)
 
-pub bounds-right-from : goal.bounds-right-from
-bounds-right-from c = let d = c.requires.drawn in omega (arith, d.paired, d.named c.args.i (omega (arith, c.requires.i_in_bounds)))
+pub bounds-ends-from : goal.bounds-ends-from
+bounds-ends-from c = let d = c.requires.drawn in omega (arith, d.paired, d.named c.args.i (omega (arith, c.requires.i_in_bounds)))
 
-pub offset_bounds-left-to : goal.offset_bounds-left-to
-offset_bounds-left-to c = omega (arith, c.shared_slice_known-2-1.given (c.args.i + 1))
+pub offset_bounds-ends-to : goal.offset_bounds-ends-to
+offset_bounds-ends-to c = omega (arith, c.shared_slice_known-2-1.given (c.args.i + 1))
 
-pub bounds-left-to : goal.bounds-left-to
-bounds-left-to c = c.requires.drawn.named (c.args.i + 1) (omega (arith, c.requires.i_in_bounds))
+pub bounds-ends-to : goal.bounds-ends-to
+bounds-ends-to c = c.requires.drawn.named (c.args.i + 1) (omega (arith, c.requires.i_in_bounds))
 
 pub returns : goal.returns
 returns c = rw add-one

@@ -10,19 +10,19 @@ loop-i-init c = writing_start _ _ _
 
 pub overflow_sub-p : goal.overflow_sub-p
 overflow_sub-p c =
-    piece_rises _ _ _ c.requires.drawn c.loop-i.i (omega (arith, c.loop-i-test.true)) _ c.piece_at-p.ensures
+    piece_rises _ _ _ c.requires.drawn c.loop-i.i (omega (arith, c.loop-i-test.true, c.saturating_sub-pieces.ensures)) _ c.piece_at-p.ensures
 
 pub flags_of-flags-requires : goal.flags_of-flags-requires
 flags_of-flags-requires c =
-    piece_small _ _ _ c.requires.drawn c.loop-i.i (omega (arith, c.loop-i-test.true)) _ c.piece_at-p.ensures
+    piece_small _ _ _ c.requires.drawn c.loop-i.i (omega (arith, c.loop-i-test.true, c.saturating_sub-pieces.ensures)) _ c.piece_at-p.ensures
 
 pub loop-i-preserved : goal.loop-i-preserved
 loop-i-preserved c =
-    writing_next _ _ _ _ c.loop-i.i c.loop-i.invariant (omega (arith, c.loop-i-test.true)) c.piece_at-p.result.start c.piece_at-p.result.end c.flags_of-flags.result _
-    (piece_next _ _ _ c.requires.drawn c.loop-i.i (omega (arith, c.loop-i-test.true)) _ c.piece_at-p.ensures _ _ _ _ _ c.is_tail-tail.ensures c.flags_of-flags.ensures)
-    (omega (arith, c.requires.path_in_bounds, c.loop-i-test.true)) c.put_three.ensures
+    writing_next _ _ _ _ c.loop-i.i c.loop-i.invariant (omega (arith, c.loop-i-test.true, c.saturating_sub-pieces.ensures)) c.piece_at-p.result.start c.piece_at-p.result.end c.flags_of-flags.result _
+    (piece_next _ _ _ c.requires.drawn c.loop-i.i (omega (arith, c.loop-i-test.true, c.saturating_sub-pieces.ensures)) _ c.piece_at-p.ensures _ _ _ _ _ (rw c.saturating_sub-pieces.ensures at c.is_tail-tail.ensures) c.flags_of-flags.ensures)
+    (omega (arith, c.requires.path_in_bounds, c.loop-i-test.true, c.saturating_sub-pieces.ensures)) c.put_three.ensures
 
 pub returns : goal.returns
 unfolding pieces_along_numbers
 returns c =
-    writing_done _ _ _ _ c.loop-i.i c.loop-i.invariant (pieces_none _ _ _ _ _ _ _ (rw length-drop (omega (arith, c.loop-i-test.false))))
+    writing_done _ _ _ _ c.loop-i.i c.loop-i.invariant (pieces_none _ _ _ _ _ _ _ (rw length-drop (omega (arith, c.loop-i-test.false, c.saturating_sub-pieces.ensures))))

@@ -9,8 +9,8 @@ pub slice_bounds-silences-end-2 : goal.slice_bounds-silences-end-2
 slice_bounds-silences-end-2 c = sym (length-take-le (2 * c.args.x.span.silences) c.args.work_u32.now c.requires.mark_room.held)
 
 pub mark_shares-requires : goal.mark_shares-requires
-mark_shares-requires c = record { mark_room = shares-room c.args.x c.args.count c.args.limit c.args.work_u32.now c.requires.mark_room _ c.marks_at-base.ensures c.requires.last_le_max_frames _ _ c.kept_frames-frames.ensures c.lesser-pieces.ensures _ c.mark_far.ensures; sharable = sharable c.args.x c.args.count c.args.limit c.args.work_u32.now c.requires.mark_room _ c.marks_at-base.ensures c.requires.last_le_max_frames _ _ c.kept_frames-frames.ensures c.lesser-pieces.ensures _ c.mark_far.ensures }
+mark_shares-requires c = record { mark_room = shares-room c.args.x c.args.count c.args.limit c.args.work_u32.now c.requires.mark_room _ c.marks_at-base.ensures c.requires.last_le_max_frames _ _ c.kept_frames-frames.ensures c.min-pieces.ensures _ c.mark_far.ensures; sharable = sharable c.args.x c.args.count c.args.limit c.args.work_u32.now c.requires.mark_room _ c.marks_at-base.ensures c.requires.last_le_max_frames _ _ c.kept_frames-frames.ensures c.min-pieces.ensures _ c.mark_far.ensures }
 
 pub returns : goal.returns
 returns c =
-    all-marked c.args.x c.args.count c.args.limit c.args.work_u32.now c.requires.mark_room _ c.marks_at-base.ensures c.requires.last_le_max_frames _ _ c.kept_frames-frames.ensures c.lesser-pieces.ensures _ c.mark_far.ensures _ c.mark_shares.ensures
+    all-marked c.args.x c.args.count c.args.limit c.args.work_u32.now c.requires.mark_room _ c.marks_at-base.ensures c.requires.last_le_max_frames _ _ c.kept_frames-frames.ensures c.min-pieces.ensures _ c.mark_far.ensures _ c.mark_shares.ensures

@@ -2,18 +2,8 @@
 use Rattle.base_laws.specs.Tests.{holds}
 use lib.Ieee.{binary32}
 use lib.Ieee.Bits.{to_bits-lt}
-use borrow.Author.Tests.{lt-ltb, le-ltb}
-use Rattle.silence_levels.specs.Keys.{place_of, key_of}
 use Rattle.std.proofs.Common.{arith}
 use Rattle.silence_levels.proofs.keys.key_of.Goals as goal
 
 pub overflow_sub-result : goal.overflow_sub-result
 overflow_sub-result c = let l = to_bits-lt binary32 c.args.x (holds c.well_formed.0.1) in omega arith
-
-pub returns-then-bits-lt2147483648 : goal.returns-then-bits-lt2147483648
-unfolding key_of place_of
-returns-then-bits-lt2147483648 c = rw (lt-ltb _ _ c.if-bits-lt2147483648.true)
-
-pub returns-else-bits-lt2147483648 : goal.returns-else-bits-lt2147483648
-unfolding key_of place_of
-returns-else-bits-lt2147483648 c = rw (le-ltb _ _ c.if-bits-lt2147483648.false)

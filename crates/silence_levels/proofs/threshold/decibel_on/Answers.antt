@@ -5,8 +5,8 @@ use Rattle.silence_levels.proofs.threshold.decibel_on.Goals as goal
 
 pub returns-then-on-reference : goal.returns-then-on-reference
 unfolding of_bits of_int
-returns-then-on-reference c = on_lowered _ _ _ _ c.min_f32.ensures c.max_f32-on.ensures c.if-on-reference.true
+returns-then-on-reference c = on_lowered _ _ _ _ c.min.ensures c.max-on.ensures c.if-on-reference.true
 
 pub returns-else-on-reference : goal.returns-else-on-reference
 unfolding of_bits of_int
-returns-else-on-reference c = on_stays _ _ _ _ c.min_f32.ensures c.max_f32-on.ensures c.if-on-reference.false
+returns-else-on-reference c = on_stays _ _ _ _ c.min.ensures c.max-on.ensures c.if-on-reference.false

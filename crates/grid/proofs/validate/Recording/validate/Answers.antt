@@ -42,7 +42,7 @@ returns-then-not-values_ok c =
 pub length_ok-requires : goal.length_ok-requires
 length_ok-requires c =
     rw c.grid.ensures
-    (passed_bounded c.args.self c.args.values.now c.args.flags.now c.args.levels.now
+    (passed_bounded c.args.self c.args.readings.now.values.now c.args.readings.now.flags.now c.args.readings.now.levels.now
     (sym c.rate_ok.ensures ∙ c.if-not-rate_ok.false)
     (sym c.frames_ok.ensures ∙ c.if-not-frames_ok.false)
     (sym c.lists_ok.ensures ∙ c.if-not-lists_ok.false))

@@ -1,5 +1,0 @@
--- `visit::query_lengths` puts the numbers of the query together.
-use Rattle.path_by_count_search.proofs.visit.query_lengths.Goals as goal
-
-pub returns : goal.returns
-returns c = rw c.length_weights.ensures

@@ -1,8 +1,0 @@
--- `score::add_cut` adds as the definition does.
-use mathlib.Core.Path.{refl}
-use Rattle.path_pieces.specs.Pieces.{with_cut}
-use Rattle.path_pieces.proofs.score.add_cut.Goals as goal
-
-pub returns : goal.returns
-unfolding with_cut
-returns c = refl

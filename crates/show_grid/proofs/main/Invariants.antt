@@ -1,9 +1,0 @@
--- Seven frames, one after the other.
-use Prim.Native.Nat.{◌-◌, ◌≤◌}
-use Rattle.show_grid.proofs.main.Given as goal
-
-abbrev pub invariant-loop-k : goal.invariant-loop-k
-invariant-loop-k l = l.k ≤ 7
-
-abbrev pub decreases-loop-k : goal.decreases-loop-k
-decreases-loop-k l = 7 - l.k
