@@ -10,8 +10,6 @@ ghost use Rattle.std.specs.Prelude.{◌≡◌};
 ghost use Rattle.answers_jobs.specs.Tally.{tally_of};
 
 use crate::report::Tally;
-use input_reader::input;
-use std::io;
 
 // Goes through all records.
 fn replay_all(s: &[u8]) -> Tally
@@ -32,13 +30,13 @@ fn replay_all(s: &[u8]) -> Tally
 }
 
 // Reads the sample, and prints one line. The number of records is part of it, so that a sample that was not read is no
-// success.
-fn main(rt: HostRuntime) -> io::Result<()> {
+// success; what came before a read that failed is replayed. The status is 0, also where the line can't be written.
+fn main(rt: HostRuntime) {
     let mut buf = [0u8; report::MOST + 1];
-    let n = input::read_to_end(&mut rt.stdin(), &mut buf)?;
+    let n = io::read_full(0, &mut buf);
     let tally = replay_all(&buf[..n]);
-    println!(rt;
+    let _ = println!(rt;
         "jobs: {} stored answers, the first {} agree, {} differ",
         tally.records, tally.agreeing, tally.differences
-    )
+    );
 }

@@ -1,15 +1,17 @@
 -- The ends of `cutplan`: a lent list that is too short, no bytes, a job that was read, bytes that are none.
-use Rattle.std.specs.Prelude.{◌≡◌, List, ℕ, ◌≤◌, ◌<◌, length, take, drop, Ok, Err}
+use Rattle.std.specs.Prelude.{◌≡◌, List, ℕ, ◌≤◌, ◌<◌, length, take, drop, None, Some, Ok, Err}
 use Rattle.std.proofs.Common.{ap, sym, ◌∙◌, arith, eq-eqb, ne_eqb, lt-ltb, le-ltb, length-append, length-take-le}
 use Rattle.base_terms.specs.Lists.{onto}
 use Rattle.base_code.specs.FrontLaws.{onto-take}
 use Rattle.io.specs.Counts.{IsPrefixLen}
 use Rattle.job.specs.Answer.{fault_number}
 use Rattle.job.specs.Job.{read_of, with_lists, job_of}
+use Rattle.job.specs.Theorems.{fault_number_lem}
 use Rattle.job.specs.declared.answer.Head.{Head}
 use Rattle.job.specs.declared.answer.Refusal.{Refusal}
 use Rattle.listing.specs.Listing.{plan_line, refusal_line}
-use Rattle.cutplan.specs.Lines.{longest_listing}
+use Rattle.cutplan.specs.Lines.{longest_listing, refusal_said}
+use Rattle.cutplan.specs.LinesLaws.{said_none, said_some}
 use Rattle.cutplan.specs.Head.{lines_of_head, refused_of_head}
 use Rattle.cutplan.specs.Cutplan.{printed_for, cutplan_of, refused_for, refused_in, Printed, printed, printed_into}
 
@@ -23,6 +25,10 @@ module _ (job : List ℕ) where
   pub empty_refused : length job ≡ 0 → 0 ≡ refused_in job
   unfolding refused_in
   empty_refused e = rw (eq-eqb (length job) 0 e)
+
+  -- so no refusal is said
+  pub empty_said : length job ≡ 0 → None ≡ refusal_said (refused_in job)
+  empty_said e = said_none (refused_in job) (sym (empty_refused e))
 
   module _ (some : length job ≡ 0 → ⊥) where
     -- for others, what is printed for the job that they say
@@ -54,6 +60,11 @@ module _ (job : List ℕ) where
     pub fault_refused : (refusal : Refusal) → read_of job ≡ Err refusal → fault_number refusal.fault ≡ refused_in job
     unfolding job_of with_lists refused_for
     fault_refused refusal e = rw (bytes_refused, e)
+
+    -- which is said, since it is 19
+    pub fault_said : (refusal : Refusal) → read_of job ≡ Err refusal → Some (fault_number refusal.fault) ≡ refusal_said (refused_in job)
+    fault_said refusal e =
+        said_some (fault_number refusal.fault) (λ none. omega (arith, fault_number_lem refusal.fault, none)) ∙ ap refusal_said (fault_refused refusal e)
 
 -- ---- into a lent list
 

@@ -2,6 +2,7 @@
 pub mod Cutplan
 pub mod CutplanLaws
 pub mod Lines
+pub mod LinesLaws
 pub mod Memory
 pub mod MemoryLaws
 pub mod Roomy

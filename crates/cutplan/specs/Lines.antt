@@ -1,5 +1,5 @@
 -- What `cutplan` prints for an answer of Plan: the lines of the plan, or that of the refusal.
-use Rattle.std.specs.Prelude.{ℕ, List, Float, replicate, Ok, Err}
+use Rattle.std.specs.Prelude.{ℕ, zero, suc, List, Float, Option, None, Some, replicate, Ok, Err}
 use Rattle.grid.specs.declared.validate.Recording.{Recording}
 use Rattle.silence_list.specs.declared.config.SegmentConfig.{SegmentConfig}
 use Rattle.plan_settings.specs.declared.config.PlanConfig.{PlanConfig}
@@ -16,6 +16,11 @@ longest_listing = 53702
 unfoldable pub lines_for : Answer → Output → List ℕ
 lines_for (Ok n) out = listing_of n out.pieces out.cuts
 lines_for (Err error) out = refusal_line (error_number error)
+
+-- the refusal that a number says: none for 0, which is the number of a plan
+unfoldable pub refusal_said : ℕ → Option ℕ
+refusal_said zero = None
+refusal_said (suc n) = Some (suc n)
 
 -- "its other lists are large enough": three numbers for a piece, and for a cut, at each of 511 frames
 abbrev pub lent_output : Output

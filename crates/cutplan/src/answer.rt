@@ -1,11 +1,10 @@
 // An answer of Plan, as the lines of its listing.
 ghost use Rattle.std.specs.Prelude.{◌≡◌, ◌≤◌, None, Some, length};
-ghost use Rattle.std.specs.Option.{unwrap_or};
 ghost use Rattle.base_terms.specs.Lists.{onto};
 ghost use Rattle.listing.specs.Listing.{plan_line, refusal_line, plan_line_room, refusal_room};
 ghost use Rattle.plan_pieces.specs.Answer.{number_of};
 ghost use Rattle.plan_pieces.specs.Output.{output_of};
-ghost use Rattle.cutplan.specs.Lines.{longest_listing, lines_for};
+ghost use Rattle.cutplan.specs.Lines.{longest_listing, lines_for, refusal_said};
 ghost use Rattle.cutplan.specs.Roomy.{Roomy};
 
 use listing::{line, write};
@@ -49,7 +48,7 @@ pub fn write_answer(answer: Answer, pieces: &[u64], cuts: &[u64], out: &mut [u8]
     requires roomy { Roomy answer (length pieces.now) (length cuts.now) }
     requires longest_listing_in_bounds { longest_listing ≤ length out.old }
     ensures size_value { result.size ≡ length (lines_for answer (output_of pieces.now cuts.now)) }
-    ensures refused_value { unwrap_or result.refused 0 ≡ number_of answer }
+    ensures refused_value { result.refused ≡ refusal_said (number_of answer) }
     ensures out_after { out.new
         ≡ onto (lines_for answer (output_of pieces.now cuts.now)) out.old }
 {

@@ -1,8 +1,7 @@
 // The operation Plan with an output of its own, and its answer as lines.
 ghost use Rattle.std.specs.Prelude.{◌≡◌, ◌≤◌, length};
 ghost use Rattle.base_terms.specs.Lists.{onto};
-ghost use Rattle.std.specs.Option.{unwrap_or};
-ghost use Rattle.cutplan.specs.Lines.{longest_listing, lines_of_plan, refused_of_plan};
+ghost use Rattle.cutplan.specs.Lines.{longest_listing, lines_of_plan, refused_of_plan, refusal_said};
 
 use crate::answer::Answered;
 use crate::{answer, memory};
@@ -14,8 +13,8 @@ use silence_list::config::SegmentConfig;
 // Three numbers for a piece, or a cut, at each frame.
 const NUMBERS: usize = 1_533;
 
-// The listing of a plan that is made in lists of its own. Three lists, not `Readings`: of arrays that the caller fills
-// the check does not know what their types say (tried: `invariant_of-readings` of `plan::plan_read` did not close).
+// The listing of a plan that is made in lists of its own. Three lists, not `Readings`: of the arrays that the caller
+// filled a literal finds no ghost field, and of slices that are lent it does.
 pub fn plan_lists(
     r: Recording,
     segment: SegmentConfig,
@@ -28,8 +27,8 @@ pub fn plan_lists(
     requires { longest_listing ≤ length out.old }
     ensures size_value { result.size
         ≡ length (lines_of_plan r segment settings values.now flags.now levels.now) }
-    ensures refused_value { unwrap_or result.refused 0
-        ≡ refused_of_plan r segment settings values.now flags.now levels.now }
+    ensures refused_value { result.refused
+        ≡ refusal_said (refused_of_plan r segment settings values.now flags.now levels.now) }
     ensures out_after { out.new
         ≡ onto (lines_of_plan r segment settings values.now flags.now levels.now)
         out.old }

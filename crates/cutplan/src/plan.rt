@@ -1,10 +1,9 @@
 // From a job to its listing.
 ghost use Rattle.std.specs.Prelude.{◌≡◌, ◌≤◌, length};
-ghost use Rattle.std.specs.Option.{unwrap_or};
 ghost use Rattle.base_terms.specs.Lists.{onto};
 ghost use Rattle.io.specs.Counts.{IsPrefixLen};
 ghost use Rattle.job.specs.Job.{Within};
-ghost use Rattle.cutplan.specs.Lines.{longest_listing};
+ghost use Rattle.cutplan.specs.Lines.{longest_listing, refusal_said};
 ghost use Rattle.cutplan.specs.Cutplan.{cutplan_of, refused_in, printed, printed_into};
 ghost use Rattle.cutplan.specs.Head.{lines_of_head, refused_of_head};
 
@@ -22,7 +21,7 @@ fn plan_read(job: &[u8], head: Head, out: &mut [u8]) -> Answered
     requires within { Within job.now head }
     requires longest_listing_in_bounds { longest_listing ≤ length out.old }
     ensures size_value { result.size ≡ length (lines_of_head job.now head) }
-    ensures refused_value { unwrap_or result.refused 0 ≡ refused_of_head job.now head }
+    ensures refused_value { result.refused ≡ refusal_said (refused_of_head job.now head) }
     ensures out_after { out.new ≡ onto (lines_of_head job.now head) out.old }
 {
     let mut values = [0f32; read::MOST_FRAMES];
@@ -50,7 +49,7 @@ fn plan_read(job: &[u8], head: Head, out: &mut [u8]) -> Answered
 pub fn list_job(job: &[u8], out: &mut [u8]) -> Answered
     requires { longest_listing ≤ length out.old }
     ensures size_value { result.size ≡ length (cutplan_of job.now) }
-    ensures refused_value { unwrap_or result.refused 0 ≡ refused_in job.now }
+    ensures refused_value { result.refused ≡ refusal_said (refused_in job.now) }
     ensures out_after { out.new ≡ onto (cutplan_of job.now) out.old }
 {
     if job.len() == 0 {

@@ -1,5 +1,5 @@
 -- What is printed, by the way that the reading ended.
-use Rattle.std.specs.Prelude.{◌≡◌, List, ℕ, ◌≤◌, ◌<◌, ℤ, length, take, Result, Ok, Err}
+use Rattle.std.specs.Prelude.{◌≡◌, List, ℕ, ◌≤◌, ◌<◌, ℤ, length, take, Some, Result, Ok, Err}
 use Rattle.std.specs.declared.io.Error.{Error}
 use Rattle.std.proofs.Common.{sym, subst, arith, lt-ltb}
 use Rattle.std.proofs.Math.Seq.{take-length}
@@ -9,6 +9,8 @@ use Rattle.job.specs.declared.answer.Fault.TheVariants.{TooLong}
 use Rattle.job.specs.Fields.{refused}
 use Rattle.listing.specs.Text.{text_bytes}
 use Rattle.listing.specs.Listing.{refusal_line}
+use Rattle.cutplan.specs.Lines.{refusal_said}
+use Rattle.cutplan.specs.LinesLaws.{said_some}
 use Rattle.cutplan.specs.Cutplan.{cutplan_of, refused_in}
 use Rattle.cutplan.specs.CutplanLaws.{fault_printed, fault_refused}
 use Rattle.cutplan.specs.Theorems.{cutplan_empty}
@@ -28,6 +30,10 @@ module _ (got : Result ℕ Error) where
   -- and 19 where a read failed, be it the first
   pub after_failed : (error : Error) (buffer : List ℕ) → got ≡ Err error → (refusal_line 19 ≡ printed_after got buffer) × (19 ≡ refused_after got buffer)
   after_failed error buffer e = (rw e, rw e)
+
+-- which is said
+pub nineteen_said : Some 19 ≡ refusal_said 19
+nineteen_said = said_some 19 (λ none. omega (arith, none))
 
 -- input that ended before a byte was read is an empty recording
 pub after_nothing : (buffer : List ℕ) → (text_bytes "plan 0 0\n" ≡ printed_after (Ok 0) buffer) × (0 ≡ refused_after (Ok 0) buffer)

@@ -1,10 +1,9 @@
 // One job from standard input, its listing to standard output.
 ghost use Rattle.std.specs.Prelude.{◌≤◌, ◌<◌, ◌≡◌, length};
-ghost use Rattle.std.specs.Option.{unwrap_or};
 ghost use Rattle.base_terms.specs.Lists.{onto};
 ghost use Rattle.io.specs.Counts.{IsPrefixLen};
 ghost use Rattle.job.specs.Limits.{most_bytes};
-ghost use Rattle.cutplan.specs.Lines.{longest_listing};
+ghost use Rattle.cutplan.specs.Lines.{longest_listing, refusal_said};
 ghost use Rattle.input_reader.specs.Input.{FitsIn};
 ghost use Rattle.cutplan_program.specs.Program.{printed_after, refused_after, Ran};
 
@@ -26,7 +25,7 @@ fn list_input(got: Result<usize, Error>, job: &[u8], out: &mut [u8]) -> Answered
     requires fits_in { FitsIn got (length job.now) }
     requires most_bytes_in_bounds { most_bytes < length job.now }
     requires longest_listing_in_bounds { longest_listing ≤ length out.old }
-    ensures refused_value { unwrap_or result.refused 0 ≡ refused_after got job.now }
+    ensures refused_value { result.refused ≡ refusal_said (refused_after got job.now) }
     ensures size_value { result.size ≡ length (printed_after got job.now) }
     ensures out_after { out.new ≡ onto (printed_after got job.now) out.old }
     ensures prefix_len { IsPrefixLen result.size out.new }

@@ -1,5 +1,5 @@
 // What was measured of a recording's frames.
-ghost use Rattle.std.specs.Prelude.{ℕ, T, get_or};
+ghost use Rattle.std.specs.Prelude.{◌≡◌, ℕ, T, get_or};
 ghost use Rattle.std.specs.Float.{nan, binary32, binary64};
 ghost use Rattle.std.specs.Float.Ieee.{fits};
 
@@ -12,4 +12,19 @@ pub struct Readings<'a> {
     pub levels: &'a [f64],
     pub ghost values_fit: { (i : ℕ) → T (fits binary32 (get_or values.now i nan)) },
     pub ghost levels_fit: { (i : ℕ) → T (fits binary64 (get_or levels.now i nan)) },
+}
+
+impl<'a> Readings<'a> {
+    // For who holds arrays that a call filled: of these a literal finds no ghost field, of lent slices it does.
+    pub fn over(values: &'a [f32], flags: &'a [u8], levels: &'a [f64]) -> Readings<'a>
+        ensures values_are { result.values.now ≡ values.now }
+        ensures flags_are { result.flags.now ≡ flags.now }
+        ensures levels_are { result.levels.now ≡ levels.now }
+    {
+        Readings {
+            values,
+            flags,
+            levels,
+        }
+    }
 }

@@ -14,7 +14,7 @@ pub record HasRead {A : Type 0} (before : Fields) (part : Field A) (value : A) (
   pub part_is : part ≡ field value after.at
   pub same : SameJob before after
 
--- a part with a kind in it: its value was read, or it was refused
+-- a part with a kind in it: its value was read, or it was refused, with the same job and map and the fields at the place that the refusal names
 abbrev pub HasTried : {A : Type 0} → Fields → Result (Field A) Refusal → Result A Refusal → Fields → Type 0
 HasTried before part (Ok value) after = (part ≡ Ok (field value after.at)) × SameJob before after
-HasTried before part (Err refusal) after = part ≡ Err refusal
+HasTried before part (Err refusal) after = (part ≡ Err refusal) × SameJob before after × (after.at ≡ refusal.at)

@@ -17,7 +17,7 @@ pub struct Head {
 }
 
 // Why bytes are no job.
-#[derive(Clone, Copy)]
+#[derive(Clone, Copy, Debug, PartialEq, Eq)]
 pub enum Fault {
     TooLong,
     UnknownBit,
@@ -28,7 +28,7 @@ pub enum Fault {
 }
 
 // Why bytes are no job, and the place where that shows.
-#[derive(Clone, Copy)]
+#[derive(Clone, Copy, Debug, PartialEq, Eq)]
 pub struct Refusal {
     pub fault: Fault,
     pub at: usize,

@@ -1,7 +1,7 @@
 // One number at a place, the lowest byte first. Bytes beyond the end are not there and count as 0, so that reading asks
 // nothing of the place.
-ghost use Rattle.std.specs.Prelude.{◌≡◌, ℕ, List};
-ghost use Rattle.numbers_in.specs.Numbers.{number_of, number_at, byte_at, u16_at, u32_at, u64_at, f32_at, f64_at};
+ghost use Rattle.std.specs.Prelude.{◌≡◌, ℕ, List, drop};
+ghost use Rattle.numbers_in.specs.Numbers.{number_of, number_at, byte_at, u16_at, u32_at, u64_at, low, f32_at, f64_at};
 
 use std::num;
 
@@ -41,8 +41,12 @@ impl Number for u32 {
 
     ghost read = { u32_at };
 
+    // Where all four bytes are there, std reads them at once: that makes a list of floats fast to copy.
     fn at(s: &[u8], at: usize) -> u32 {
-        (number_at(s, at, 4) % 4_294_967_296) as u32
+        match ahead(s, at).first_chunk::<4>() {
+            Some(four) => u32::from_le_bytes(*four),
+            None => narrow(number_at(s, at, 4)),
+        }
     }
 }
 
@@ -53,14 +57,18 @@ impl Number for u64 {
 
     ghost read = { u64_at };
 
+    // Where all eight bytes are there, std reads them at once.
     fn at(s: &[u8], at: usize) -> u64 {
-        number_at(s, at, 8)
+        match ahead(s, at).first_chunk::<8>() {
+            Some(eight) => u64::from_le_bytes(*eight),
+            None => number_at(s, at, 8),
+        }
     }
 }
 
 // A NaN's pattern, whichever, is read as the NaN.
 impl Number for f32 {
-    const SIZE: usize = 4;
+    const SIZE: usize = u32::SIZE;
 
     ghost SIZE = { 4 };
 
@@ -73,7 +81,7 @@ impl Number for f32 {
 
 // A NaN's pattern, whichever, is read as the NaN.
 impl Number for f64 {
-    const SIZE: usize = 8;
+    const SIZE: usize = u64::SIZE;
 
     ghost SIZE = { 8 };
 
@@ -82,6 +90,13 @@ impl Number for f64 {
     fn at(s: &[u8], at: usize) -> f64 {
         num::f64_from_bits_with_nan(u64::at(s, at))
     }
+}
+
+// The bytes from a place on, if any are there.
+fn ahead(s: &[u8], at: usize) -> &[u8]
+    ensures { result.now ≡ drop at s.now }
+{
+    s.get(at..).unwrap_or(&[])
 }
 
 // The number of all bytes.
@@ -97,11 +112,18 @@ fn number_of(s: &[u8]) -> u64
 fn number_at(s: &[u8], at: usize, size: usize) -> u64
     ensures { result ≡ number_at s.now at size }
 {
-    let rest = s.get(at..).unwrap_or(&[]);
+    let rest = ahead(s, at);
     match rest.get(..size) {
         Some(part) => number_of(part),
         None => number_of(rest),
     }
+}
+
+// The low 32 bits.
+pub fn narrow(w: u64) -> u32
+    ensures { result ≡ low w }
+{
+    (w % 4_294_967_296) as u32
 }
 
 // The byte at a place.

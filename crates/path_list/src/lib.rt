@@ -3,5 +3,6 @@
 // path.
 #![tactic(auto)]
 
+pub mod copy;
 pub mod operation;
 pub mod search;

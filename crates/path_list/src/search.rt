@@ -9,6 +9,7 @@ ghost use Rattle.path_list.specs.Operation.{error_number, outcome_of, handed_by_
 ghost use Rattle.path_list.specs.Search.{Workable};
 ghost use Rattle.path_list.specs.declared.search.Error.TheVariants.{Refused};
 
+use crate::copy;
 use base_code::layout::{self, SearchLayout};
 use path_by_count::search::search_by_count;
 use path_by_length::backtrack;
@@ -120,7 +121,10 @@ pub fn search(
     let places = SearchLayout { candidates: n };
     match mode {
         Mode::ByLength => {
-            f64s[layout::behind_table(n)..places.end_by_length()].copy_from_slice(cost);
+            copy::copy_f64(
+                cost,
+                &mut f64s[layout::behind_table(n)..places.end_by_length()],
+            );
             by_length(ends, lengths, u32s, f64s, path)
         }
         Mode::ByCount(count) => {
@@ -129,7 +133,7 @@ pub fn search(
             if parent.len() < pieces * n {
                 return Err(Error::ShortParent);
             }
-            f64s[places.behind_tree()..places.end_by_count()].copy_from_slice(cost);
+            copy::copy_f64(cost, &mut f64s[places.behind_tree()..places.end_by_count()]);
             by_count(ends, lengths, count, u32s, f64s, parent, path)
         }
     }

@@ -1,14 +1,17 @@
--- The derived order of scores, and of candidates with their scores: `<` and `<=` test as the definitions do.
-use Rattle.std.specs.Prelude.{◌≡◌, ℕ, ltb, eqb, Option, Some}
-use Rattle.std.proofs.Common.{inl, inr}
+-- The derived order of scores, and of candidates with their scores: `<` and `<=` test as the definitions do, and so does `==` of scores.
+use Rattle.std.specs.Prelude.{◌≡◌, ltb, eqb, Option, Some}
+use Rattle.std.proofs.Common.{inl, inr, refl}
 use Rattle.std.specs.Float.Ieee.{lt, eq, le}
 use Rattle.std.specs.declared.cmp.Ordering.{Ordering}
 use Rattle.std.specs.Ordering.{nat_cmp, float_partial_cmp, partial_ordering_then, partial_lt, partial_le}
 use Rattle.base_laws.specs.Tests.{tested}
-use Rattle.path_pieces.specs.Pieces.{at_most, less_than}
+use Rattle.path_pieces.specs.Pieces.{at_most, less_than, equal_to}
 use Rattle.path_pieces.specs.Least.{ahead_of}
 use Rattle.path_pieces.specs.declared.score.Score.{Score}
 use Rattle.path_pieces.specs.declared.best.Best.{Best}
+use Rattle.path_pieces.specs.contracts.score.ScorePartialEq.TheImpl as equality
+use Rattle.path_pieces.specs.contracts.score.ScorePartialOrd.TheImpl as order
+use Rattle.path_pieces.specs.contracts.best.BestPartialOrd.TheImpl as best_order
 
 -- how two scores compare: by the pieces over the limit, then by the cost
 abbrev pub score_cmp : Score → Score → Option Ordering
@@ -50,6 +53,18 @@ score_at_most a b = elim (tested (ltb a.over b.over)) [
     ]
   ]
 ]
+
+-- `score_cmp` is what `Score` derives
+pub score_ordered : (a b : Score) → order.ghosts.partial_cmp a b ≡ score_cmp a b
+score_ordered a b = refl
+
+-- `best_cmp` is what `Best` derives
+pub best_ordered : (a b : Best) → best_order.ghosts.partial_cmp a b ≡ best_cmp a b
+best_ordered a b = refl
+
+-- `==`, which is derived, says which are equally good
+pub score_equal : (a b : Score) → equality.ghosts.eq a b ≡ equal_to a b
+score_equal a b = refl
 
 -- `<` says which candidate comes first
 pub best_ahead : (a b : Best) → partial_lt best_cmp a b ≡ ahead_of a b

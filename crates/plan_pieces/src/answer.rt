@@ -6,7 +6,7 @@ ghost use Rattle.plan_pieces.specs.declared.answer.Error.TheVariants.{Refused};
 use plan_tests::refusal::Refusal;
 
 // Why there is no plan.
-#[derive(Clone, Copy)]
+#[derive(Clone, Copy, Debug, PartialEq, Eq)]
 pub enum Error {
     Refused(Refusal),
     ShortParent,

@@ -71,7 +71,9 @@ pub fn write_cuts(ends: &Ends, entries: &[u32], path: &[u32], out: &mut [u64])
     let cuts = path.len().saturating_sub(2);
     for i in 0..cuts {
         let j = path[i + 1] as usize;
+        let end = ends.left[j];
+        let start = ends.right[j];
         let reason = u64::from(entries[3 * j + 2]);
-        put_three(3 * i, ends.left[j], ends.right[j], reason, out);
+        put_three(3 * i, end, start, reason, out);
     }
 }

@@ -1,4 +1,4 @@
--- The chain of the tests: its order, what has passed where no test fails, and which numbers its refusals have.
+-- The chain of the tests: which answer each end gives, what has passed where no test fails, and which numbers its refusals have.
 use Rattle.std.specs.Prelude.{◌≡◌, refl, Bool, true, false, List, ℕ, ◌+◌, ◌≤◌, Float, length, Result, Ok, Err}
 use Rattle.std.proofs.Common.{sym, ap, ◌∙◌, arith}
 use Rattle.base_terms.specs.Work.{work_ok}
@@ -27,14 +27,54 @@ valid_passed r values flags levels e = validity.passed r values flags levels (va
 pub valid_few : (r : Recording) (values : List Float) (flags : List ℕ) (levels : List Float) → is_valid (validity_of r values flags levels) ≡ true → length values ≤ max_frames
 valid_few r values flags levels e = (validity.passed_accepted r values flags levels (valid_passed r values flags levels e)).bounded.frames
 
--- ---- the order of the tests
+-- ---- the eight ends of the chain, each under what has passed before it
 
--- 9 comes before 10, 11 and 13: it is given where 1 to 8 pass and the ratio fails, whatever comes behind it
-pub fails_ratio : (r : Recording) (segment : SegmentConfig) (settings : PlanConfig) (values : List Float) (flags : List ℕ) (levels : List Float) (n32 n64 nf : ℕ)
-    → validity_of r values flags levels ≡ Ok tt → all_durations_ok segment settings ≡ true → count_ok settings.mode ≡ true → ratio_ok settings.placement ≡ false
-    → Err BadRatio ≡ first_refusal_of r segment settings values flags levels n32 n64 nf
-unfolding first_refusal_of
-fails_ratio r segment settings values flags levels n32 n64 nf a b c n = rw (a, b, c, n)
+module _ (r : Recording) (segment : SegmentConfig) (settings : PlanConfig) (values : List Float) (flags : List ℕ) (levels : List Float) (n32 n64 nf : ℕ) where
+  -- a recording's refusal comes first, with its own number
+  pub fails_recording : (x : recording_refusal.Refusal) → validity_of r values flags levels ≡ Err x → Err (BadRecording x) ≡ first_refusal_of r segment settings values flags levels n32 n64 nf
+  unfolding first_refusal_of
+  fails_recording x n = rw n
+
+  module _ (a : is_valid (validity_of r values flags levels) ≡ true) where
+    -- 7, where the recording is accepted
+    pub fails_durations : all_durations_ok segment settings ≡ false → Err BadDurations ≡ first_refusal_of r segment settings values flags levels n32 n64 nf
+    unfolding first_refusal_of
+    fails_durations n = rw (validity.valid_is (validity_of r values flags levels) a, n)
+
+    module _ (b : all_durations_ok segment settings ≡ true) where
+      -- 8, where 7 passed too
+      pub fails_count : count_ok settings.mode ≡ false → Err BadCount ≡ first_refusal_of r segment settings values flags levels n32 n64 nf
+      unfolding first_refusal_of
+      fails_count n = rw (validity.valid_is (validity_of r values flags levels) a, b, n)
+
+      module _ (c : count_ok settings.mode ≡ true) where
+        -- 9 comes before 10, 11 and 13: it is given where 1 to 8 pass and the ratio fails, whatever comes behind it
+        pub fails_ratio : ratio_ok settings.placement ≡ false → Err BadRatio ≡ first_refusal_of r segment settings values flags levels n32 n64 nf
+        unfolding first_refusal_of
+        fails_ratio n = rw (validity.valid_is (validity_of r values flags levels) a, b, c, n)
+
+        module _ (d : ratio_ok settings.placement ≡ true) where
+          -- 10, where 9 passed too
+          pub fails_weights : weights_ok settings.weights ≡ false → Err BadWeights ≡ first_refusal_of r segment settings values flags levels n32 n64 nf
+          unfolding first_refusal_of
+          fails_weights n = rw (validity.valid_is (validity_of r values flags levels) a, b, c, d, n)
+
+          module _ (e : weights_ok settings.weights ≡ true) where
+            -- 11, where 10 passed too
+            pub fails_threshold : threshold_ok segment.threshold ≡ false → Err BadThreshold ≡ first_refusal_of r segment settings values flags levels n32 n64 nf
+            unfolding first_refusal_of
+            fails_threshold n = rw (validity.valid_is (validity_of r values flags levels) a, b, c, d, e, n)
+
+            module _ (f : threshold_ok segment.threshold ≡ true) where
+              -- 13, where 11 passed too
+              pub fails_work : work_ok (length values + 1) n32 n64 nf ≡ false → Err ShortWork ≡ first_refusal_of r segment settings values flags levels n32 n64 nf
+              unfolding first_refusal_of
+              fails_work n = rw (validity.valid_is (validity_of r values flags levels) a, b, c, d, e, f, n)
+
+              -- no test fails, where 13 passes as well
+              pub passes : work_ok (length values + 1) n32 n64 nf ≡ true → Ok tt ≡ first_refusal_of r segment settings values flags levels n32 n64 nf
+              unfolding first_refusal_of
+              passes n = rw (validity.valid_is (validity_of r values flags levels) a, b, c, d, e, f, n)
 
 -- ---- no test fails
 

@@ -1,8 +1,8 @@
--- The chain of the tests: what is left of a recording and its settings where none fails, and that no refusal has the number 0.
-use Rattle.std.specs.Prelude.{◌≡◌, refl, Bool, true, false, ◌&&◌, List, ℕ, ◌+◌, ◌≤◌, Float, length, Result, Ok, Err}
+-- The chain of the tests: which answer each end gives, what is left of a recording and its settings where none fails, and that no refusal has the number 0.
+use Rattle.std.specs.Prelude.{◌≡◌, refl, true, false, ◌&&◌, List, ℕ, ◌+◌, ◌≤◌, Float, length, Result, Ok, Err}
 use Rattle.std.proofs.Math.Path.{ap}
-use Rattle.std.proofs.Common.{sym, ◌∙◌, arith, leb→le, eqb→eq}
-use Rattle.base_laws.specs.Tests.{holds, both, unmet}
+use Rattle.std.proofs.Common.{◌∙◌, arith, leb→le, eqb→eq}
+use Rattle.base_laws.specs.Tests.{holds, both}
 use Rattle.base_terms.specs.Lists.{all_of}
 use Rattle.base_terms.specs.Work.{work_ok}
 use Rattle.base_code.specs.WorkLaws.{WorkIn, work_parts}
@@ -10,12 +10,12 @@ use Rattle.grid.specs.Limits.{max_frame_rate, max_hop, max_frames, max_duration}
 use Rattle.grid.specs.Durations.{duration_ok, InFrames}
 use Rattle.grid.specs.Values.{is_finite}
 use Rattle.grid.specs.ValuesLaws.{values_finite}
-use Rattle.grid.specs.Validate.{validity_of}
-use Rattle.grid.specs.ValidateLaws.{passed, frames_parts, lists_parts, within_most, within_pos, number_some}
+use Rattle.grid.specs.Validate.{validity_of, is_valid}
+use Rattle.grid.specs.ValidateLaws.{passed, frames_parts, lists_parts, within_most, within_pos, valid_is, number_some}
 use Rattle.grid.specs.declared.validate.Recording.{Recording}
 use Rattle.grid.specs.declared.validate.Refusal as recording_refusal
 use Rattle.silence_levels.specs.Threshold.{threshold_ok}
-use Rattle.silence_list.specs.Refusal.{durations_ok, or_recording, or_else, first_refusal_of, number_of}
+use Rattle.silence_list.specs.Refusal.{durations_ok, or_recording, first_refusal_of, number_of}
 use Rattle.silence_list.specs.declared.config.SegmentConfig.{SegmentConfig}
 use Rattle.silence_list.specs.declared.refusal.Refusal.{Refusal}
 use Rattle.silence_list.specs.declared.refusal.Refusal.TheVariants.{BadRecording, LongDuration, BadThreshold, ShortWork}
@@ -65,44 +65,55 @@ recording_step : (v : Result Unit recording_refusal.Refusal) (rest : Result Unit
 recording_step (Ok u) rest e = (refl, e)
 recording_step (Err x) rest e = absurd (refused_accepted e)
 
--- and has passed its first test
-step : (b : Bool) (refusal : Refusal) (rest : Result Unit Refusal) → or_else b refusal rest ≡ Ok tt → (b ≡ true) × (rest ≡ Ok tt)
-step true refusal rest e = (refl, e)
-step false refusal rest e = absurd (refused_accepted e)
-
 -- no refusal of a recording has the number 0; where the rest of the chain gives none of that number, the chain doesn't
 other_recording : (v : Result Unit recording_refusal.Refusal) (rest : Result Unit Refusal) (x : Refusal) → (rest ≡ Err x → number_of x ≡ 0 → ⊥)
     → or_recording v rest ≡ Err x → number_of x ≡ 0 → ⊥
 other_recording (Ok u) rest x g e z = g e z
 other_recording (Err y) rest x g e z = let q : BadRecording y ≡ x = cc in number_some y (ap number_of q ∙ z)
 
--- what holds of a chain's first refusal, and of the refusals in its rest, holds of the one that is given
-other : (b : Bool) (refusal : Refusal) (rest : Result Unit Refusal) (x : Refusal) → (number_of refusal ≡ 0 → b ≡ true) → (rest ≡ Err x → number_of x ≡ 0 → ⊥)
-    → or_else b refusal rest ≡ Err x → number_of x ≡ 0 → ⊥
-other true refusal rest x f g e z = g e z
-other false refusal rest x f g e z = let q : refusal ≡ x = cc in unmet (f (ap number_of q ∙ z))
-
--- ---- a chain in which no test fails, and one that gives a refusal
+-- ---- the five ends of the chain, each under what has passed before it
 
 module _ (r : Recording) (c : SegmentConfig) (values : List Float) (flags : List ℕ) (levels : List Float) (n32 n64 nf : ℕ) where
-  -- without a refusal the recording is ready, and the work lists are long enough
+  -- a recording's refusal comes first, with its own number
+  pub fails_recording : (x : recording_refusal.Refusal) → validity_of r values flags levels ≡ Err x → Err (BadRecording x) ≡ first_refusal_of r c values flags levels n32 n64 nf
+  unfolding first_refusal_of
+  fails_recording x n = rw n
+
+  module _ (v : is_valid (validity_of r values flags levels) ≡ true) where
+    -- 7, where the recording is accepted
+    pub fails_duration : durations_ok c ≡ false → Err LongDuration ≡ first_refusal_of r c values flags levels n32 n64 nf
+    unfolding first_refusal_of
+    fails_duration n = rw (valid_is (validity_of r values flags levels) v, n)
+
+    module _ (d : durations_ok c ≡ true) where
+      -- 11, where 7 passed too
+      pub fails_threshold : threshold_ok c.threshold ≡ false → Err BadThreshold ≡ first_refusal_of r c values flags levels n32 n64 nf
+      unfolding first_refusal_of
+      fails_threshold n = rw (valid_is (validity_of r values flags levels) v, d, n)
+
+      module _ (t : threshold_ok c.threshold ≡ true) where
+        -- 13, where 11 passed too
+        pub fails_work : work_ok (length values + 1) n32 n64 nf ≡ false → Err ShortWork ≡ first_refusal_of r c values flags levels n32 n64 nf
+        unfolding first_refusal_of
+        fails_work n = rw (valid_is (validity_of r values flags levels) v, d, t, n)
+
+        -- no test fails, where 13 passes as well
+        pub passes : work_ok (length values + 1) n32 n64 nf ≡ true → Ok tt ≡ first_refusal_of r c values flags levels n32 n64 nf
+        unfolding first_refusal_of
+        passes n = rw (valid_is (validity_of r values flags levels) v, d, t, n)
+
+  -- ---- and back
+
+  -- without a refusal the recording is ready, and the work lists are long enough; in which order 7, 11 and 13 come does not matter
   pub fine_ready : first_refusal_of r c values flags levels n32 n64 nf ≡ Ok tt → SoundReady r c values flags × WorkIn (length values + 1) n32 n64 nf
   unfolding first_refusal_of
   fine_ready e =
-      let last = or_else (work_ok (length values + 1) n32 n64 nf) ShortWork (Ok tt) in
-      let third = or_else (threshold_ok c.threshold) BadThreshold last in
-      let second = or_else (durations_ok c) LongDuration third in
-      let a = recording_step (validity_of r values flags levels) second e in
-      let b = step (durations_ok c) LongDuration third a.1 in
-      let t = step (threshold_ok c.threshold) BadThreshold last b.1 in
-      let w = step (work_ok (length values + 1) n32 n64 nf) ShortWork (Ok tt) t.1 in
-      (sound_ready r c values flags levels a.0 b.0, work_parts (length values + 1) n32 n64 nf w.0)
+      let a = recording_step (validity_of r values flags levels) _ e in
+      let d : durations_ok c ≡ true = grind (arith, a.1) in
+      let w : work_ok (length values + 1) n32 n64 nf ≡ true = grind (arith, a.1) in
+      (sound_ready r c values flags levels a.0 d, work_parts (length values + 1) n32 n64 nf w)
 
-  -- no refusal that is given has the number 0
+  -- no refusal that is given has the number 0, whatever the order of 7, 11 and 13
   pub fails_some : (x : Refusal) → first_refusal_of r c values flags levels n32 n64 nf ≡ Err x → number_of x ≡ 0 → ⊥
   unfolding first_refusal_of
-  fails_some x =
-      other_recording (validity_of r values flags levels) _ x
-      (other (durations_ok c) LongDuration _ x (λ z. absurd (omega arith))
-      (other (threshold_ok c.threshold) BadThreshold _ x (λ z. absurd (omega arith))
-      (other (work_ok (length values + 1) n32 n64 nf) ShortWork (Ok tt) x (λ z. absurd (omega arith)) (λ e z. refused_accepted (sym e)))))
+  fails_some x = other_recording (validity_of r values flags levels) _ x (λ e z. grind (arith, e, z))

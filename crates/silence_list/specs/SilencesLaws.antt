@@ -14,7 +14,8 @@ use Rattle.silence_runs.specs.Silences.{silences_of}
 use Rattle.silence_list.specs.Refusal.{first_refusal_of}
 use Rattle.silence_list.specs.Silences.{sounds_in, silences_in, end_of, silences_handed_out, silence_list_of}
 use Rattle.silence_list.specs.declared.config.SegmentConfig.{SegmentConfig}
-use Rattle.silence_list.specs.declared.list.Error.TheVariants.{ShortOutput}
+use Rattle.silence_list.specs.declared.refusal.Refusal.{Refusal}
+use Rattle.silence_list.specs.declared.list.Error.TheVariants.{Refused, ShortOutput}
 
 -- ---- handed out
 
@@ -54,7 +55,13 @@ front_fits n list silences l e = omega (arith, length-take n list, ap length e)
 -- ---- the operation
 
 module _ (r : Recording) (c : SegmentConfig) (values : List Float) (flags : List ℕ) (levels : List Float) (out : List ℕ) (work : Work) where
-  -- where no test before 12 fails, the silences are handed out
+  -- where a test before 12 fails, every list is as it was
+  pub list_refused : (x : Refusal) → Err x ≡ first_refusal_of r c values flags levels (length work.u32s) (length work.u64s) (length work.f64s)
+      → end_of (Err (Refused x)) out work ≡ silence_list_of r c values flags levels out work
+  unfolding silence_list_of
+  list_refused x e = rw (← e)
+
+  -- where none fails, the silences are handed out
   pub list_handed : Ok tt ≡ first_refusal_of r c values flags levels (length work.u32s) (length work.u64s) (length work.f64s)
       → silences_handed_out (silences_in r c values flags) out work ≡ silence_list_of r c values flags levels out work
   unfolding silence_list_of

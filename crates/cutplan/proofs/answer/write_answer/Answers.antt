@@ -1,8 +1,9 @@
 -- A plan lies in its lists and has a listing of its own, every other answer the line of its number.
+use Rattle.std.specs.Prelude.{Some}
 use Rattle.std.proofs.Common.{arith, ◌∙◌}
-use mathlib.Core.Path.{sym, ap}
-use Rattle.plan_pieces.specs.Answer.{number_of}
+use mathlib.Core.Path.{ap}
 use Rattle.plan_pieces.specs.Output.{output_of}
+use Rattle.cutplan.specs.LinesLaws.{planned_said, error_said}
 use Rattle.cutplan.specs.RoomyLaws.{planned_roomy, planned_lines, error_lines}
 use Rattle.cutplan.proofs.answer.write_answer.Goals as goal
 
@@ -12,10 +13,11 @@ write_plan-size-requires c = let h = planned_roomy c.args.answer c.in-Ok.n _ _ c
 
 pub returns-in-Ok : goal.returns-in-Ok
 returns-in-Ok c = let e = planned_lines c.args.answer _ (output_of c.args.pieces.now c.args.cuts.now) c.in-Ok.is in
-    let number = sym (ap number_of c.in-Ok.is) in
-    rw (← e) (record { size_value = c.write_plan-size.ensures.value; refused_value = number; out_after = c.write_plan-size.ensures.out_after })
+    let said = planned_said c.args.answer _ c.in-Ok.is in
+    rw (← e) (record { size_value = c.write_plan-size.ensures.value; refused_value = said; out_after = c.write_plan-size.ensures.out_after })
 
 pub returns-in-Err : goal.returns-in-Err
 returns-in-Err c = let e = error_lines c.args.answer c.in-Err.error (output_of c.args.pieces.now c.args.cuts.now) c.in-Err.is in
     let written = c.write_number.ensures in
-    rw (← e.0, ← c.from.ensures) (record { size_value = written.size_value; refused_value = rw written.refused_value (c.from.ensures ∙ e.1); out_after = written.out_after })
+    let said = error_said c.args.answer c.in-Err.error c.in-Err.is in
+    rw (← e.0, ← c.from.ensures) (record { size_value = written.size_value; refused_value = written.refused_value ∙ ap Some c.from.ensures ∙ said; out_after = written.out_after })

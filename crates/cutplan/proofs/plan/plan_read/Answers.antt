@@ -1,8 +1,8 @@
 -- Each list that is lent has a place for each frame, and what was read into it stands there.
 use Rattle.std.proofs.Common.{arith}
-use mathlib.Core.Path.{sym, ◌∙◌}
+use mathlib.Core.Path.{sym, ap, ◌∙◌}
 use lib.Seq.{length-take-le}
-use Rattle.cutplan.specs.Lines.{lines_of_plan, refused_of_plan}
+use Rattle.cutplan.specs.Lines.{lines_of_plan, refused_of_plan, refusal_said}
 use Rattle.cutplan.specs.HeadLaws.{levels_few, head_lists}
 use Rattle.cutplan.proofs.plan.plan_read.Goals as goal
 
@@ -29,4 +29,4 @@ returns c = let values = c.put_values.ensures in
     let count = c.level_count-levelled.ensures in
     let lines = head_lists (lines_of_plan c.args.head.recording c.args.head.segment c.args.head.settings) c.args.job.now c.args.head _ _ _ _ _ _ _ values flags levels count in
     let number = head_lists (refused_of_plan c.args.head.recording c.args.head.segment c.args.head.settings) c.args.job.now c.args.head _ _ _ _ _ _ _ values flags levels count in
-    rw (← lines) (record { size_value = c.plan_lists.ensures.size_value; refused_value = c.plan_lists.ensures.refused_value ∙ number; out_after = c.plan_lists.ensures.out_after })
+    rw (← lines) (record { size_value = c.plan_lists.ensures.size_value; refused_value = c.plan_lists.ensures.refused_value ∙ ap refusal_said number; out_after = c.plan_lists.ensures.out_after })

@@ -11,7 +11,8 @@ returns-in_err-kind-clause-read c =
     let domain : c.args.fields.now.at + 22 ≡ c.next-5.new.self.at = omega arith in
     let same = same_then c.next.ensures.same (same_then c.next-2.ensures.same (same_then c.next-3.ensures.same (same_then c.next-4.ensures.same c.next-5.ensures.same))) in
     let p = err_from_is_err_and c.from_residual.result c.from_residual.ensures.1 in
-    rw (p.1, p.2) (rw (domain, ← same.same_bytes, c.in_err-kind.ensures.read))
+    let kind = c.in_err-kind.ensures.read in
+    rw (p.1, p.2) (rw (domain, ← same.same_bytes, kind.0), same_then same kind.1, kind.2)
 
 pub returns-clause-read : goal.returns-clause-read
 unfolding recorded_at

@@ -8,7 +8,8 @@ pub returns-in_err-threshold_at-clause-read : goal.returns-in_err-threshold_at-c
 unfolding segment_at
 returns-in_err-threshold_at-clause-read c =
     let p = err_from_is_err_and c.from_residual.result c.from_residual.ensures.1 in
-    rw (p.1, p.2) (rw (c.in_err-threshold_at.ensures.read))
+    let threshold = c.in_err-threshold_at.ensures.read in
+    rw (p.1, p.2) (rw threshold.0, threshold.1, threshold.2)
 
 pub returns-clause-read : goal.returns-clause-read
 unfolding segment_at

@@ -8,7 +8,8 @@ pub returns-in_err-kind-clause-read : goal.returns-in_err-kind-clause-read
 unfolding placement_at
 returns-in_err-kind-clause-read c =
     let p = err_from_is_err_and c.from_residual.result c.from_residual.ensures.1 in
-    rw (p.1, p.2) (rw (← c.has-present.ensures, c.in_err-kind.ensures.read))
+    let kind = c.in_err-kind.ensures.read in
+    rw (p.1, p.2) (rw (← c.has-present.ensures, kind.0), kind.1, kind.2)
 
 pub returns-clause-read : goal.returns-clause-read
 unfolding placement_at

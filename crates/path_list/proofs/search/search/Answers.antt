@@ -8,7 +8,7 @@ use lib.ListN.{length}
 use Rattle.path_list.proofs.search.search.Goals as goal
 
 pub by_length-requires : goal.by_length-requires
-by_length-requires c = rw c.copy_from_slice.ensures.after (length-room c.requires c.behind_table.ensures c.end_by_length.ensures)
+by_length-requires c = rw c.copy_f64.ensures (length-room c.requires c.behind_table.ensures c.end_by_length.ensures)
 
 pub overflow_mul-pieces : goal.overflow_mul-pieces
 overflow_mul-pieces c = omega (arith, size_fits c.requires c.min-pieces.result (omega (arith, c.min-pieces.ensures)))
@@ -20,17 +20,17 @@ returns-then-parent-pieces c =
     (rw c.min-pieces.ensures at c.if-parent-pieces.true))
 
 pub by_count-requires : goal.by_count-requires
-by_count-requires c = record { tree_room = rw c.copy_from_slice-in-ByCount.ensures.after (count_room c.requires c.behind_tree.ensures c.end_by_count.ensures); count_nonzero = c.requires.counted c.in-ByCount.count c.in-ByCount.is; left_in_bounds = rw c.min-pieces.ensures at c.if-parent-pieces.false }
+by_count-requires c = record { tree_room = rw c.copy_f64-in-ByCount.ensures (count_room c.requires c.behind_tree.ensures c.end_by_count.ensures); count_nonzero = c.requires.counted c.in-ByCount.count c.in-ByCount.is; left_in_bounds = rw c.min-pieces.ensures at c.if-parent-pieces.false }
 
 pub returns-in-ByLength : goal.returns-in-ByLength
 returns-in-ByLength c =
     let e : ◌≡◌ {A = Mode} c.args.mode ByLength = c.in-ByLength.is in
-    rw e ((rw (c.copy_from_slice.ensures.after, length-cuts c.requires c.behind_table.ensures c.end_by_length.ensures) at c.by_length.ensures)
+    rw e ((rw (c.copy_f64.ensures, length-cuts c.requires c.behind_table.ensures c.end_by_length.ensures) at c.by_length.ensures)
     ∙ sought-length c.args.lengths c.args.ends.now.left.now c.args.ends.now.right.now c.args.cost.now (length c.args.parent.now) c.args.path.now)
 
 pub returns-else-parent-pieces : goal.returns-else-parent-pieces
 returns-else-parent-pieces c =
     let e = c.in-ByCount.is in
-    rw e ((rw (c.copy_from_slice-in-ByCount.ensures.after, count_cuts c.requires c.behind_tree.ensures c.end_by_count.ensures) at c.by_count.ensures)
+    rw e ((rw (c.copy_f64-in-ByCount.ensures, count_cuts c.requires c.behind_tree.ensures c.end_by_count.ensures) at c.by_count.ensures)
     ∙ sought_count c.args.lengths c.args.ends.now.left.now c.args.ends.now.right.now c.args.cost.now c.in-ByCount.count (length c.args.parent.now) c.args.path.now
     (rw c.min-pieces.ensures at c.if-parent-pieces.false))

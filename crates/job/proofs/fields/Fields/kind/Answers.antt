@@ -11,8 +11,11 @@ returns-then-not-present-clause-read c = (rw (c.if-not-present.true, le-leb 0 c.
 
 pub returns-then-most-number-clause-read : goal.returns-then-most-number-clause-read
 unfolding kind_field
-returns-then-most-number-clause-read c =
-    rw (c.if-not-present.false, ← c.byte_at-number.ensures, lt-leb c.byte_at-number.result c.args.most c.if-most-number.true)
+returns-then-most-number-clause-read c = (
+  rw (c.if-not-present.false, ← c.byte_at-number.ensures, lt-leb c.byte_at-number.result c.args.most c.if-most-number.true),
+  record { same_bytes = refl; same_map = refl },
+  refl,
+)
 
 pub returns-clause-read : goal.returns-clause-read
 unfolding kind_field
