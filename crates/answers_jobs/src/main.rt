@@ -29,14 +29,22 @@ fn replay_all(s: &[u8]) -> Tally
     tally
 }
 
-// Reads the sample, and prints one line. The number of records is part of it, so that a sample that was not read is no
-// success; what came before a read that failed is replayed. The status is 0, also where the line can't be written.
+// The number of records is part of the line, so that a sample that was not read is no success. Each part is written by
+// itself, and where one can't be written the next is tried.
+fn print(rt: &impl Print, tally: Tally) {
+    let _ = rt.print("jobs: ");
+    let _ = rt.print(tally.records);
+    let _ = rt.print(" stored answers, the first ");
+    let _ = rt.print(tally.agreeing);
+    let _ = rt.print(" agree, ");
+    let _ = rt.print(tally.differences);
+    let _ = rt.print(" differ\n");
+}
+
+// Reads the sample, and prints one line. What came before a read that failed is replayed. The status is 0, also where the
+// line can't be written.
 fn main(rt: HostRuntime) {
     let mut buf = [0u8; report::MOST + 1];
     let n = io::read_full(0, &mut buf);
-    let tally = replay_all(&buf[..n]);
-    let _ = println!(rt;
-        "jobs: {} stored answers, the first {} agree, {} differ",
-        tally.records, tally.agreeing, tally.differences
-    );
+    print(&rt, replay_all(&buf[..n]));
 }

@@ -5,6 +5,7 @@
 ghost use Rattle.std.specs.Prelude.{◌<◌};
 
 use capi::{convert, recording};
+use std::fmt::Display;
 
 const SAMPLE_RATE: u32 = 1_000;
 
@@ -16,6 +17,11 @@ const FRAMES: usize = 7;
 
 const LEN: u64 = 700;
 
+// A part of a line, written by itself. Where it can't be written the next is tried.
+fn say(rt: &impl Print, part: impl Display + Drop) {
+    let _ = rt.print(part);
+}
+
 // The sample at which a frame begins, and the one before it ends.
 fn boundary(k: usize) -> u64 {
     convert::buchawzer_boundary(SAMPLE_RATE, FRAME_RATE, HOP, LEN, FRAMES, k)
@@ -25,9 +31,13 @@ fn boundary(k: usize) -> u64 {
 fn show_frame(rt: &impl Print, k: usize)
     requires { k < 7 }
 {
-    let start = boundary(k);
-    let end = boundary(k + 1);
-    let _ = println!(rt; "frame {k}: samples {start} up to {end}");
+    say(rt, "frame ");
+    say(rt, k);
+    say(rt, ": samples ");
+    say(rt, boundary(k));
+    say(rt, " up to ");
+    say(rt, boundary(k + 1));
+    say(rt, "\n");
 }
 
 // Whether the seven frames cover a recording of this length.
@@ -46,28 +56,38 @@ fn show_length(rt: &impl Print, len: u64) {
         &flags,
         &levels,
     );
+    say(rt, "length ");
+    say(rt, len);
     if refusal == 0 {
-        let _ = println!(rt; "length {len}: accepted");
+        say(rt, ": accepted\n");
     } else {
-        let _ = println!(rt; "length {len}: refused {refusal}");
+        say(rt, ": refused ");
+        say(rt, refusal);
+        say(rt, "\n");
     }
 }
 
 // A duration in samples and in frames, by each way of rounding.
 fn show_duration(rt: &impl Print, millis: u32) {
     let nanos = u64::from(millis) * 1_000_000;
-    let samples = convert::buchawzer_samples_floor(SAMPLE_RATE, nanos);
-    let half_up = convert::buchawzer_frames_in(FRAME_RATE, HOP, nanos);
-    let up = convert::buchawzer_frames_ceil(FRAME_RATE, HOP, nanos);
-    let down = convert::buchawzer_frames_floor(FRAME_RATE, HOP, nanos);
-    let _ = println!(rt;
-        "{millis} ms: {samples} samples; frames half up {half_up}, up {up}, down {down}"
-    );
+    say(rt, millis);
+    say(rt, " ms: ");
+    say(rt, convert::buchawzer_samples_floor(SAMPLE_RATE, nanos));
+    say(rt, " samples; frames half up ");
+    say(rt, convert::buchawzer_frames_in(FRAME_RATE, HOP, nanos));
+    say(rt, ", up ");
+    say(rt, convert::buchawzer_frames_ceil(FRAME_RATE, HOP, nanos));
+    say(rt, ", down ");
+    say(rt, convert::buchawzer_frames_floor(FRAME_RATE, HOP, nanos));
+    say(rt, "\n");
 }
 
-// All of it, a line for each. Where one can't be written the next is tried, and the status is 0.
+// All of it, a line for each.
 fn main(rt: HostRuntime) {
-    let _ = println!(rt; "recording R: 1000 Hz, frame rate 10, hop 1, length 700, seven scores");
+    say(
+        &rt,
+        "recording R: 1000 Hz, frame rate 10, hop 1, length 700, seven scores\n",
+    );
     for k in 0..FRAMES {
         show_frame(&rt, k);
     }
